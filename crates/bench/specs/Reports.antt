@@ -15,15 +15,15 @@ use Rattle.bench.specs.declared.counts.Counts.{Counts}
 use Rattle.bench.specs.declared.report.Fault.{Fault}
 use Rattle.bench.specs.declared.report.Report.{Report}
 use Rattle.bench.specs.declared.report.Report.TheVariants as report
-use Rattle.bench.specs.Items.{is_of_kind}
+use Rattle.bench.specs.Items.{is_item_of_kind}
 
 -- the counts are those of the file's top
 pub record AreCounts (file : File) (c : Counts) : Type 0 where
-  pub messages : c.messages ≡ count_by (is_of_kind kind.Message) file.items.items
-  pub enums : c.enums ≡ count_by (is_of_kind kind.Enum) file.items.items
-  pub services : c.services ≡ count_by (is_of_kind kind.Service) file.items.items
-  pub imports : c.imports ≡ count_by (is_of_kind kind.Import) file.items.items
-  pub options : c.options ≡ count_by (is_of_kind kind.Option) file.items.items
+  pub messages : c.messages ≡ count_by (is_item_of_kind kind.Message) file.items.items
+  pub enums : c.enums ≡ count_by (is_item_of_kind kind.Enum) file.items.items
+  pub services : c.services ≡ count_by (is_item_of_kind kind.Service) file.items.items
+  pub imports : c.imports ≡ count_by (is_item_of_kind kind.Import) file.items.items
+  pub options : c.options ≡ count_by (is_item_of_kind kind.Option) file.items.items
 
 -- the bytes are the text of a file with these counts
 pub record HasCounts (bytes : List ℕ) (c : Counts) : Type 0 where
@@ -33,7 +33,7 @@ pub record HasCounts (bytes : List ℕ) (c : Counts) : Type 0 where
   pub counts : AreCounts file c
 
 -- what is said is a fault of the text, or want of memory
-pub record IsTextFault (bytes : List ℕ) (said : Fault) : Type 0 where
+pub record SaysTextFault (bytes : List ℕ) (said : Fault) : Type 0 where
   pub fault : TextFault
   pub is : IsLexError bytes fault
   pub number : said.number ≡ text_number fault
@@ -41,7 +41,7 @@ pub record IsTextFault (bytes : List ℕ) (said : Fault) : Type 0 where
   pub offset : said.offset ≡ text_offset fault
 
 -- what is said is a fault of the grammar, or want of memory
-pub record IsGrammarFault (bytes : List ℕ) (said : Fault) : Type 0 where
+pub record SaysGrammarFault (bytes : List ℕ) (said : Fault) : Type 0 where
   pub tokens : List Token
   pub are : AreTokens bytes tokens
   pub fault : ParseFault
@@ -53,5 +53,5 @@ pub record IsGrammarFault (bytes : List ℕ) (said : Fault) : Type 0 where
 -- what is said of a file is true
 abbrev pub IsReport : List ℕ → Report → Type 0
 IsReport bytes (report.Counts counts) = HasCounts bytes counts
-IsReport bytes (report.Fault fault) = IsTextFault bytes fault ⊎ IsGrammarFault bytes fault
+IsReport bytes (report.Fault fault) = SaysTextFault bytes fault ⊎ SaysGrammarFault bytes fault
 IsReport bytes report.NoText = (text_limit < length bytes) ⊎ (IsUtf8 bytes → ⊥)

@@ -2,7 +2,7 @@
 
 ghost use Rattle.std.specs.Prelude.{◌≡◌, Bool, count_by};
 ghost use Rattle.bench.specs.declared.kind.Kind.{Kind};
-ghost use Rattle.bench.specs.Items.{is_of_kind};
+ghost use Rattle.bench.specs.Items.{is_item_of_kind};
 ghost use Rattle.bench.specs.Reports.{AreCounts};
 
 use crate::kind::Kind;
@@ -27,7 +27,7 @@ trait HasKind {
 }
 
 impl HasKind for Item {
-    ghost is_of = { is_of_kind };
+    ghost is_of = { is_item_of_kind };
 
     fn is_of(&self, kind: Kind) -> bool {
         match kind {

@@ -45,7 +45,7 @@ fn main(rt: HostRuntime) -> io::Result<()> {
     open(&rt, &[ORDER, MONEY])
 }
 
-fn given(alloc: Global, files: &[(&str, &str)]) -> io::Result<Given> {
+fn given_files(alloc: Global, files: &[(&str, &str)]) -> io::Result<Given> {
     let mut list = Vec::new(alloc);
     for (path, text) in files {
         list.push((path.to_string(alloc)?, text.as_bytes().to_vec(alloc)?))?;
@@ -56,7 +56,7 @@ fn given(alloc: Global, files: &[(&str, &str)]) -> io::Result<Given> {
 // Opens files and works with them, or prints their fault. This function alone owns the workspace,
 // and ends it by `release`; all others borrow it.
 fn open<R: Print + AllocGlobal>(rt: &R, files: &[(&str, &str)]) -> io::Result<()> {
-    match Workspace::open(rt.alloc(), given(rt.alloc(), files)?) {
+    match Workspace::open(rt.alloc(), given_files(rt.alloc(), files)?) {
         Ok(mut workspace) => {
             let worked = work(rt, &mut workspace);
             workspace.release();
@@ -73,7 +73,7 @@ fn print_fault<R: Print + AllocGlobal>(
 ) -> io::Result<()> {
     match fault {
         OpenFault::Schema(fault) => {
-            let place = place_of_fault(&given(rt.alloc(), files)?, fault);
+            let place = place_of_fault(&given_files(rt.alloc(), files)?, fault);
             print_text(rt, schema_line(rt.alloc(), fault, place))
         }
         OpenFault::NoMemory => rt.println("no memory"),

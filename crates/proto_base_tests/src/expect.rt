@@ -9,12 +9,12 @@ pub(crate) fn expect(rt: &impl Abort, is_row: bool, row: &str) {
 }
 
 /// A copy of the text.
-pub(crate) fn owned<R: AllocGlobal + Abort>(rt: &R, text: &str) -> String {
+pub(crate) fn owned_text<R: AllocGlobal + Abort>(rt: &R, text: &str) -> String {
     String::from_str(rt.alloc(), text).expect(rt, "memory")
 }
 
 /// One piece so many times, and behind it another so many times.
-pub(crate) fn repeated<R: AllocGlobal + Abort>(
+pub(crate) fn repeated_text<R: AllocGlobal + Abort>(
     rt: &R,
     first: &str,
     count: usize,

@@ -1,6 +1,6 @@
 //! Tests of the files of a workspace, through public calls alone.
 
-use crate::expect::{expect, owned, repeated};
+use crate::expect::{expect, owned_text, repeated_text};
 use proto_faults::{FaultKind, SchemaFault};
 use proto_files::{
     Files, Paths, Words, all_paths, are_read, fault_at_token, file_named, is_workspace_path,
@@ -11,10 +11,10 @@ use std::process::Abort;
 
 #[test]
 fn longest_path(rt: HostRuntime) {
-    let longest = repeated(&rt, "a", 249, ".proto", 1);
+    let longest = repeated_text(&rt, "a", 249, ".proto", 1);
     let is_path = longest.len() == 255 && is_workspace_path(longest.as_str());
     expect(&rt, is_path, "255 bytes");
-    let longer = repeated(&rt, "a", 249, ".protoa.proto", 1);
+    let longer = repeated_text(&rt, "a", 249, ".protoa.proto", 1);
     expect(&rt, !is_workspace_path(longer.as_str()), "more bytes");
 }
 
@@ -46,11 +46,13 @@ pub(crate) fn put_file<R: AllocGlobal + Abort>(
     count: usize,
 ) {
     let text = text.repeat(rt.alloc(), count).expect(rt, "memory");
-    files.push((owned(rt, path), text)).expect(rt, "memory");
+    files
+        .push((owned_text(rt, path), text))
+        .expect(rt, "memory");
 }
 
 // Files from one text: the path of each, a `:` and its text, with `|` between them.
-pub(crate) fn given<R: AllocGlobal + Abort>(rt: &R, texts: &str) -> Given {
+pub(crate) fn given_files<R: AllocGlobal + Abort>(rt: &R, texts: &str) -> Given {
     let mut files = Vec::new(rt.alloc());
     for file in texts.split('|') {
         if let Some((path, text)) = file.split_once(':') {
@@ -233,7 +235,7 @@ fn is_answered<R: AllocGlobal + Abort>(
 // Ends the test with the first row of this table that is not so.
 fn expect_answers<R: AllocGlobal + Abort>(rt: &R, table: &str, rows: &[Row]) {
     for (place, (limit, texts, answer)) in rows.iter().enumerate() {
-        let is_row = is_answered(rt, *limit, given(rt, texts), answer);
+        let is_row = is_answered(rt, *limit, given_files(rt, texts), answer);
         assert!(rt; is_row, "{table}, row {place} from 0");
     }
 }
@@ -355,7 +357,7 @@ fn faults_of_files(rt: HostRuntime) {
     expect_answers(&rt, "PATH_FAULTS", PATH_FAULTS);
     expect_answers(&rt, "TEXT_FAULTS", TEXT_FAULTS);
     for (place, (texts, path, text, count, answer)) in LONG.iter().enumerate() {
-        let mut files = given(&rt, texts);
+        let mut files = given_files(&rt, texts);
         put_file(&rt, &mut files, path, text, *count);
         assert!(rt;
             is_answered(&rt, None, files, answer),

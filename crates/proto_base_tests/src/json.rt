@@ -1,6 +1,6 @@
 //! Descriptors, each with its JSON text, and the names that stand in these.
 
-use crate::expect::{expect, owned};
+use crate::expect::{expect, owned_text};
 use proto_descriptors::{
     Descriptors, EnumDescriptor, EnumOptions, EnumReservedRange, EnumValueDescriptor,
     EnumValueOptions, FieldDescriptor, FieldOptions, FieldRole, FieldType, FileDescriptor,
@@ -94,12 +94,12 @@ fn push<T, R: Abort>(rt: &R, list: &mut Vec<T>, one: T) {
 }
 
 fn set<R: AllocGlobal + Abort>(rt: &R, place: &mut Option<String>, text: &str) {
-    *place = Some(owned(rt, text));
+    *place = Some(owned_text(rt, text));
 }
 
 fn file_of<R: AllocGlobal + Abort>(rt: &R, name: &str, syntax: Syntax) -> FileDescriptor {
     FileDescriptor {
-        name: owned(rt, name),
+        name: owned_text(rt, name),
         package: None,
         dependency: Vec::new(rt.alloc()),
         public_dependency: Vec::new(rt.alloc()),
@@ -125,7 +125,7 @@ fn file_of<R: AllocGlobal + Abort>(rt: &R, name: &str, syntax: Syntax) -> FileDe
 
 fn message_of<R: AllocGlobal + Abort>(rt: &R, name: &str, map_entry: bool) -> MessageDescriptor {
     MessageDescriptor {
-        name: owned(rt, name),
+        name: owned_text(rt, name),
         field: Vec::new(rt.alloc()),
         extension: Vec::new(rt.alloc()),
         nested_type: Vec::new(rt.alloc()),
@@ -149,7 +149,7 @@ fn field_of<R: AllocGlobal + Abort>(
     field_type: FieldType,
 ) -> FieldDescriptor {
     FieldDescriptor {
-        name: owned(rt, name),
+        name: owned_text(rt, name),
         number,
         label: Label::Optional,
         field_type,
@@ -157,7 +157,7 @@ fn field_of<R: AllocGlobal + Abort>(
         default_value: None,
         oneof_index: None,
         role: FieldRole::Regular {
-            json_name: owned(rt, json_name),
+            json_name: owned_text(rt, json_name),
         },
         proto3_optional: false,
         options: FieldOptions {
@@ -176,7 +176,7 @@ fn extension_of<R: AllocGlobal + Abort>(
 ) -> FieldDescriptor {
     let mut extension = field_of(rt, name, name, number, field_type);
     extension.role = FieldRole::Extension {
-        extendee: owned(rt, extendee),
+        extendee: owned_text(rt, extendee),
     };
     extension
 }
@@ -248,7 +248,7 @@ fn with_default<R: AllocGlobal + Abort>(rt: &R) -> MessageDescriptor {
 
 fn enum_of<R: AllocGlobal + Abort>(rt: &R) -> EnumDescriptor {
     let mut declared = EnumDescriptor {
-        name: owned(rt, "E"),
+        name: owned_text(rt, "E"),
         value: Vec::new(rt.alloc()),
         reserved_range: Vec::new(rt.alloc()),
         reserved_name: Vec::new(rt.alloc()),
@@ -258,7 +258,7 @@ fn enum_of<R: AllocGlobal + Abort>(rt: &R) -> EnumDescriptor {
         },
     };
     let value = EnumValueDescriptor {
-        name: owned(rt, "V"),
+        name: owned_text(rt, "V"),
         number: 0,
         options: EnumValueOptions { deprecated: None },
     };
@@ -275,14 +275,14 @@ fn enum_of<R: AllocGlobal + Abort>(rt: &R) -> EnumDescriptor {
 
 fn service_of<R: AllocGlobal + Abort>(rt: &R) -> ServiceDescriptor {
     let mut service = ServiceDescriptor {
-        name: owned(rt, "S"),
+        name: owned_text(rt, "S"),
         method: Vec::new(rt.alloc()),
         options: ServiceOptions { deprecated: None },
     };
     let method = MethodDescriptor {
-        name: owned(rt, "R"),
-        input_type: owned(rt, ".p.M"),
-        output_type: owned(rt, ".p.N"),
+        name: owned_text(rt, "R"),
+        input_type: owned_text(rt, ".p.M"),
+        output_type: owned_text(rt, ".p.N"),
         options: MethodOptions {
             deprecated: Some(false),
             idempotency_level: Some(IdempotencyLevel::NoSideEffects),
@@ -327,7 +327,7 @@ fn with_enum<R: AllocGlobal + Abort>(rt: &R) -> FileDescriptor {
 
 fn with_import<R: AllocGlobal + Abort>(rt: &R) -> FileDescriptor {
     let mut file = file_of(rt, "b.proto", Syntax::Proto3);
-    push(rt, &mut file.dependency, owned(rt, "c.proto"));
+    push(rt, &mut file.dependency, owned_text(rt, "c.proto"));
     push(rt, &mut file.public_dependency, 0);
     file
 }

@@ -169,7 +169,11 @@ const CAMELS: &[(&str, &str, &str)] = &[
     ("a_b_c", "aBC", "ABC"),
     ("\u{e4}b_c", "\u{e4}bC", "\u{e4}bC"),
     ("a_\u{e4}b", "a\u{e4}b", "A\u{e4}b"),
-    ("a_\u{20ac}_\u{1f600}b", "a\u{20ac}\u{1f600}b", "A\u{20ac}\u{1f600}b"),
+    (
+        "a_\u{20ac}_\u{1f600}b",
+        "a\u{20ac}\u{1f600}b",
+        "A\u{20ac}\u{1f600}b",
+    ),
 ];
 
 #[test]

@@ -141,8 +141,8 @@ fn is_so(rt: &HostRuntime, root: &str, path: &str, holds: Holds) -> bool {
     match holds {
         Holds::Made(made) => make(rt, root, path, made).is_ok(),
         Holds::Seen(seen) => is_seen(rt, path, seen),
-        Holds::Changed(change) => changed(rt, path, change).is_ok(),
-        Holds::Failed(change) => changed(rt, path, change).is_err(),
+        Holds::Changed(change) => make_change(rt, path, change).is_ok(),
+        Holds::Failed(change) => make_change(rt, path, change).is_err(),
         Holds::Asked(ask) => is_answered(rt, path, ask),
         Holds::AskedNowhere(ask) => is_answered(rt, "", ask),
     }
@@ -180,7 +180,7 @@ fn is_seen(rt: &HostRuntime, path: &str, seen: Seen) -> bool {
     }
 }
 
-fn changed(rt: &HostRuntime, root: &str, change: Change) -> Result<(), StoreFault> {
+fn make_change(rt: &HostRuntime, root: &str, change: Change) -> Result<(), StoreFault> {
     let mut store = FolderStore::new(rt, root);
     match change {
         Change::Replace(path, text) => store.replace(path, text.as_bytes()),
@@ -194,12 +194,13 @@ fn is_answered(rt: &HostRuntime, root: &str, ask: Ask) -> bool {
         Ask::File(path, text) => is_text(read(rt, root, path), text, text.len()),
         Ask::FileLength(path, length) => is_text(read(rt, root, path), "", length),
         Ask::NoFile(path) => {
-            read(rt, root, path).is_err() && changed(rt, root, Change::Replace(path, "B")).is_err()
+            read(rt, root, path).is_err()
+                && make_change(rt, root, Change::Replace(path, "B")).is_err()
         }
         Ask::Journal(text) => is_text(journal(rt, root), text, text.len()),
         Ask::JournalLength(length) => is_text(journal(rt, root), "", length),
         Ask::NoJournal => {
-            journal(rt, root).is_err() && changed(rt, root, Change::Note("B")).is_err()
+            journal(rt, root).is_err() && make_change(rt, root, Change::Note("B")).is_err()
         }
         Ask::NoFolder => fails_to_clear(rt, root),
         Ask::OnePath(path) => lists_one(rt, root, path),

@@ -1,6 +1,6 @@
 //! Worked examples.
 
-use crate::expect::{expect, owned, source_of};
+use crate::expect::{expect, owned_text, source_of};
 use proto_text::{
     Source, Splice, SpliceFault, Splices, TextFault, TokenKind, apply_splices, invert, lex,
     stands_for, string_value,
@@ -237,8 +237,8 @@ fn splices_of<R: AllocGlobal + Abort>(rt: &R, rows: Rows) -> Vec<Splice> {
     for (at, old, new) in rows {
         let splice = Splice {
             at: *at,
-            old: owned(rt, old),
-            new: owned(rt, new),
+            old: owned_text(rt, old),
+            new: owned_text(rt, new),
         };
         splices.push(splice).expect(rt, "memory");
     }

@@ -1,6 +1,6 @@
 //! Texts with and without a tree, and where those without go wrong.
 
-use crate::expect::{expect, repeated, source_of};
+use crate::expect::{expect, repeated_text, source_of};
 use proto_text::lex;
 use proto_tree::{
     FieldType, File, Item, Member, ParseFault, ServiceItem, Steps, parse, parse_counted,
@@ -211,7 +211,7 @@ fn texts_with_and_without_a_tree(rt: HostRuntime) {
         expect(&rt, is_answer(&rt, text, said), text);
     }
     for (first, count, second, more, said) in DEEP {
-        let text = repeated(&rt, first, *count, second, *more);
+        let text = repeated_text(&rt, first, *count, second, *more);
         expect(&rt, is_answer(&rt, text.as_str(), said), text.as_str());
     }
 }
@@ -223,7 +223,7 @@ fn parses_are_counted(rt: HostRuntime) {
     for (text, said) in TEXTS {
         expect(&rt, is_counted(&rt, &mut steps, text, said), text);
     }
-    let text = repeated(&rt, "message M { }", 4096, "", 0);
+    let text = repeated_text(&rt, "message M { }", 4096, "", 0);
     let is_large = is_counted(&rt, &mut steps, text.as_str(), &Said::Tree);
     expect(&rt, is_large, "a large file");
 }

@@ -17,20 +17,20 @@ use Rattle.proto_tree.specs.declared.tree.ServiceItem.{ServiceItem}
 use Rattle.proto_tree.specs.declared.tree.ServiceItem.TheVariants as service_item
 use Rattle.proto_tree.specs.declared.tree.Signature.{Signature}
 use Rattle.proto_tree.specs.File.{extend_tree, extension_tree}
-use Rattle.proto_tree.proofs.Common.{enum_item_tree, enum_tree, field_tree, member_tree, message_tree, method_by, method_item_tree, oneof_tree, service_item_tree, service_tree, trees, Tree, End, Leaf, Block, joined}
+use Rattle.proto_tree.proofs.Common.{enum_item_tree, enum_tree, field_tree, member_tree, message_tree, method_by, method_item_tree, oneof_tree, service_item_tree, service_tree, trees, Tree, End, Leaf, Block, joined_trees}
 use Rattle.proto_meaning.specs.Forest.{under}
-use Rattle.proto_findings.proofs.Common.{Found, Reading, reading_of, text}
-use Rattle.proto_block_rules.specs.Common.{Walk, Scoped, blocks_in, scope_within, block_finds, walk_finds}
+use Rattle.proto_findings.proofs.Common.{Found, Reading, reading_of, word_in}
+use Rattle.proto_block_rules.specs.Common.{Walk, Scoped, scoped_blocks, scope_within, block_finds, walk_finds}
 use Rattle.proto_block_rules.specs.Methods.{methods_finds}
 use Rattle.proto_block_rules.specs.NameRules.{enum_finds, message_finds, oneof_finds, service_finds}
 
-pub blocks_joined : (r : Reading) (scope : List ℕ) (t u : Tree) → blocks_in r scope (joined t u) ≡ blocks_in r scope t ++ blocks_in r scope u
+pub blocks_joined : (r : Reading) (scope : List ℕ) (t u : Tree) → scoped_blocks r scope (joined_trees t u) ≡ scoped_blocks r scope t ++ scoped_blocks r scope u
 blocks_joined r scope End u = refl
 blocks_joined r scope (Leaf s rest) u = blocks_joined r scope rest u
 blocks_joined r scope (Block h i within j rest) u =
     let b : Scoped = record { scope = scope; header = h; within = within } in
-    let inner = blocks_in r (scope_within r scope h) within in
-    ap (λ (bs : List Scoped). b ∷ (inner ++ bs)) (blocks_joined r scope rest u) ∙ ap (λ (bs : List Scoped). b ∷ bs) (sym (append_assoc inner (blocks_in r scope rest) (blocks_in r scope u)))
+    let inner = scoped_blocks r (scope_within r scope h) within in
+    ap (λ (bs : List Scoped). b ∷ (inner ++ bs)) (blocks_joined r scope rest u) ∙ ap (λ (bs : List Scoped). b ∷ bs) (sym (append_assoc inner (scoped_blocks r scope rest) (scoped_blocks r scope u)))
 
 module _ (w : Walk) where
   abbrev r : Reading
@@ -39,8 +39,8 @@ module _ (w : Walk) where
   abbrev one : Scoped → List Found
   one b = block_finds w.rules.now.chosen r w.messages.now b.scope b.header b.within
 
-  finds_joined : (scope : List ℕ) (t u : Tree) → walk_finds w scope (joined t u) ≡ walk_finds w scope t ++ walk_finds w scope u
-  finds_joined scope t u = ap (flat_map one) (blocks_joined r scope t u) ∙ flat_map-append one (blocks_in r scope t) (blocks_in r scope u)
+  finds_joined : (scope : List ℕ) (t u : Tree) → walk_finds w scope (joined_trees t u) ≡ walk_finds w scope t ++ walk_finds w scope u
+  finds_joined scope t u = ap (flat_map one) (blocks_joined r scope t u) ∙ flat_map-append one (scoped_blocks r scope t) (scoped_blocks r scope u)
 
   -- item by item
   pub finds_of_items : {A : Type 0} (view : A → Tree) (scope : List ℕ) (x : A) (xs : List A) → walk_finds w scope (trees view (x ∷ xs)) ≡ walk_finds w scope (view x) ++ walk_finds w scope (trees view xs)
@@ -50,7 +50,7 @@ module _ (w : Walk) where
   finds_of_block : (scope : List ℕ) (h : Header) (i : ℕ) (within : Tree) (j : ℕ)
       → walk_finds w scope (Block h i within j End) ≡ block_finds w.rules.now.chosen r w.messages.now scope h within ++ walk_finds w (scope_within r scope h) within
   finds_of_block scope h i within j =
-      ap (λ (bs : List Scoped). block_finds w.rules.now.chosen r w.messages.now scope h within ++ flat_map one bs) (append-nil (blocks_in r (scope_within r scope h) within))
+      ap (λ (bs : List Scoped). block_finds w.rules.now.chosen r w.messages.now scope h within ++ flat_map one bs) (append-nil (scoped_blocks r (scope_within r scope h) within))
 
   -- one with nothing found in it
   finds_of_flat : (scope : List ℕ) (h : Header) (i : ℕ) (within : Tree) (j : ℕ) → walk_finds w (scope_within r scope h) within ≡ []
@@ -85,7 +85,7 @@ module _ (w : Walk) where
   -- ---- what stands in a message or a file
 
   pub finds_of_message : (scope : List ℕ) (m : Braced Member) → walk_finds w scope (message_tree m)
-      ≡ message_finds w.rules.now.chosen r scope m.name (trees member_tree m.members.items) ++ walk_finds w (under scope (text r m.name)) (trees member_tree m.members.items)
+      ≡ message_finds w.rules.now.chosen r scope m.name (trees member_tree m.members.items) ++ walk_finds w (under scope (word_in r m.name)) (trees member_tree m.members.items)
   finds_of_message scope m = finds_of_block scope (header.Message (record { keyword = m.keyword; name = m.name })) m.open (trees member_tree m.members.items) m.close
 
   pub finds_of_oneof : (scope : List ℕ) (o : Braced Field) → walk_finds w scope (oneof_tree o) ≡ oneof_finds w.rules.now.chosen r scope o.name
@@ -103,5 +103,5 @@ module _ (w : Walk) where
   pub finds_of_service : (scope : List ℕ) (s : Braced ServiceItem) → walk_finds w scope (service_tree s)
       ≡ service_finds w.rules.now.chosen r scope s.name ++ methods_finds w.rules.now.chosen r w.messages.now scope s.name (trees service_item_tree s.members.items)
   finds_of_service scope s =
-      let inner = under scope (text r s.name) in
+      let inner = under scope (word_in r s.name) in
       finds_of_flat scope (header.Service (record { keyword = s.keyword; name = s.name })) s.open (trees service_item_tree s.members.items) s.close (no_finds service_item_tree inner (none_in_service inner) s.members.items)

@@ -1,23 +1,23 @@
 -- The values of an enum, item by item.
 use Rattle.std.proofs.Common.{◌≡◌, ℕ, ◌+◌, ◌<◌, ◌≤◌, Bool, true, List, [], ◌∷◌, ◌++◌, length, get_or, drop, map, sym, ap, ◌∙◌, append_assoc, flat_map}
-use Rattle.proto_faults.proofs.Common.{cond-true, flat_map-append, drop_all, map-append, front}
+use Rattle.proto_faults.proofs.Common.{cond-true, flat_map-append, drop_all, map-append, front_element}
 use Rattle.proto_tree.specs.declared.tree.EnumItem.{EnumItem}
 use Rattle.proto_tree.specs.declared.tree.EnumItem.TheVariants as enum_item
 use Rattle.proto_tree.specs.declared.tree.Value.{Value}
-use Rattle.proto_tree.proofs.Common.{enum_item_tree, trees, Tree, joined}
+use Rattle.proto_tree.proofs.Common.{enum_item_tree, trees, Tree, joined_trees}
 use Rattle.proto_parts.proofs.Common.{statement_values, statements, values_in, statements_joined}
 use Rattle.proto_rules.specs.declared.rule.Rule.{Rule}
 use Rattle.proto_findings.proofs.Common.{found_at, found_by, unless_word, Reading}
 use Rattle.proto_rules.specs.Rules.{is_chosen}
 use Rattle.proto_block_rules.specs.NameRules.{first_not_zero, is_zero}
 
-values_joined : (t u : Tree) → values_in (joined t u) ≡ values_in t ++ values_in u
+values_joined : (t u : Tree) → values_in (joined_trees t u) ≡ values_in t ++ values_in u
 values_joined t u = ap (flat_map statement_values) (statements_joined t u) ∙ flat_map-append statement_values (statements t) (statements u)
 
 values_front : (items : List EnumItem) (i : ℕ) (item : EnumItem) → i < length items → item ≡ get_or items i item
     → values_in (trees enum_item_tree (drop i items)) ≡ values_in (enum_item_tree item) ++ values_in (trees enum_item_tree (drop (i + 1) items))
 values_front items i item lt is =
-    ap (λ (xs : List EnumItem). values_in (trees enum_item_tree xs)) (front items i item item lt is)
+    ap (λ (xs : List EnumItem). values_in (trees enum_item_tree xs)) (front_element items i item item lt is)
     ∙ values_joined (enum_item_tree item) (trees enum_item_tree (drop (i + 1) items))
 
 -- what is found at the values of one item more

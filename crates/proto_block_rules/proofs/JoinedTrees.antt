@@ -3,11 +3,11 @@ use Rattle.std.proofs.Common.{◌≡◌, List, ◌∷◌, ◌++◌, map, flat_ma
 use Rattle.proto_faults.proofs.Common.{flat_map-append, map-append}
 use Rattle.proto_tree.specs.declared.piece.Statement.{Statement}
 use Rattle.proto_tree.specs.declared.tree.Signature.{Signature}
-use Rattle.proto_tree.proofs.Common.{trees, Tree, End, Leaf, Block, joined}
+use Rattle.proto_tree.proofs.Common.{trees, Tree, End, Leaf, Block, joined_trees}
 use Rattle.proto_parts.proofs.Common.{statements, statements_joined}
 use Rattle.proto_block_rules.specs.Methods.{header_signatures, signatures_in, statement_signatures}
 
-signatures_joined : (t u : Tree) → signatures_in (joined t u) ≡ signatures_in t ++ signatures_in u
+signatures_joined : (t u : Tree) → signatures_in (joined_trees t u) ≡ signatures_in t ++ signatures_in u
 signatures_joined End u = refl
 signatures_joined (Leaf s rest) u =
     ap (λ (ss : List Signature). statement_signatures s ++ ss) (signatures_joined rest u) ∙ sym (append_assoc (statement_signatures s) (signatures_in rest) (signatures_in u))

@@ -9,12 +9,12 @@ use Rattle.proto_files.specs.FilesRead.{ReadOf}
 use Rattle.proto_findings.specs.Readings.{Reading, read_of_file}
 use Rattle.proto_findings.specs.Placed.{Found}
 use Rattle.proto_block_rules.specs.Blocks.{Scoped, file_blocks}
-use Rattle.proto_block_rules.specs.Methods.{messages_of, methods_finds, signatures_in}
+use Rattle.proto_block_rules.specs.Methods.{method_messages, methods_finds, signatures_in}
 use Rattle.proto_block_rules.specs.NameRules.{enum_finds, message_finds, oneof_finds, service_finds}
 
 -- the messages of the methods of a block, by their full names
 abbrev pub block_messages : Reading → Header → Tree → List Text
-block_messages r (header.Service h) within = messages_of r (signatures_in within)
+block_messages r (header.Service h) within = method_messages r (signatures_in within)
 block_messages r _ within = []
 
 -- the messages of the methods of a file

@@ -6,14 +6,14 @@ use Rattle.proto_tree.specs.Tree.{Tree, End, Leaf, Block}
 use Rattle.proto_findings.specs.Placed.{Found}
 use Rattle.proto_findings.specs.Readings.{Reading, reading_of}
 use Rattle.proto_block_rules.specs.declared.walk.Walk.{Walk}
-use Rattle.proto_block_rules.specs.Blocks.{blocks_in}
+use Rattle.proto_block_rules.specs.Blocks.{scoped_blocks}
 use Rattle.proto_block_rules.specs.BlockFinds.{block_messages, blocks_finds}
 
 -- what a walk finds in the blocks of a tree, in a scope
 abbrev pub walk_finds : Walk → Text → Tree → List Found
 walk_finds w scope tree =
     blocks_finds w.rules.now.chosen (reading_of w.reading.now) w.messages.now
-    (blocks_in (reading_of w.reading.now) scope tree)
+    (scoped_blocks (reading_of w.reading.now) scope tree)
 
 -- the messages of the methods of services that stand right in a file
 abbrev pub outer_messages : Reading → Tree → List Text

@@ -10,7 +10,7 @@ ghost use Rattle.proto_parts.specs.Parts.{statements, values_in};
 ghost use Rattle.proto_case.specs.Cases.{is_upper_snake};
 ghost use Rattle.proto_rules.specs.declared.rule.Rule.TheVariants as rule;
 ghost use Rattle.proto_findings.specs.Placed.{found_at, found_by, unless_word};
-ghost use Rattle.proto_findings.specs.Readings.{reading_of, text};
+ghost use Rattle.proto_findings.specs.Readings.{reading_of, word_in};
 ghost use Rattle.proto_findings.specs.Views.{found_of};
 ghost use Rattle.proto_block_rules.specs.NameRules.{allowed_alias, enum_finds, enum_first_value_zero, enum_no_allow_alias, enum_value_prefix, enum_value_upper_snake_case, enum_zero_value_suffix, is_zero, value_prefix};
 
@@ -242,7 +242,7 @@ fn add_prefixes(
 // place of a Scene.
 
 fn is_true(reading: &Reading, value: &Constant) -> bool
-    ensures { result ≡ is_true (truth_of (text (reading_of reading.now)) value.now) }
+    ensures { result ≡ is_true (truth_of (word_in (reading_of reading.now)) value.now) }
 {
     match value {
         Constant::Word(word) => reading.text(*word) == "true",
@@ -251,8 +251,8 @@ fn is_true(reading: &Reading, value: &Constant) -> bool
 }
 
 fn allows_alias(reading: &Reading, option: &Option_) -> bool
-    ensures { result ≡ (bytes_eq (text (reading_of reading.now) option.now.name)
-        (codes "allow_alias") && is_true (truth_of (text (reading_of reading.now))
+    ensures { result ≡ (bytes_eq (word_in (reading_of reading.now) option.now.name)
+        (codes "allow_alias") && is_true (truth_of (word_in (reading_of reading.now))
         option.now.value)) }
 {
     reading.text(option.name) == "allow_alias" && is_true(reading, &option.value)

@@ -2,7 +2,7 @@
 
 ghost use Rattle.std.specs.Prelude.{◌≡◌, ◌++◌, ◌||◌, codes, map, OnOk};
 ghost use Rattle.std.specs.Str.{bytes_eq};
-ghost use Rattle.proto_findings.specs.Readings.{reading_of, text};
+ghost use Rattle.proto_findings.specs.Readings.{reading_of, word_in};
 ghost use Rattle.proto_findings.specs.Views.{found_of};
 ghost use Rattle.proto_block_rules.specs.Methods.{is_shared, is_standard, method_finds, type_meant};
 
@@ -25,7 +25,7 @@ pub(crate) struct ServiceName<'a> {
 fn type_meant<'a>(reading: &Reading<'a>, kind: &MethodType) -> &'a str
     ensures { result.now ≡ type_meant (reading_of reading.now) kind.now }
 {
-    reading.meant(&kind.reference)
+    reading.meant_name(&kind.reference)
 }
 
 // ---- names of inputs and outputs
@@ -62,8 +62,8 @@ fn is_standard(service: &str, method: &str, suffix: &str, name: &str) -> bool
 
 // Whether the message that a method of the service takes has a standard name.
 fn is_request_standard(reading: &Reading, service: u32, method: &Signature) -> bool
-    ensures { result ≡ is_standard (text (reading_of reading.now) service)
-        (text (reading_of reading.now) method.now.name) (codes "Request")
+    ensures { result ≡ is_standard (word_in (reading_of reading.now) service)
+        (word_in (reading_of reading.now) method.now.name) (codes "Request")
         (type_meant (reading_of reading.now) method.now.input) }
 {
     let name = type_meant(reading, &method.input);
@@ -77,8 +77,8 @@ fn is_request_standard(reading: &Reading, service: u32, method: &Signature) -> b
 
 // Whether the message that a method of the service answers has a standard name.
 fn is_response_standard(reading: &Reading, service: u32, method: &Signature) -> bool
-    ensures { result ≡ is_standard (text (reading_of reading.now) service)
-        (text (reading_of reading.now) method.now.name) (codes "Response")
+    ensures { result ≡ is_standard (word_in (reading_of reading.now) service)
+        (word_in (reading_of reading.now) method.now.name) (codes "Response")
         (type_meant (reading_of reading.now) method.now.output) }
 {
     let name = type_meant(reading, &method.output);

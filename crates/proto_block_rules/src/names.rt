@@ -3,7 +3,7 @@
 ghost use Rattle.std.specs.Prelude.{◌≡◌, ◌++◌, map, OnOk};
 ghost use Rattle.proto_meaning.specs.Forest.{under};
 ghost use Rattle.proto_findings.specs.Placed.{found_by, unless};
-ghost use Rattle.proto_findings.specs.Readings.{reading_of, text};
+ghost use Rattle.proto_findings.specs.Readings.{reading_of, word_in};
 ghost use Rattle.proto_findings.specs.Views.{found_of};
 
 use crate::walk::Walk;
@@ -30,7 +30,7 @@ pub(crate) fn add_name(
     ensures { OnOk result (map found_of found.new.items ≡ map found_of found.old.items
         ++ found_by walk.now.rules.now.chosen (reading_of walk.now.reading.now) rule
         (unless passes name.now.token (under name.now.scope.now
-        (text (reading_of walk.now.reading.now) name.now.token)))) }
+        (word_in (reading_of walk.now.reading.now) name.now.token)))) }
 {
     if !walk.rules.has(rule) {
         return Ok(());

@@ -6,7 +6,7 @@ ghost use Rattle.std.specs.List.Sorted.{IsPermutation, IsSortedBy};
 ghost use Rattle.std.specs.Ordering.{is_lt, nat_cmp};
 ghost use Rattle.proto_tree.specs.File.{service_item_tree, trees};
 ghost use Rattle.proto_findings.specs.Readings.{reading_of};
-ghost use Rattle.proto_block_rules.specs.Methods.{is_shared, messages_of, signatures_in, type_meant};
+ghost use Rattle.proto_block_rules.specs.Methods.{is_shared, method_messages, signatures_in, type_meant};
 
 use proto_faults::NoMemory;
 use proto_findings::Reading;
@@ -71,8 +71,8 @@ fn add_of_method<'a>(
         (type_meant (reading_of reading.now) method.now.input
         ∷ type_meant (reading_of reading.now) method.now.output ∷ [])) }
 {
-    all.push(reading.meant(&method.input.reference))?;
-    all.push(reading.meant(&method.output.reference))?;
+    all.push(reading.meant_name(&method.input.reference))?;
+    all.push(reading.meant_name(&method.output.reference))?;
     Ok(())
 }
 
@@ -82,7 +82,7 @@ fn add_of_item<'a>(
     item: &ServiceItem,
 ) -> Result<(), NoMemory>
     ensures { OnOk result (map (λ s. s.now) all.new.items ≡ map (λ s. s.now) all.old.items
-        ++ messages_of (reading_of reading.now) (signatures_in (service_item_tree item.now))) }
+        ++ method_messages (reading_of reading.now) (signatures_in (service_item_tree item.now))) }
 {
     match item {
         ServiceItem::Method(method) => add_of_method(all, reading, &method.signature),
@@ -97,7 +97,7 @@ pub(crate) fn add_messages<'a>(
     service: &Service,
 ) -> Result<(), NoMemory>
     ensures { OnOk result (map (λ s. s.now) all.new.items ≡ map (λ s. s.now) all.old.items
-        ++ messages_of (reading_of reading.now)
+        ++ method_messages (reading_of reading.now)
         (signatures_in (trees service_item_tree service.now.members.items))) }
 {
     for item in &service.members {

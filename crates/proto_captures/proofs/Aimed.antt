@@ -8,8 +8,8 @@ use Rattle.proto_meaning.specs.declared.kind.Kind.TheVariants.{Package, Entry, E
 use Rattle.proto_meaning.proofs.Common.{place_from, place_of, At, at, joined, Symbol, Source, Token, EntryOf, Given, Declared, IsAimEntry, name_of, shifted_source, spell, symbol_of, map_append, joined_apart, one_symbol}
 use Rattle.proto_listing.specs.FromTree.{items_in}
 use Rattle.proto_imports.proofs.Common.{LinkFaults, link_skeleton, names_of_files, text_of, names_are_plain}
-use Rattle.proto_names.proofs.Common.{IsLinkOf, IsLinkRead, LinkOf, NameOf, name_at, text_at}
-use Rattle.proto_rename_laws.proofs.Common.{IsUnknown, RenameCase, unknown_target, kind_not_allowed, Target, IsNamed, may_rename, EndsAs, IsDeclaredBy, declared_by, path_of, placed_ends, is_written, files_are_linked, files_are_woven, place_last, targets_are_there, IsInside, tokens_are_inside}
+use Rattle.proto_names.proofs.Common.{IsLinkOf, IsLinkRead, LinkOf, NameOf, name_at, name_text}
+use Rattle.proto_rename_laws.proofs.Common.{IsUnknown, RenameCase, unknown_target, kind_not_allowed, Target, IsNamed, may_rename, EndsAs, IsDeclaredBy, declared_by, path_of_declared, placed_ends, is_written, files_are_linked, files_are_woven, place_last, targets_are_there, IsInside, tokens_are_inside}
 use Rattle.proto_captures.specs.Common.{IsAimedAt, IsNoTarget, IsNotAllowed, Aim, HasDeclared, HasUnmoved, IsNotDeclared}
 use Rattle.proto_captures.specs.declared.aim.NoTarget.{NoTarget}
 use Rattle.proto_captures.specs.declared.aim.NoTarget.TheVariants as variant
@@ -37,7 +37,7 @@ entry_path reads d o kind = by o.p.last refl (placed_ends (items_in (read_at rea
     by (EntryOf t) q h = (
       map (shifted_source (at (0 + o.k))) o.p.above,
       at (0 + o.k) t,
-      path_of 0 reads d o ∙ ap (λ (z : Source ℕ). map (shifted_source (at (0 + o.k))) o.p.above ++ shifted_source (at (0 + o.k)) z ∷ []) q,
+      path_of_declared 0 reads d o ∙ ap (λ (z : Source ℕ). map (shifted_source (at (0 + o.k))) o.p.above ++ shifted_source (at (0 + o.k)) z ∷ []) q,
     )
     by (Given w) q h = absurd (not_field (sym (subst (λ (z : Source ℕ). EndsAs z o.p.kind) q h) ∙ entry))
       where
@@ -144,7 +144,7 @@ module _ (files : List FileOf) (reads : List ReadOf) (r : AreRead files reads) (
       record { symbol = s.0; within = s.1; name_is = s.2 ∙ h.text_is; kind = ap may_rename s.3 ∙ h.kind_is }
 
   -- a name that the link has not is none of the files'
-  pub unknown_symbol : (name : List ℕ) → ((row : ℕ) → text_at l row ≢ Some name) → IsUnknown files reads name
+  pub unknown_symbol : (name : List ℕ) → ((row : ℕ) → name_text l row ≢ Some name) → IsUnknown files reads name
   unknown_symbol name none s cs e =
       let n = link.by.names.there s cs in
       none n.0 (ap (option_map (λ (z : NameOf). z.text)) n.2 ∙ ap (λ (z : List ℕ). Some z) (n.3 ∙ e))

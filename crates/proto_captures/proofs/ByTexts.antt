@@ -3,8 +3,8 @@ use Rattle.std.proofs.Common.{◌≡◌, ◌≢◌, ℕ, Bool, true, false, ◌&
 use Rattle.proto_faults.proofs.Common.{and_from, and_parts, none-some, same_Some, any_from, same_from_word, word_from_same}
 use Rattle.proto_meaning.proofs.Common.{Renaming, target, ArePlain, IsPlain, below, joined, EntryFits, IsRenaming, Symbol, Workspace, same_name, sees, shows, name_from_same, same_from_name, joined_apart, last_parts, shown}
 use Rattle.proto_imports.proofs.PlainNames.{plain_join}
-use Rattle.proto_names.proofs.Common.{HoldsNames, LinkOf, NameOf, is_visible, name_at, text_at}
-use Rattle.proto_captures.specs.Common.{NewTexts, shows_anew, shows_beside, shows_entry, entry_shown_if, first_fits, kind_fits, kind_named, shown_below, shown_beside, shows_text}
+use Rattle.proto_names.proofs.Common.{HoldsNames, LinkOf, NameOf, is_visible, name_at, name_text}
+use Rattle.proto_captures.specs.Common.{NewTexts, shows_anew, shows_beside, shows_entry, entry_shown_if, first_fits, kind_fits, kind_named, shown_below, shown_beside, shows_fitting}
 use Rattle.proto_captures.proofs.KindNamed.{kind_at}
 use Rattle.proto_captures.proofs.NewlyShown.{same_truth}
 
@@ -23,7 +23,7 @@ below_is (s ∷ t ∷ S) v h = append_assoc s (46 ∷ joined (t ∷ S)) (46 ∷ 
     not_nil : t ∷ S ≡ [] → ⊥
     not_nil z = cc
 
-pub named_at : (l : LinkOf) (row : ℕ) (text : List ℕ) → text_at l row ≡ Some text → (n : NameOf) × (name_at l row ≡ Some n) × (n.text ≡ text)
+pub named_at : (l : LinkOf) (row : ℕ) (text : List ℕ) → name_text l row ≡ Some text → (n : NameOf) × (name_at l row ≡ Some n) × (n.text ≡ text)
 named_at l row text h = go (name_at l row) refl h
   where
     go : (o : Option NameOf) → name_at l row ≡ o → option_map (λ n. n.text) o ≡ Some text → (n : NameOf) × (name_at l row ≡ Some n) × (n.text ≡ text)
@@ -31,7 +31,7 @@ named_at l row text h = go (name_at l row) refl h
     go (Some n) e q = (n, e, same_Some n.text text q)
 
 module _ (w : Workspace) (l : LinkOf) (file : ℕ) (names : HoldsNames w l) (visible : (x : List (List ℕ)) → ArePlain x → is_visible l file (joined x) ≡ shows w file (λ k. true) x) where
-  one_text : (i j : ℕ) (t : List ℕ) → text_at l i ≡ Some t → text_at l j ≡ Some t → i ≡ j
+  one_text : (i j : ℕ) (t : List ℕ) → name_text l i ≡ Some t → name_text l j ≡ Some t → i ≡ j
   one_text i j t h k =
       let m = named_at l i t h in
       let n = named_at l j t k in
@@ -42,10 +42,10 @@ module _ (w : Workspace) (l : LinkOf) (file : ℕ) (names : HoldsNames w l) (vis
       let n = names.there s cs in
       sym (kind_at l (joined s.name) n.0 (ap (option_map (λ n. n.text)) n.2 ∙ ap Some n.3) one_text) ∙ ap (option_map (λ n. n.kind)) n.2 ∙ ap Some n.4
 
-  pub shows_is : (is_long : Bool) (x : List (List ℕ)) → ArePlain x → shows_text l file is_long (joined x) ≡ shows w file (first_fits is_long) x
-  shows_is is_long x plain = same_truth (shows_text l file is_long (joined x)) (shows w file (first_fits is_long) x) forth back
+  pub shows_is : (is_long : Bool) (x : List (List ℕ)) → ArePlain x → shows_fitting l file is_long (joined x) ≡ shows w file (first_fits is_long) x
+  shows_is is_long x plain = same_truth (shows_fitting l file is_long (joined x)) (shows w file (first_fits is_long) x) forth back
     where
-      forth : shows_text l file is_long (joined x) ≡ true → shows w file (first_fits is_long) x ≡ true
+      forth : shows_fitting l file is_long (joined x) ≡ true → shows w file (first_fits is_long) x ≡ true
       forth h =
           let t = and_parts (kind_fits is_long (kind_named l (joined x))) (is_visible l file (joined x)) h in
           let s = shown w file (λ k. true) x (sym (visible x plain) ∙ t.1) in
@@ -53,7 +53,7 @@ module _ (w : Workspace) (l : LinkOf) (file : ℕ) (names : HoldsNames w l) (vis
           any_from (λ s. same_name s.name x && (first_fits is_long s.kind && sees w file s.file)) w.symbols s.0 s.1
           (and_from (same_name s.0.name x) (first_fits is_long s.0.kind && sees w file s.0.file) (same_from_name s.0.name x s.2) (and_from (first_fits is_long s.0.kind) (sees w file s.0.file) good s.4))
 
-      back : shows w file (first_fits is_long) x ≡ true → shows_text l file is_long (joined x) ≡ true
+      back : shows w file (first_fits is_long) x ≡ true → shows_fitting l file is_long (joined x) ≡ true
       back h =
           let s = shown w file (first_fits is_long) x h in
           and_from (kind_fits is_long (kind_named l (joined x))) (is_visible l file (joined x))
@@ -83,14 +83,14 @@ module _ (w : Workspace) (l : LinkOf) (file : ℕ) (names : HoldsNames w l) (vis
           let fits : EntryFits w e (Some p) = subst (EntryFits w e) eo is.entry_is in
           let s = fits.2 in
           let whole : s.0.name ≡ S ++ p.0 ∷ [] = s.2 ∙ ap (λ z. z ++ p.0 ∷ []) (sym own) in
-          ap (λ z. bytes_eq q p.1 && z) (ap (shows_text l file is_long) (below_is S p.0 some) ∙ shows_is is_long (S ++ p.0 ∷ []) (subst ArePlain whole (names.plain s.0 s.1)))
+          ap (λ z. bytes_eq q p.1 && z) (ap (shows_fitting l file is_long) (below_is S p.0 some) ∙ shows_is is_long (S ++ p.0 ∷ []) (subst ArePlain whole (names.plain s.0 s.1)))
 
-      by : (b : Bool) → same_name S e.parent ≡ b → (if b then shown_beside l file is_long (texts_for e) (joined S) q else shows_text l file is_long (below (joined S) q))
+      by : (b : Bool) → same_name S e.parent ≡ b → (if b then shown_beside l file is_long (texts_for e) (joined S) q else shows_fitting l file is_long (below (joined S) q))
           ≡ (if b then shows_beside e w file (first_fits is_long) S q else shows w file (first_fits is_long) (S ++ q ∷ []))
       by true own = ap₂ (λ (x y : Bool). (bytes_eq q e.new && x) || y) (shows_is is_long (target e) target_plain) (entry_is (name_from_same S e.parent own) e.entry refl)
-      by false other = ap (shows_text l file is_long) (below_is S q some) ∙ shows_is is_long (S ++ q ∷ []) (plain_join S q plain word)
+      by false other = ap (shows_fitting l file is_long) (below_is S q some) ∙ shows_is is_long (S ++ q ∷ []) (plain_join S q plain word)
 
       pub shown_is : shown_below l file is_long (texts_for e) (joined S) q ≡ shows_anew e w file (first_fits is_long) S q
       shown_is =
-          ap (λ b. if b then shown_beside l file is_long (texts_for e) (joined S) q else shows_text l file is_long (below (joined S) q)) is_parent
+          ap (λ b. if b then shown_beside l file is_long (texts_for e) (joined S) q else shows_fitting l file is_long (below (joined S) q)) is_parent
           ∙ by (same_name S e.parent) refl

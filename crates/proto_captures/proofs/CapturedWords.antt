@@ -1,7 +1,7 @@
 -- The answer by texts for one reference is that of the definition by names.
 use Rattle.std.proofs.Common.{◌≡◌, ◌≢◌, ℕ, zero, suc, ◌-◌, ◌<◌, ◌≤◌, Bool, true, false, ◌&&◌, if◌then◌else◌, List, [], ◌∷◌, ◌++◌, length, take, drop, Option, Some, None, refl, sym, ap, subst, ◌∙◌, inl, inr, arith, ◌==◌, nat_eq, bytes_eq, eq-eqb, eqb-true, length-take-le, take-append-drop, take_at}
 use Rattle.proto_faults.proofs.Common.{starts_with, and_from, and_parts, both_ways, cond-false, or_cases, or_left, or_right, none-some, same_from_word, word_from_same}
-use Rattle.proto_meaning.proofs.Common.{Renaming, Collides, IsCaptured, ren, rewritten, shows_mapped, target, ArePlain, IsPlain, joined, IsLinked, IsRenaming, Reference, Workspace, fits, front_at, hit, meaning, meaning_at, same_name, shows, typed, name_from_same, same_from_name, joined_apart, hit_relative}
+use Rattle.proto_meaning.proofs.Common.{Renaming, Collides, IsCaptured, ren, rewritten, shows_mapped, target, ArePlain, IsPlain, joined, IsLinked, IsRenaming, Reference, Workspace, fits_at_first, front_at, hit, meaning, meaning_at, same_name, shows, typed, name_from_same, same_from_name, joined_apart, hit_relative}
 use Rattle.proto_imports.proofs.PlainNames.{plain_join}
 use Rattle.proto_names.proofs.Common.{HoldsNames, LinkOf, is_visible}
 use Rattle.proto_rename_laws.proofs.Common.{HasScope, IsNewWord, meaning_parts}
@@ -61,12 +61,12 @@ module _ (e : Renaming) (w : Workspace) (l : LinkOf) (ok : IsLinked w) (is : IsR
   abbrev n : NewTexts
   n = texts_for e
 
-  fitting : (x : List (List ℕ)) → shows_mapped e w r.file (first_fits (is_cons rest)) x ≡ shows_mapped e w r.file (fits r.words) x
+  fitting : (x : List (List ℕ)) → shows_mapped e w r.file (first_fits (is_cons rest)) x ≡ shows_mapped e w r.file (fits_at_first r.words) x
   fitting x = by rest words
     where
-      by : (ws : List (List ℕ)) → r.words ≡ p ∷ ws → shows_mapped e w r.file (first_fits (is_cons ws)) x ≡ shows_mapped e w r.file (fits r.words) x
-      by [] h = ap (λ z. shows_mapped e w r.file (fits z) x) (sym h)
-      by (v ∷ ws) h = ap (λ z. shows_mapped e w r.file (fits z) x) (sym h)
+      by : (ws : List (List ℕ)) → r.words ≡ p ∷ ws → shows_mapped e w r.file (first_fits (is_cons ws)) x ≡ shows_mapped e w r.file (fits_at_first r.words) x
+      by [] h = ap (λ z. shows_mapped e w r.file (fits_at_first z) x) (sym h)
+      by (v ∷ ws) h = ap (λ z. shows_mapped e w r.file (fits_at_first z) x) (sym h)
 
   has_hit : r.is_absolute ≡ false → (k : ℕ) × (hit w r ≡ Some k)
   has_hit relative = by (hit w r) refl means
@@ -119,14 +119,14 @@ module _ (e : Renaming) (w : Workspace) (l : LinkOf) (ok : IsLinked w) (is : IsR
         ∙ ap (captures_at l r.file n r.scope (is_cons rest) p len) word_is
 
     -- what is shown in a longer front, by texts and by names
-    shown_in : (j : ℕ) → 0 < j → j ≤ length r.scope → IsNewWord e q → test (joined (take j r.scope)) ≡ shows_mapped e w r.file (fits r.words) (ren e (take j r.scope) ++ take 1 (rewritten e (take k r.scope) r.words))
+    shown_in : (j : ℕ) → 0 < j → j ≤ length r.scope → IsNewWord e q → test (joined (take j r.scope)) ≡ shows_mapped e w r.file (fits_at_first r.words) (ren e (take j r.scope) ++ take 1 (rewritten e (take k r.scope) r.words))
     shown_in j some inside new =
         let not_nil = taken r.scope j some inside in
         let declared : IsDeclaredName w (take j r.scope) = (not_nil, scoped (take j r.scope) (drop j r.scope) (take-append-drop j r.scope) not_nil) in
         shown_is w l r.file names visible e is (take j r.scope) not_nil (plain_take r.scope j scope_plain) q q_plain (is_cons rest)
         ∙ sym (shown_is_anew e w ok is free (take j r.scope) declared q new r.file (first_fits (is_cons rest)))
         ∙ fitting (ren e (take j r.scope) ++ q ∷ [])
-        ∙ ap (λ z. shows_mapped e w r.file (fits r.words) (ren e (take j r.scope) ++ z)) (sym first_is)
+        ∙ ap (λ z. shows_mapped e w r.file (fits_at_first r.words) (ren e (take j r.scope) ++ z)) (sym first_is)
 
     forth_at : captures_words l r.file n r.scope p rest (joined m) ≡ true → IsCaptured e w r
     forth_at h =
@@ -146,7 +146,7 @@ module _ (e : Renaming) (w : Workspace) (l : LinkOf) (ok : IsLinked w) (is : IsR
         let begun = captures_begin_anew e w r k ok is free scoped at c in
         let word : q ≡ begun.0 = one_word (sym first_is ∙ begun.1) in
         let new : IsNewWord e q = subst (IsNewWord e) (sym word) begun.2 in
-        let shown = ap (λ i. shows_mapped e w r.file (fits r.words) (ren e (take j r.scope) ++ take 1 (rewritten e (take i r.scope) r.words))) (sym same) ∙ c.5 in
+        let shown = ap (λ i. shows_mapped e w r.file (fits_at_first r.words) (ren e (take j r.scope) ++ take 1 (rewritten e (take i r.scope) r.words))) (sym same) ∙ c.5 in
         let some : 0 < j = omega (arith, below) in
         answer_is ∙ and_from (is_new_word n q) (shown_from test (len - length p) [] r.scope) (new_to e q new)
         (scan_from test (len - length p) [] r.scope scope_plain j some c.4 (deeper r.scope p k j below c.4) (shown_in j some c.4 new ∙ shown))

@@ -12,10 +12,10 @@ use Rattle.proto_meaning.proofs.Common.{Renaming, IsCaptured, target, At, at, us
 use Rattle.proto_meaning.specs.declared.kind.Kind.{Kind}
 use Rattle.proto_meaning.specs.declared.kind.Kind.TheVariants.{Package, Entry}
 use Rattle.proto_names.specs.Laws.{VisibleIsShown}
-use Rattle.proto_names.proofs.Common.{HoldsNames, IsLinkOf, meant_by_link, meant_by_use, TextMeant, LinkOf, text_at, use_there}
+use Rattle.proto_names.proofs.Common.{HoldsNames, IsLinkOf, meant_by_link, meant_by_use, TextMeant, LinkOf, name_text, use_there}
 use Rattle.proto_names.specs.declared.references.Meant.{Meant}
 use Rattle.proto_rename_laws.proofs.Common.{HasScope, Captures, Target, may_rename, name_map, files_are_linked, files_are_woven}
-use Rattle.proto_captures.specs.Common.{captures_use, captures_words, AreNewNames, IsFirstIn, IsRenameOf, captures_by, first_of, NewTexts, entry_words}
+use Rattle.proto_captures.specs.Common.{captures_use, captures_words, AreNewNames, IsFirstIn, IsRenameOf, captures_by, first_passing, NewTexts, entry_words}
 use Rattle.proto_captures.proofs.ByTexts.{texts_for}
 use Rattle.proto_captures.proofs.CapturedWords.{back, forth}
 use Rattle.proto_captures.proofs.FirstOnes.{none_passes, one_passes}
@@ -139,7 +139,7 @@ module _ (files : List FileOf) (reads : List ReadOf) (t : Target) (to : List ℕ
           → (captures_by l file (texts_for e) own declared u x ≡ true → P v) × (P v → captures_by l file (texts_for e) own declared u x ≡ true)
       decided x same =
           let m = has_meaning in
-          let text : text_at l x.row ≡ Some (joined m.0) = ap (λ (z : TextMeant). z.text) same ∙ ap (option_map joined) m.1 in
+          let text : name_text l x.row ≡ Some (joined m.0) = ap (λ (z : TextMeant). z.text) same ∙ ap (option_map joined) m.1 in
           let is : captures_by l file (texts_for e) own declared u x ≡ (not q.is_absolute && answer m.0) = ap (λ o. captures_use l file (texts_for e) own declared u (or_nothing o)) text ∙ answer_is m.0 in (
             (λ h.
                 let k = and_parts (not q.is_absolute) (answer m.0) (sym is ∙ h) in
@@ -151,8 +151,8 @@ module _ (files : List FileOf) (reads : List ReadOf) (t : Target) (to : List ℕ
 
     -- the first of a file's list
     pub first_is : (n : NewTexts) → AreNewNames files reads t to n → (declared : List Listed) (us : List Use) (ms : List Meant) → map (used_by (read declared)) us ≡ uses_of reads file → ms ≡ get_or l.meant file []
-        → (first : Option ℕ) → first ≡ first_of (captures_by l file n own declared) us ms → IsFirstIn files reads t to file first
-    first_is n texts declared us ms uses meant first h = by first (ap (λ z. first_of (captures_by l file z own declared) us ms) (sym (texts_are n texts)) ∙ sym h)
+        → (first : Option ℕ) → first ≡ first_passing (captures_by l file n own declared) us ms → IsFirstIn files reads t to file first
+    first_is n texts declared us ms uses meant first h = by first (ap (λ z. first_passing (captures_by l file z own declared) us ms) (sym (texts_are n texts)) ∙ sym h)
       where
         means : map (meant_by_link l) ms ≡ map (meant_by_use files reads file) (map (used_by (read declared)) us)
         means = ap (map (meant_by_link l)) meant ∙ ((link reads r.read).means file within).texts ∙ ap (map (meant_by_use files reads file)) (sym uses)
@@ -163,7 +163,7 @@ module _ (files : List FileOf) (reads : List ReadOf) (t : Target) (to : List ℕ
         each : (u : Use) → Contains us u → (x : Meant) → meant_by_link l x ≡ meant_by_use files reads file (used_by (read declared) u) → (captures_by l file (texts_for e) own declared u x ≡ true → P (used_by (read declared) u)) × (P (used_by (read declared) u) → captures_by l file (texts_for e) own declared u x ≡ true)
         each u cu = decided declared u (subst (λ (z : List (Used ℕ)). Contains z (used_by (read declared) u)) uses (contains_map (used_by (read declared)) us u cu))
 
-        by : (o : Option ℕ) → first_of (captures_by l file (texts_for e) own declared) us ms ≡ o → IsFirstIn files reads t to file o
+        by : (o : Option ℕ) → first_passing (captures_by l file (texts_for e) own declared) us ms ≡ o → IsFirstIn files reads t to file o
         by None k = λ v cv. none_passes files reads l file P (captures_by l file (texts_for e) own declared) (used_by (read declared)) us ms means each k v (subst (λ (z : List (Used ℕ)). Contains z v) (sym uses) cv)
         by (Some token) k =
             let x = one_passes files reads l file P (captures_by l file (texts_for e) own declared) (used_by (read declared)) us ms token means rising each k in

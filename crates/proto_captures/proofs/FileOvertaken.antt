@@ -9,10 +9,10 @@ use Rattle.proto_listing.proofs.Common.{path_at, read, used_by, uses_plain}
 use Rattle.proto_listing.specs.declared.listing.Listed.{Listed}
 use Rattle.proto_listing.specs.declared.listing.Use.{Use}
 use Rattle.proto_meaning.proofs.Common.{IsOvertaken, At, at, used_in, ArePlain, IsPlain, joined, IsLinked, Reference, Workspace, meaning, Used, name_of, reference_of, map_map}
-use Rattle.proto_names.proofs.Common.{HoldsNames, IsLinkOf, meant_by_link, meant_by_use, TextMeant, LinkOf, text_at, use_there}
+use Rattle.proto_names.proofs.Common.{HoldsNames, IsLinkOf, meant_by_link, meant_by_use, TextMeant, LinkOf, name_text, use_there}
 use Rattle.proto_names.specs.declared.references.Meant.{Meant}
 use Rattle.proto_rename_laws.proofs.Common.{HasScope, files_are_linked, files_are_woven}
-use Rattle.proto_captures.specs.Common.{first_of, IsFirstOvertaken, Overtakes, SeesMarked, TellsPackages, overtakes_by, overtakes_use, overtakes_words}
+use Rattle.proto_captures.specs.Common.{first_passing, IsFirstOvertaken, Overtakes, SeesMarked, TellsPackages, overtakes_by, overtakes_use, overtakes_words}
 use Rattle.proto_captures.proofs.FirstOnes.{none_passes, one_passes}
 use Rattle.proto_captures.proofs.Overtaken.{IsPackageIn, back, forth}
 use Rattle.proto_captures.proofs.PackagesSeen.{packages_are}
@@ -99,7 +99,7 @@ module _ (files : List FileOf) (reads : List ReadOf) (are : AreRead files reads)
         → (overtakes_by l marks packages own declared u y ≡ true → P x) × (P x → overtakes_by l marks packages own declared u y ≡ true)
     decided y same =
         let m = has_meaning in
-        let text : text_at l y.row ≡ Some (joined m.0) = ap (λ (z : TextMeant). z.text) same ∙ ap (option_map joined) m.1 in
+        let text : name_text l y.row ≡ Some (joined m.0) = ap (λ (z : TextMeant). z.text) same ∙ ap (option_map joined) m.1 in
         let is : overtakes_by l marks packages own declared u y ≡ (not q.is_absolute && answer m.0) = ap (λ o. overtakes_use l marks packages own declared u (or_nothing o)) text ∙ answer_is m.0 in (
           (λ h.
               let k = and_parts (not q.is_absolute) (answer m.0) (sym is ∙ h) in
@@ -111,7 +111,7 @@ module _ (files : List FileOf) (reads : List ReadOf) (are : AreRead files reads)
 
   -- the first of a file's list
   pub first_is : (declared : List Listed) (us : List Use) (ms : List Meant) → map (used_by (read declared)) us ≡ uses_of reads file → ms ≡ get_or l.meant file []
-      → (first : Option ℕ) → first ≡ first_of (overtakes_by l marks packages own declared) us ms → IsFirstOvertaken files reads v file first
+      → (first : Option ℕ) → first ≡ first_passing (overtakes_by l marks packages own declared) us ms → IsFirstOvertaken files reads v file first
   first_is declared us ms uses meant first h = by first (sym h)
     where
       means : map (meant_by_link l) ms ≡ map (meant_by_use files reads file) (map (used_by (read declared)) us)
@@ -124,7 +124,7 @@ module _ (files : List FileOf) (reads : List ReadOf) (are : AreRead files reads)
           → (overtakes_by l marks packages own declared u y ≡ true → P (used_by (read declared) u)) × (P (used_by (read declared) u) → overtakes_by l marks packages own declared u y ≡ true)
       each u cu = decided declared u (subst (λ (z : List (Used ℕ)). Contains z (used_by (read declared) u)) uses (contains_map (used_by (read declared)) us u cu))
 
-      by : (o : Option ℕ) → first_of (overtakes_by l marks packages own declared) us ms ≡ o → IsFirstOvertaken files reads v file o
+      by : (o : Option ℕ) → first_passing (overtakes_by l marks packages own declared) us ms ≡ o → IsFirstOvertaken files reads v file o
       by None k = λ u p. none_passes files reads l file P (overtakes_by l marks packages own declared) (used_by (read declared)) us ms means each k u (subst (λ (z : List (Used ℕ)). Contains z u) (sym uses) p.0) p
       by (Some token) k =
           let x = one_passes files reads l file P (overtakes_by l marks packages own declared) (used_by (read declared)) us ms token means rising each k in

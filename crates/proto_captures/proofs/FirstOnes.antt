@@ -6,36 +6,36 @@ use Rattle.proto_meaning.specs.Skeleton.{Used}
 use Rattle.proto_names.proofs.Common.{TextMeant, meant_by_link, meant_by_use, LinkOf}
 use Rattle.proto_listing.specs.declared.listing.Use.{Use}
 use Rattle.proto_names.specs.declared.references.Meant.{Meant}
-use Rattle.proto_captures.specs.FirstCaptured.{first_of}
+use Rattle.proto_captures.specs.FirstCaptured.{first_passing}
 
 -- what is left of a list begins with its next element
 pub front : {X : Type 0} (xs : List X) (i : ℕ) (x : X) → i < length xs → x ≡ get_or xs i x → drop i xs ≡ x ∷ drop (i + 1) xs
 front xs i x lt is = drop_more xs i x lt ∙ ap (λ (y : _). y ∷ drop (i + 1) xs) (sym is)
 
-none_left : (test : Use → Meant → Bool) (us : List Use) → first_of test us [] ≡ None
+none_left : (test : Use → Meant → Bool) (us : List Use) → first_passing test us [] ≡ None
 none_left test [] = refl
 none_left test (u ∷ us) = refl
 
-pub none_behind : (test : Use → Meant → Bool) (us : List Use) (ms : List Meant) (n : ℕ) → n ≡ min (length us) (length ms) → first_of test (drop n us) (drop n ms) ≡ None
+pub none_behind : (test : Use → Meant → Bool) (us : List Use) (ms : List Meant) (n : ℕ) → n ≡ min (length us) (length ms) → first_passing test (drop n us) (drop n ms) ≡ None
 none_behind test us ms n e = elim (cases_lt (length us) (length ms)) [
-  | inl l ↦ ap (λ z. first_of test z (drop n ms)) (drop_all n us (omega (arith, e, l)))
-  | inr l ↦ ap (first_of test (drop n us)) (drop_all n ms (omega (arith, e, l))) ∙ none_left test (drop n us)
+  | inl l ↦ ap (λ z. first_passing test z (drop n ms)) (drop_all n us (omega (arith, e, l)))
+  | inr l ↦ ap (first_passing test (drop n us)) (drop_all n ms (omega (arith, e, l))) ∙ none_left test (drop n us)
 ]
 
 module _ (test : Use → Meant → Bool) (us : List Use) (ms : List Meant) (n : ℕ) (u : Use) (m : Meant) (more_us : n < length us) (more_ms : n < length ms) (u_is : u ≡ get_or us n u) (m_is : m ≡ get_or ms n m) where
   -- the pair that is next
-  next_pair : first_of test (drop n us) (drop n ms) ≡ cond (test u m) (Some m.token) (first_of test (drop (n + 1) us) (drop (n + 1) ms))
+  next_pair : first_passing test (drop n us) (drop n ms) ≡ cond (test u m) (Some m.token) (first_passing test (drop (n + 1) us) (drop (n + 1) ms))
   next_pair =
-      ap (λ z. first_of test z (drop n ms)) (front us n u more_us u_is)
-      ∙ ap (first_of test (u ∷ drop (n + 1) us)) (front ms n m more_ms m_is)
+      ap (λ z. first_passing test z (drop n ms)) (front us n u more_us u_is)
+      ∙ ap (first_passing test (u ∷ drop (n + 1) us)) (front ms n m more_ms m_is)
 
-  pub passed_over : test u m ≡ false → (k : ℕ) → k ≡ n + 1 → first_of test (drop n us) (drop n ms) ≡ first_of test (drop k us) (drop k ms)
+  pub passed_over : test u m ≡ false → (k : ℕ) → k ≡ n + 1 → first_passing test (drop n us) (drop n ms) ≡ first_passing test (drop k us) (drop k ms)
   passed_over e k is =
-      next_pair ∙ cond-false (test u m) (Some m.token) (first_of test (drop (n + 1) us) (drop (n + 1) ms)) e
-      ∙ ap (λ j. first_of test (drop j us) (drop j ms)) (sym is)
+      next_pair ∙ cond-false (test u m) (Some m.token) (first_passing test (drop (n + 1) us) (drop (n + 1) ms)) e
+      ∙ ap (λ j. first_passing test (drop j us) (drop j ms)) (sym is)
 
-  pub stops_here : test u m ≡ true → first_of test (drop n us) (drop n ms) ≡ Some m.token
-  stops_here e = next_pair ∙ cond-true (test u m) (Some m.token) (first_of test (drop (n + 1) us) (drop (n + 1) ms)) e
+  pub stops_here : test u m ≡ true → first_passing test (drop n us) (drop n ms) ≡ Some m.token
+  stops_here e = next_pair ∙ cond-true (test u m) (Some m.token) (first_passing test (drop (n + 1) us) (drop (n + 1) ms)) e
 
 -- ---- where each is decided
 
@@ -58,7 +58,7 @@ module _ (files : List FileOf) (reads : List ReadOf) (l : LinkOf) (file : ℕ) (
       let e2 = token_is x.0 v x.2 in
       omega (arith, above, e1, e2)
 
-  pub none_passes : (us : List Use) (ms : List Meant) → map (meant_by_link l) ms ≡ map (meant_by_use files reads file) (map used us) → ((u : Use) → Contains us u → IsDecided u) → first_of test us ms ≡ None
+  pub none_passes : (us : List Use) (ms : List Meant) → map (meant_by_link l) ms ≡ map (meant_by_use files reads file) (map used us) → ((u : Use) → Contains us u → IsDecided u) → first_passing test us ms ≡ None
       → (v : Used ℕ) → Contains (map used us) v → P v → ⊥
   none_passes [] ms same decided h v cv pv = absurd (omega (arith, cv.1))
   none_passes (u ∷ us) [] same decided h v cv pv = absurd cc
@@ -67,10 +67,10 @@ module _ (files : List FileOf) (reads : List ReadOf) (l : LinkOf) (file : ℕ) (
       let tail : map (meant_by_link l) ms ≡ map (meant_by_use files reads file) (map used us) = cc in
       let d = decided u (contains_head u us) m head in
       elim (cases_Bool (test u m)) [
-        | inl t ↦ absurd (some_none (sym (cond-true (test u m) (Some m.token) (first_of test us ms) t) ∙ h))
+        | inl t ↦ absurd (some_none (sym (cond-true (test u m) (Some m.token) (first_passing test us ms) t) ∙ h))
         | inr f ↦ elim (contains_cases (used u) v (map used us) cv) [
           | inl e ↦ both_ways (test u m) f (d.1 (subst P (sym e) pv))
-          | inr c ↦ none_passes us ms tail (λ x cx. decided x (contains_later u x us cx)) (sym (cond-false (test u m) (Some m.token) (first_of test us ms) f) ∙ h) v c pv
+          | inr c ↦ none_passes us ms tail (λ x cx. decided x (contains_later u x us cx)) (sym (cond-false (test u m) (Some m.token) (first_passing test us ms) f) ∙ h) v c pv
         ]
       ]
     where
@@ -78,7 +78,7 @@ module _ (files : List FileOf) (reads : List ReadOf) (l : LinkOf) (file : ℕ) (
       some_none z = cc
 
   pub one_passes : (us : List Use) (ms : List Meant) (t : ℕ) → map (meant_by_link l) ms ≡ map (meant_by_use files reads file) (map used us) → AllPairs (λ a b. a.token < b.token) ms
-      → ((u : Use) → Contains us u → IsDecided u) → first_of test us ms ≡ Some t
+      → ((u : Use) → Contains us u → IsDecided u) → first_passing test us ms ≡ Some t
       → (u : Used ℕ) × Contains (map used us) u × P u × (u.first ≡ t) × ((v : Used ℕ) → Contains (map used us) v → v.first < t → P v → ⊥)
   one_passes [] ms t same rise decided h = absurd (none-some t h)
   one_passes (u ∷ us) [] t same rise decided h = absurd (none-some t h)
@@ -89,7 +89,7 @@ module _ (files : List FileOf) (reads : List ReadOf) (l : LinkOf) (file : ℕ) (
       let here = token_is m (used u) head in
       elim (cases_Bool (test u m)) [
         | inl hit ↦
-            let token : m.token ≡ t = same_Some m.token t (sym (cond-true (test u m) (Some m.token) (first_of test us ms) hit) ∙ h) in (
+            let token : m.token ≡ t = same_Some m.token t (sym (cond-true (test u m) (Some m.token) (first_passing test us ms) hit) ∙ h) in (
               used u,
               contains_head (used u) (map used us),
               d.0 hit,
@@ -100,7 +100,7 @@ module _ (files : List FileOf) (reads : List ReadOf) (l : LinkOf) (file : ℕ) (
               ],
             )
         | inr miss ↦
-            let r = one_passes us ms t tail (λ i j x a b. rise (suc i) (suc j) x (omega (arith, a)) (omega (arith, b))) (λ x cx. decided x (contains_later u x us cx)) (sym (cond-false (test u m) (Some m.token) (first_of test us ms) miss) ∙ h) in (
+            let r = one_passes us ms t tail (λ i j x a b. rise (suc i) (suc j) x (omega (arith, a)) (omega (arith, b))) (λ x cx. decided x (contains_later u x us cx)) (sym (cond-false (test u m) (Some m.token) (first_passing test us ms) miss) ∙ h) in (
               r.0,
               contains_later (used u) r.0 (map used us) r.1,
               r.2,

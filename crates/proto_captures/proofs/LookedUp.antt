@@ -4,7 +4,7 @@ use Rattle.std.proofs.lemmas.Option.{none-some, same_Some}
 use Rattle.proto_meaning.specs.declared.kind.Kind.{Kind}
 use Rattle.proto_meaning.specs.declared.kind.Kind.TheVariants.{Package, Message, Entry, Enum, Service, Field, EntryField, Oneof, Value, Method, Extension}
 use Rattle.proto_meaning.proofs.Common.{At, at, is_package}
-use Rattle.proto_names.specs.Linking.{LinkOf, NameOf, name_at, text_at}
+use Rattle.proto_names.specs.Linking.{LinkOf, NameOf, name_at, name_text}
 use Rattle.proto_rename_laws.specs.Targets.{may_rename}
 use Rattle.proto_captures.specs.Looked.{HasDeclared, HasUnmoved, IsEntryThere, first_place}
 
@@ -26,22 +26,22 @@ package_stays Method e = absurd cc
 package_stays Extension e = absurd cc
 
 -- a name with no place of its own is none that may be renamed
-pub unmoved : (l : LinkOf) (row : ℕ) (text : List ℕ) → text_at l row ≡ Some text → ((n : NameOf) → name_at l row ≡ Some n → is_package n.kind ≡ true) → HasUnmoved l text
+pub unmoved : (l : LinkOf) (row : ℕ) (text : List ℕ) → name_text l row ≡ Some text → ((n : NameOf) → name_at l row ≡ Some n → is_package n.kind ≡ true) → HasUnmoved l text
 unmoved l row text e none =
     let n = named_by (name_at l row) text e in
     record { row = row; found = n.0; is = n.1; text_is = n.2; kind_is = package_stays n.0.kind (none n.0 n.1) }
 
 -- the name of this text is the one that was found
 abbrev Once : LinkOf → Type 0
-Once l = (i j : ℕ) (text : List ℕ) → text_at l i ≡ Some text → text_at l j ≡ Some text → i ≡ j
+Once l = (i j : ℕ) (text : List ℕ) → name_text l i ≡ Some text → name_text l j ≡ Some text → i ≡ j
 
-one_found : (l : LinkOf) → Once l → (row : ℕ) (text : List ℕ) → text_at l row ≡ Some text → (n : NameOf) → name_at l row ≡ Some n → (kind : Kind) (place : At) (h : HasDeclared l text kind place) → h.found ≡ n
+one_found : (l : LinkOf) → Once l → (row : ℕ) (text : List ℕ) → name_text l row ≡ Some text → (n : NameOf) → name_at l row ≡ Some n → (kind : Kind) (place : At) (h : HasDeclared l text kind place) → h.found ≡ n
 one_found l once row text e n is kind place h =
-    let named : text_at l h.row ≡ Some text = ap (option_map (λ (z : NameOf). z.text)) h.is ∙ ap (λ (z : List ℕ). Some z) h.text_is in
+    let named : name_text l h.row ≡ Some text = ap (option_map (λ (z : NameOf). z.text)) h.is ∙ ap (λ (z : List ℕ). Some z) h.text_is in
     let same : h.row ≡ row = once h.row row text named e in
     same_Some h.found n (sym h.is ∙ ap (name_at l) same ∙ is)
 
-pub entry_found : (l : LinkOf) → Once l → (row : ℕ) (text : List ℕ) → text_at l row ≡ Some text → (kind : Kind) (its_file its_token file token : ℕ)
+pub entry_found : (l : LinkOf) → Once l → (row : ℕ) (text : List ℕ) → name_text l row ≡ Some text → (kind : Kind) (its_file its_token file token : ℕ)
     → ((n : NameOf) × (name_at l row ≡ Some n) × (n.kind ≡ kind) × (first_place n ≡ at its_file its_token))
     → (b : Bool) → IsTrue b ↔ IsEntryThere kind its_file its_token file token → IsTrue b ↔ HasDeclared l text Entry (at file token)
 entry_found l once row text e kind its_file its_token file token n b test = (
@@ -56,7 +56,7 @@ entry_found l once row text e kind its_file its_token file token n b test = (
       test.1 (sym n.2 ∙ sym (ap (λ (z : NameOf). z.kind) same) ∙ h.kind_is, ap (λ (z : At). z.file) place, ap (λ (z : At). z.token) place),
 )
 
-pub no_entry_found : (l : LinkOf) → Once l → (row : ℕ) (text : List ℕ) → text_at l row ≡ Some text → ((n : NameOf) → name_at l row ≡ Some n → is_package n.kind ≡ true) → (place : At) → HasDeclared l text Entry place → ⊥
+pub no_entry_found : (l : LinkOf) → Once l → (row : ℕ) (text : List ℕ) → name_text l row ≡ Some text → ((n : NameOf) → name_at l row ≡ Some n → is_package n.kind ≡ true) → (place : At) → HasDeclared l text Entry place → ⊥
 no_entry_found l once row text e none place h =
     let named = named_by (name_at l row) text e in
     let same : h.found ≡ named.0 = one_found l once row text e named.0 named.1 Entry place h in

@@ -1,8 +1,8 @@
 -- A collision is one of the new names.
 use Rattle.std.proofs.Common.{◌≡◌, ℕ, ◌<◌, Bool, true, false, ◌&&◌, ◌||◌, List, [], ◌∷◌, ◌++◌, length, Option, refl, sym, ◌∙◌, ap, subst, inl, inr, arith, append_assoc, length-append, Contains, bytes_eq}
 use Rattle.proto_faults.proofs.Common.{cond-true, cond-false, false_from_ne_true, same_from_word, word_from_same}
-use Rattle.proto_meaning.proofs.Common.{Renaming, Collides, in_domain, is_below, moves, moves_by, ren, turn_below, turned, turned_by, EntryFits, IsLinked, IsRenaming, Symbol, Workspace, below_split, front_of, moved}
-use Rattle.proto_captures.specs.Collisions.{IsTaken, IsNewNameTaken, CollisionsAreNewNames}
+use Rattle.proto_meaning.proofs.Common.{Renaming, Collides, in_domain, is_below, moves, moves_by, ren, turn_below, turned, turned_by, EntryFits, IsLinked, IsRenaming, Symbol, Workspace, below_split, front_or_same, moves_to}
+use Rattle.proto_captures.specs.Collisions.{IsTakenName, IsNewNameTaken, CollisionsAreNewNames}
 
 pub below_word : (ps : List (List ℕ)) (t : List ℕ → Bool) (v : List ℕ) (rest : List (List ℕ)) → is_below ps t (ps ++ v ∷ rest) ≡ t v
 below_word [] t v rest = refl
@@ -17,11 +17,11 @@ or_true true c h = refl
 or_true false c h = h
 
 -- a symbol at or below a name beside the target has that name taken
-taken : (e : Renaming) (w : Workspace) → IsLinked w → (t : Symbol) → Contains w.symbols t → in_domain e t.name ≡ false → (u : List ℕ) (rest : List (List ℕ)) → t.name ≡ e.parent ++ u ∷ rest → IsTaken e w (e.parent ++ u ∷ [])
+taken : (e : Renaming) (w : Workspace) → IsLinked w → (t : Symbol) → Contains w.symbols t → in_domain e t.name ≡ false → (u : List ℕ) (rest : List (List ℕ)) → t.name ≡ e.parent ++ u ∷ rest → IsTakenName e w (e.parent ++ u ∷ [])
 taken e w ok t ct out u rest named =
     let stays : in_domain e (e.parent ++ u ∷ []) ≡ false = below_word e.parent (moves e) u [] ∙ sym (below_word e.parent (moves e) u rest) ∙ ap (in_domain e) (sym named) ∙ out in
     let long : 0 < length (e.parent ++ u ∷ []) = omega (arith, length-append e.parent (u ∷ [])) in
-    elim (front_of w.symbols ok.nested (e.parent ++ u ∷ []) rest t ct (named ∙ sym (append_assoc e.parent (u ∷ []) rest)) long) [
+    elim (front_or_same w.symbols ok.nested (e.parent ++ u ∷ []) rest t ct (named ∙ sym (append_assoc e.parent (u ∷ []) rest)) long) [
       | inl none ↦ record { symbol = t; within = ct; name_is = named ∙ ap (λ (l : List (List ℕ)). e.parent ++ u ∷ l) none; stays = stays }
       | inr f ↦ record { symbol = f.it; within = f.within; name_is = f.name; stays = stays }
     ]
@@ -30,7 +30,7 @@ new_name_taken : (e : Renaming) (w : Workspace) → IsLinked w → Collides e w 
 new_name_taken e w ok (s, t, cs, ct, s_in, t_out, h) =
     let b = below_split e.parent (moves e) s.name s_in in
     let named : t.name ≡ e.parent ++ turned e b.0 ∷ b.1 = sym h ∙ ap (ren e) b.2 ∙ turn_word e.parent (turned e) b.0 b.1 in
-    elim (moved e b.0 b.3) [
+    elim (moves_to e b.0 b.3) [
       | inl a ↦ inl (taken e w ok t ct t_out e.new b.1 (named ∙ ap (λ (x : List ℕ). e.parent ++ x ∷ b.1) a.1))
       | inr a ↦ inr (a.0, a.1, taken e w ok t ct t_out a.0.1 b.1 (named ∙ ap (λ (x : List ℕ). e.parent ++ x ∷ b.1) a.3))
     ]

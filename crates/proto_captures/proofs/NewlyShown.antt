@@ -2,7 +2,7 @@
 use Rattle.std.proofs.Common.{◌≡◌, ◌≢◌, ℕ, ◌<◌, Bool, true, false, ◌&&◌, if◌then◌else◌, List, [], ◌∷◌, ◌++◌, length, Option, Some, None, refl, sym, ap, ap₂, subst, ◌∙◌, inl, inr, arith, length-append, Contains, bytes_eq}
 use Rattle.proto_faults.proofs.Common.{and_from, and_parts, both_ways, cases_Bool, cond-false, cond-true, false_from_ne_true, or_cases, or_left, or_right, none-some, same_Some, any_from, any_to, same_from_word, word_from_same}
 use Rattle.proto_meaning.specs.declared.kind.Kind.{Kind}
-use Rattle.proto_meaning.proofs.Common.{Renaming, Collides, is_below, moves, moves_by, ren, shows_mapped, target, turned, turned_by, IsLinked, EntryFits, IsRenaming, Symbol, Workspace, same_name, sees, shows, name_from_same, same_from_name, last_parts, turn_below-length, turn_below-more, moved, ren_apart, shown, split_last, stays}
+use Rattle.proto_meaning.proofs.Common.{Renaming, Collides, is_below, moves, moves_by, ren, shows_mapped, target, turned, turned_by, IsLinked, EntryFits, IsRenaming, Symbol, Workspace, same_name, sees, shows, name_from_same, same_from_name, last_parts, turn_below-length, turn_below-more, moves_to, ren_apart, shown, split_last, stays}
 use Rattle.proto_rename_laws.specs.Captures.{IsNewWord}
 use Rattle.proto_captures.specs.ShownAnew.{IsDeclaredName, ShownIsAnew, shows_anew, shows_beside, shows_entry}
 
@@ -75,7 +75,7 @@ module _ (e : Renaming) (w : Workspace) (ok : IsLinked w) (is : IsRenaming e w) 
     | inr stay ↦
         let same : v ≡ q = sym (stays e v stay) ∙ to in
         absurd (not_there s cs (name ∙ ap₂ (λ (x : List (List ℕ)) (y : List ℕ). x ++ y ∷ []) own same) (ap (moves e) (sym same) ∙ stay))
-    | inl m ↦ elim (moved e v m) [
+    | inl m ↦ elim (moves_to e v m) [
       | inl x ↦
           or_left (bytes_eq q e.new && shows w f good (target e)) (shows_entry w f good scope e.entry q)
           (and_from (bytes_eq q e.new) (shows w f good (target e)) (same_from_word q e.new (sym to ∙ x.1)) (is_shown s (target e) cs (name ∙ ap₂ (λ (x : List (List ℕ)) (y : List ℕ). x ++ y ∷ []) own x.0) seen))

@@ -3,11 +3,11 @@ use Rattle.std.proofs.Common.{◌≡◌, ◌↔◌, ℕ, zero, suc, ◌-◌, ◌
 use Rattle.proto_faults.proofs.Common.{and_from, and_parts, both_ways, cases_Bool, cond-false, cond-true, get_or_default, none-some, same_Some, any_from, word_from_same}
 use Rattle.proto_meaning.specs.declared.kind.Kind.{Kind}
 use Rattle.proto_meaning.specs.declared.kind.Kind.TheVariants.{Package}
-use Rattle.proto_meaning.proofs.Common.{IsOvertaken, ArePlain, IsPlain, below, joined, AreApart, is_package, MarksSeen, Reference, Symbol, Workspace, fits, front_at, hit, hits_at, meaning, meaning_at, same_name, sees, shows, typed, same_from_name, joined_apart, hit_relative, package_from, one_symbol, shown}
+use Rattle.proto_meaning.proofs.Common.{IsOvertaken, ArePlain, IsPlain, below, joined, AreApart, is_package, MarksSeen, Reference, Symbol, Workspace, fits_at_first, front_at, hit, hits_at, meaning, meaning_at, same_name, sees, shows, typed, same_from_name, joined_apart, hit_relative, package_from, one_symbol, shown}
 use Rattle.proto_imports.proofs.PlainNames.{plain_join}
-use Rattle.proto_names.proofs.Common.{HoldsNames, LinkOf, NameOf, name_at, text_at}
+use Rattle.proto_names.proofs.Common.{HoldsNames, LinkOf, NameOf, name_at, name_text}
 use Rattle.proto_rename_laws.proofs.PlacesSuit.{meaning_parts}
-use Rattle.proto_captures.specs.Common.{bytes_before, is_cons, shown_from, fits_seen, is_marked, is_seen, overtakes_words, sees_text, first_fits}
+use Rattle.proto_captures.specs.Common.{bytes_before, is_cons, shown_from, fits_seen, is_marked, sees_name, overtakes_words, sees_text, first_fits}
 use Rattle.proto_captures.proofs.ByTexts.{below_is, named_at}
 use Rattle.proto_captures.proofs.CapturedWords.{plain_take, taken}
 use Rattle.proto_captures.proofs.FrontLengths.{before_first, deeper, not_deeper, scan_from, scan_to}
@@ -38,7 +38,7 @@ IsPackageIn w marks text = (s : Symbol) × Contains w.symbols s × (s.kind ≡ P
 
 module _ (w v : Workspace) (l : LinkOf) (file : ℕ) (marks : List Bool) (packages : List ℕ → Bool) (names : HoldsNames w l) (unique : AllPairs AreApart w.symbols)
     (same : v.symbols ≡ w.symbols) (seen : MarksSeen v file marks) (tells : (text : List ℕ) → (packages text ≡ true) ↔ IsPackageIn w marks text) where
-  one_text : (i j : ℕ) (t : List ℕ) → text_at l i ≡ Some t → text_at l j ≡ Some t → i ≡ j
+  one_text : (i j : ℕ) (t : List ℕ) → name_text l i ≡ Some t → name_text l j ≡ Some t → i ≡ j
   one_text i j t h k =
       let m = named_at l i t h in
       let n = named_at l j t k in
@@ -46,7 +46,7 @@ module _ (w v : Workspace) (l : LinkOf) (file : ℕ) (marks : List Bool) (packag
 
   name_found : (row : ℕ) (n : NameOf) (text : List ℕ) → name_at l row ≡ Some n → n.text ≡ text → find (λ n. bytes_eq n.text text) l.names ≡ Some n
   name_found row n text h e =
-      let there : text_at l row ≡ Some text = ap (option_map (λ n. n.text)) h ∙ ap Some e in
+      let there : name_text l row ≡ Some text = ap (option_map (λ n. n.text)) h ∙ ap Some e in
       found_at l.names text row there (λ i k. one_text i row text k there) ∙ h
 
   seen_if : (g : ℕ) → is_marked marks g ≡ sees v file g
@@ -66,7 +66,7 @@ module _ (w v : Workspace) (l : LinkOf) (file : ℕ) (marks : List Bool) (packag
         (and_from (same_name s.name x) (good s.kind && sees v file s.file) (same_from_name s.name x name)
         (and_from (good s.kind) (sees v file s.file) fine (sym (seen_if s.file) ∙ marked)))
 
-    forth_name : (row : ℕ) (n : NameOf) → name_at l row ≡ Some n → n.text ≡ joined x → good n.kind ≡ true → is_seen marks packages n ≡ true → shows v file good x ≡ true
+    forth_name : (row : ℕ) (n : NameOf) → name_at l row ≡ Some n → n.text ≡ joined x → good n.kind ≡ true → sees_name marks packages n ≡ true → shows v file good x ≡ true
     forth_name row n h text fine is = elim (cases_Bool (is_package n.kind)) [
       | inl p ↦
           let t = (tells n.text).0 (sym (cond-true (is_package n.kind) (packages n.text) (is_marked marks (get_or n.files 0 0)) p) ∙ is) in
@@ -81,10 +81,10 @@ module _ (w v : Workspace) (l : LinkOf) (file : ℕ) (marks : List Bool) (packag
     forth_found None e h = absurd (both_ways false refl h)
     forth_found (Some n) e h =
         let r = found_some l.names (joined x) n e in
-        let t = and_parts (good n.kind) (is_seen marks packages n) h in
+        let t = and_parts (good n.kind) (sees_name marks packages n) h in
         forth_name r.0 n r.1 r.2 t.0 t.1
 
-    back_name : (s : Symbol) → Contains w.symbols s → sees v file s.file ≡ true → (row : ℕ) (n : NameOf) → name_at l row ≡ Some n → n.text ≡ joined s.name → n.kind ≡ s.kind → is_seen marks packages n ≡ true
+    back_name : (s : Symbol) → Contains w.symbols s → sees v file s.file ≡ true → (row : ℕ) (n : NameOf) → name_at l row ≡ Some n → n.text ≡ joined s.name → n.kind ≡ s.kind → sees_name marks packages n ≡ true
     back_name s c see row n h text kind = elim (cases_Bool (is_package n.kind)) [
       | inl p ↦
           cond-true (is_package n.kind) (packages n.text) (is_marked marks (get_or n.files 0 0)) p
@@ -109,7 +109,7 @@ module _ (w v : Workspace) (l : LinkOf) (file : ℕ) (marks : List Bool) (packag
             let n = names.there s.0 c in
             let text : n.1.text ≡ joined x = n.3 ∙ ap joined s.2 in
             ap (fits_seen marks packages is_long) (name_found n.0 n.1 (joined x) n.2 text)
-            ∙ and_from (good n.1.kind) (is_seen marks packages n.1) (ap good n.4 ∙ s.3) (back_name s.0 c s.4 n.0 n.1 n.2 n.3 n.4)
+            ∙ and_from (good n.1.kind) (sees_name marks packages n.1) (ap good n.4 ∙ s.3) (back_name s.0 c s.4 n.0 n.1 n.2 n.3 n.4)
 
   module _ (r : Reference) (own : r.file ≡ file) (scope_plain : ArePlain r.scope) (p : List ℕ) (rest : List (List ℕ)) (words : r.words ≡ p ∷ rest) (word_plain : IsPlain p)
       (m : List (List ℕ)) (means : meaning w r ≡ Some m) where
@@ -123,12 +123,12 @@ module _ (w v : Workspace) (l : LinkOf) (file : ℕ) (marks : List Bool) (packag
         by None h x = absurd (none-some m (sym (cond-false r.is_absolute (typed w r.file r.words) None relative) ∙ x))
         by (Some k) h x = (k, h)
 
-    fitting : (x : List (List ℕ)) → shows v file (first_fits (is_cons rest)) x ≡ shows v file (fits r.words) x
+    fitting : (x : List (List ℕ)) → shows v file (first_fits (is_cons rest)) x ≡ shows v file (fits_at_first r.words) x
     fitting x = by rest words
       where
-        by : (ws : List (List ℕ)) → r.words ≡ p ∷ ws → shows v file (first_fits (is_cons ws)) x ≡ shows v file (fits r.words) x
-        by [] h = ap (λ z. shows v file (fits z) x) (sym h)
-        by (u ∷ ws) h = ap (λ z. shows v file (fits z) x) (sym h)
+        by : (ws : List (List ℕ)) → r.words ≡ p ∷ ws → shows v file (first_fits (is_cons ws)) x ≡ shows v file (fits_at_first r.words) x
+        by [] h = ap (λ z. shows v file (fits_at_first z) x) (sym h)
+        by (u ∷ ws) h = ap (λ z. shows v file (fits_at_first z) x) (sym h)
 
     -- what is seen in a front, by texts and by names
     seen_in : (j : ℕ) → 0 < j → j ≤ length r.scope → test (joined (take j r.scope)) ≡ hits_at v r j
@@ -136,8 +136,8 @@ module _ (w v : Workspace) (l : LinkOf) (file : ℕ) (marks : List Bool) (packag
         ap (sees_text l marks packages (is_cons rest)) (below_is (take j r.scope) p (taken r.scope j some inside))
         ∙ seen_is (is_cons rest) (take j r.scope ++ p ∷ []) (plain_join (take j r.scope) p (plain_take r.scope j scope_plain) word_plain)
         ∙ fitting (take j r.scope ++ p ∷ [])
-        ∙ ap (λ z. shows v file (fits r.words) (take j r.scope ++ take 1 z)) (sym words)
-        ∙ ap (λ z. shows v z (fits r.words) (take j r.scope ++ take 1 r.words)) (sym own)
+        ∙ ap (λ z. shows v file (fits_at_first r.words) (take j r.scope ++ take 1 z)) (sym words)
+        ∙ ap (λ z. shows v z (fits_at_first r.words) (take j r.scope ++ take 1 r.words)) (sym own)
 
     module _ (k : ℕ) (at : hit w r ≡ Some k) where
       within : k ≤ length r.scope

@@ -3,15 +3,15 @@ use Rattle.std.proofs.Common.{◌≡◌, ◌≢◌, ℕ, Bool, true, false, ◌&
 use Rattle.proto_faults.proofs.Common.{cases_Bool, cond-false, cond-true, none-some, same_Some}
 use Rattle.proto_meaning.specs.declared.kind.Kind.{Kind}
 use Rattle.proto_meaning.specs.Linked.{is_package}
-use Rattle.proto_names.specs.Linking.{LinkOf, NameOf, file_at, name_at, own_file, text_at}
-use Rattle.proto_captures.specs.Common.{fits_seen, is_marked, is_seen, sees_text, first_fits}
+use Rattle.proto_names.specs.Linking.{LinkOf, NameOf, declaring_file, name_at, own_file, name_text}
+use Rattle.proto_captures.specs.Common.{fits_seen, is_marked, sees_name, sees_text, first_fits}
 use Rattle.proto_captures.proofs.KindNamed.{found_at, found_none}
 
 module _ (l : LinkOf) (marks : List Bool) (packages : List ℕ → Bool) (is_long : Bool) (text : List ℕ) where
-  pub sees_none : ((row : ℕ) → text_at l row ≢ Some text) → false ≡ sees_text l marks packages is_long text
+  pub sees_none : ((row : ℕ) → name_text l row ≢ Some text) → false ≡ sees_text l marks packages is_long text
   sees_none none = ap (fits_seen marks packages is_long) (sym (found_none l.names text none))
 
-  module _ (row : ℕ) (there : text_at l row ≡ Some text) (once : (i j : ℕ) (t : List ℕ) → text_at l i ≡ Some t → text_at l j ≡ Some t → i ≡ j) where
+  module _ (row : ℕ) (there : name_text l row ≡ Some text) (once : (i j : ℕ) (t : List ℕ) → name_text l i ≡ Some t → name_text l j ≡ Some t → i ≡ j) where
     sees_row : sees_text l marks packages is_long text ≡ fits_seen marks packages is_long (name_at l row)
     sees_row = ap (fits_seen marks packages is_long) (found_at l.names text row there (λ i e. once i row text e there))
 
@@ -29,22 +29,22 @@ module _ (l : LinkOf) (marks : List Bool) (packages : List ℕ → Bool) (is_lon
     kind_is : (k : Kind) → option_map (λ n. n.kind) (name_at l row) ≡ Some k → name.kind ≡ k
     kind_is k h = same_Some name.kind k (ap (option_map (λ n. n.kind)) (sym named.1) ∙ h)
 
-    is : sees_text l marks packages is_long text ≡ (first_fits is_long name.kind && is_seen marks packages name)
+    is : sees_text l marks packages is_long text ≡ (first_fits is_long name.kind && sees_name marks packages name)
     is = sees_row ∙ ap (fits_seen marks packages is_long) named.1
 
     pub no_kind : option_map (λ n. n.kind) (name_at l row) ≡ None → false ≡ sees_text l marks packages is_long text
     no_kind h = absurd (none-some name.kind (sym h ∙ ap (option_map (λ n. n.kind)) named.1))
 
     pub unfit : (k : Kind) → option_map (λ n. n.kind) (name_at l row) ≡ Some k → first_fits is_long k ≡ false → false ≡ sees_text l marks packages is_long text
-    unfit k h bad = sym (is ∙ ap (λ b. b && is_seen marks packages name) (ap (first_fits is_long) (kind_is k h) ∙ bad))
+    unfit k h bad = sym (is ∙ ap (λ b. b && sees_name marks packages name) (ap (first_fits is_long) (kind_is k h) ∙ bad))
 
-    fit : (k : Kind) → option_map (λ n. n.kind) (name_at l row) ≡ Some k → first_fits is_long k ≡ true → sees_text l marks packages is_long text ≡ is_seen marks packages name
-    fit k h good = is ∙ ap (λ b. b && is_seen marks packages name) (ap (first_fits is_long) (kind_is k h) ∙ good)
+    fit : (k : Kind) → option_map (λ n. n.kind) (name_at l row) ≡ Some k → first_fits is_long k ≡ true → sees_text l marks packages is_long text ≡ sees_name marks packages name
+    fit k h good = is ∙ ap (λ b. b && sees_name marks packages name) (ap (first_fits is_long) (kind_is k h) ∙ good)
 
-    own_is : file_at l row ≡ own_file name
+    own_is : declaring_file l row ≡ own_file name
     own_is = ap (option_and_then own_file) named.1
 
-    pub of_file : (k : Kind) → option_map (λ n. n.kind) (name_at l row) ≡ Some k → first_fits is_long k ≡ true → (f : ℕ) → file_at l row ≡ Some f → is_marked marks f ≡ sees_text l marks packages is_long text
+    pub of_file : (k : Kind) → option_map (λ n. n.kind) (name_at l row) ≡ Some k → first_fits is_long k ≡ true → (f : ℕ) → declaring_file l row ≡ Some f → is_marked marks f ≡ sees_text l marks packages is_long text
     of_file k h good f own = elim (cases_Bool (is_package name.kind)) [
       | inl p ↦ absurd (none-some f (sym (cond-true (is_package name.kind) None (Some (get_or name.files 0 0)) p) ∙ sym own_is ∙ own))
       | inr p ↦
@@ -52,7 +52,7 @@ module _ (l : LinkOf) (marks : List Bool) (packages : List ℕ → Bool) (is_lon
           sym (fit k h good ∙ cond-false (is_package name.kind) (packages name.text) (is_marked marks (get_or name.files 0 0)) p ∙ ap (is_marked marks) first)
     ]
 
-    pub of_package : (k : Kind) → option_map (λ n. n.kind) (name_at l row) ≡ Some k → first_fits is_long k ≡ true → file_at l row ≡ None → packages text ≡ sees_text l marks packages is_long text
+    pub of_package : (k : Kind) → option_map (λ n. n.kind) (name_at l row) ≡ Some k → first_fits is_long k ≡ true → declaring_file l row ≡ None → packages text ≡ sees_text l marks packages is_long text
     of_package k h good own = elim (cases_Bool (is_package name.kind)) [
       | inl p ↦ sym (fit k h good ∙ cond-true (is_package name.kind) (packages name.text) (is_marked marks (get_or name.files 0 0)) p ∙ ap packages named.2)
       | inr p ↦ absurd (none-some (get_or name.files 0 0) (sym own ∙ own_is ∙ cond-false (is_package name.kind) None (Some (get_or name.files 0 0)) p))

@@ -12,7 +12,7 @@ use Rattle.proto_imports.proofs.Common.{LinkFaults, link_skeleton, names_of_file
 use Rattle.proto_names.proofs.Common.{IsLinkRead, LinkOf, NameOf, name_at}
 use Rattle.proto_rename_laws.proofs.Common.{Target, IsNamed, may_rename, name_map, files_are_linked}
 use Rattle.proto_captures.specs.Common.{IsAimedAt, Aim, HasText}
-use Rattle.proto_captures.specs.Collisions.{IsNewNameTaken, IsOneTaken, IsTaken, IsTakenText, is_freed}
+use Rattle.proto_captures.specs.Collisions.{IsNewNameTaken, IsOneTaken, IsTakenName, IsTakenText, is_freed}
 use Rattle.proto_captures.proofs.Aimed.{may_not_package, spelled, symbol_at}
 use Rattle.proto_captures.proofs.LookedUp.{named_by}
 use Rattle.proto_captures.proofs.JoinedNames.{joined_last, lead, plain_parts, word_is_plain}
@@ -85,10 +85,10 @@ module _ (files : List FileOf) (reads : List ReadOf) (r : AreRead files reads) (
     freed_is false v = below_word (name_of (text_of files reads) entry_name t.above) (moves (renaming_of (text_of files reads) entry_name t.token t.above false to)) v []
 
     taken_forth : (b : Bool) (v : List ℕ) → IsPlain v → IsTakenText l front (text_of files reads t.token) (if b then Some (entry_name (text_of files reads t.token)) else None) v
-        → IsTaken (renaming_of (text_of files reads) entry_name t.token t.above b to) (names_of_files files reads) (name_of (text_of files reads) entry_name t.above ++ v ∷ [])
+        → IsTakenName (renaming_of (text_of files reads) entry_name t.token t.above b to) (names_of_files files reads) (name_of (text_of files reads) entry_name t.above ++ v ∷ [])
     taken_forth b v p h = let s = symbol_from v p h.1 in record { symbol = s.0; within = s.1; name_is = s.2; stays = freed_is b v ∙ h.0 }
 
-    taken_back : (b : Bool) (v : List ℕ) → IsTaken (renaming_of (text_of files reads) entry_name t.token t.above b to) (names_of_files files reads) (name_of (text_of files reads) entry_name t.above ++ v ∷ [])
+    taken_back : (b : Bool) (v : List ℕ) → IsTakenName (renaming_of (text_of files reads) entry_name t.token t.above b to) (names_of_files files reads) (name_of (text_of files reads) entry_name t.above ++ v ∷ [])
         → IsTakenText l front (text_of files reads t.token) (if b then Some (entry_name (text_of files reads t.token)) else None) v
     taken_back b v k = (sym (freed_is b v) ∙ k.stays, symbol_to v k.symbol k.within k.name_is)
 
@@ -106,7 +106,7 @@ module _ (files : List FileOf) (reads : List ReadOf) (r : AreRead files reads) (
       one_back true (inl k) = inl (taken_back true to k)
       one_back true (inr (p, eo, k)) =
           let same : entry_name to ≡ p.1 = ap (λ (z : List ℕ × List ℕ). z.1) (same_Some (entry_name (text_of files reads t.token), entry_name to) p eo) in
-          inr (taken_back true (entry_name to) (subst (λ (z : List ℕ). IsTaken (renaming_of (text_of files reads) entry_name t.token t.above true to) (names_of_files files reads) (name_of (text_of files reads) entry_name t.above ++ z ∷ [])) (sym same) k))
+          inr (taken_back true (entry_name to) (subst (λ (z : List ℕ). IsTakenName (renaming_of (text_of files reads) entry_name t.token t.above true to) (names_of_files files reads) (name_of (text_of files reads) entry_name t.above ++ z ∷ [])) (sym same) k))
 
       pub collides_by_text : IsOneTaken l front (text_of files reads t.token) (if t.is_map then Some (entry_name (text_of files reads t.token)) else None) to (if t.is_map then Some (entry_name to) else None)
           ↔ Collides (name_map files reads t to) (names_of_files files reads)

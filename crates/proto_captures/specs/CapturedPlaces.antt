@@ -9,13 +9,13 @@ use Rattle.proto_entries.specs.declared.refusal.Refusal.{Refusal}
 use Rattle.proto_entries.specs.declared.refusal.Refusal.TheVariants.{Captured}
 
 -- the place of the refusal: the path of the file, and where the token begins
-abbrev pub StandsAtToken : List FileOf → ℕ → ℕ → Path → ℕ → Type 0
-StandsAtToken files file token path offset = (path ≡ (file_at files file).path)
+abbrev pub RefusalStandsAtToken : List FileOf → ℕ → ℕ → Path → ℕ → Type 0
+RefusalStandsAtToken files file token path offset = (path ≡ (file_at files file).path)
     × ((tokens : List Token) → AreTokens (file_at files file).bytes tokens
     → offset ≡ offset_at tokens token)
 
 -- the refusal is of a captured reference, and has the place of this token
 abbrev pub IsCapturedPlace : List FileOf → ℕ → ℕ → Refusal → Type 0
 IsCapturedPlace files file token (Captured path offset) =
-    StandsAtToken files file token (string_bytes path) offset
+    RefusalStandsAtToken files file token (string_bytes path) offset
 IsCapturedPlace files file token _ = ⊥

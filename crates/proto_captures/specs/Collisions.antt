@@ -10,7 +10,7 @@ use Rattle.proto_names.specs.Linking.{LinkOf}
 use Rattle.proto_captures.specs.Looked.{HasText}
 
 -- a symbol that keeps its name has this one
-pub record IsTaken (e : Renaming) (w : Workspace) (name : List Text) : Type 0 where
+pub record IsTakenName (e : Renaming) (w : Workspace) (name : List Text) : Type 0 where
   pub symbol : Symbol
   pub within : Contains w.symbols symbol
   pub name_is : symbol.name ≡ name
@@ -18,8 +18,8 @@ pub record IsTaken (e : Renaming) (w : Workspace) (name : List Text) : Type 0 wh
 
 -- the new name is taken, or that of the new entry
 abbrev pub IsNewNameTaken : Renaming → Workspace → Type 0
-IsNewNameTaken e w = IsTaken e w (e.parent ++ e.new ∷ [])
-    ⊎ ((p : Text × Text) × (e.entry ≡ Some p) × IsTaken e w (e.parent ++ p.1 ∷ []))
+IsNewNameTaken e w = IsTakenName e w (e.parent ++ e.new ∷ [])
+    ⊎ ((p : Text × Text) × (e.entry ≡ Some p) × IsTakenName e w (e.parent ++ p.1 ∷ []))
 
 -- In linked files a rename collides exactly where one of these is taken:
 -- what stands below stands in them.
@@ -32,13 +32,13 @@ CollisionsAreNewNames = (e : Renaming) (w : Workspace)
 -- ---- as texts
 
 -- the text is there, and is the word
-abbrev pub is_text : Option Text → Text → Bool
-is_text None word = false
-is_text (Some text) word = bytes_eq word text
+abbrev pub is_this_word : Option Text → Text → Bool
+is_this_word None word = false
+is_this_word (Some text) word = bytes_eq word text
 
 -- the word is freed: that of the target, or of its old entry
 abbrev pub is_freed : Text → Option Text → Text → Bool
-is_freed own entry word = bytes_eq word own || is_text entry word
+is_freed own entry word = bytes_eq word own || is_this_word entry word
 
 -- a name that is not freed has this text: a front, and a word behind it
 abbrev pub IsTakenText : LinkOf → Text → Text → Option Text → Text → Type 0

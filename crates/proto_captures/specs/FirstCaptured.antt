@@ -14,7 +14,7 @@ use Rattle.proto_meaning.specs.Joined.{IsPlain, joined}
 use Rattle.proto_meaning.specs.Edits.{target}
 use Rattle.proto_meaning.specs.Skeleton.{Used}
 use Rattle.proto_imports.specs.Links.{uses_of}
-use Rattle.proto_names.specs.Linking.{LinkOf, text_at}
+use Rattle.proto_names.specs.Linking.{LinkOf, name_text}
 use Rattle.proto_names.specs.declared.link.RefId.{RefId}
 use Rattle.proto_names.specs.declared.references.Meant.{Meant}
 use Rattle.proto_rename_laws.specs.Cases.{Captures, StandsBefore}
@@ -61,10 +61,10 @@ AreNewNames files reads t to n = n ≡ texts_by (joined (target (name_map files 
 -- of a reference, by what the link says that it means
 abbrev pub captures_by : LinkOf → ℕ → NewTexts → (ℕ → Text) → List Listed → Use → Meant → Bool
 captures_by l file n text declared u m =
-    captures_use l file n text declared u (or_nothing (text_at l m.row))
+    captures_use l file n text declared u (or_nothing (name_text l m.row))
 
 -- the token of the first that passes
-abbrev pub first_of : (Use → Meant → Bool) → List Use → List Meant → Option ℕ
-first_of test [] ms = None
-first_of test (u ∷ us) [] = None
-first_of test (u ∷ us) (m ∷ ms) = if test u m then Some m.token else first_of test us ms
+abbrev pub first_passing : (Use → Meant → Bool) → List Use → List Meant → Option ℕ
+first_passing test [] ms = None
+first_passing test (u ∷ us) [] = None
+first_passing test (u ∷ us) (m ∷ ms) = if test u m then Some m.token else first_passing test us ms

@@ -4,7 +4,7 @@ use Rattle.proto_faults.specs.Texts.{Text}
 use Rattle.proto_meaning.specs.Grown.{At, at}
 use Rattle.proto_meaning.specs.declared.kind.Kind.{Kind}
 use Rattle.proto_meaning.specs.declared.kind.Kind.TheVariants.{Entry}
-use Rattle.proto_names.specs.Linking.{LinkOf, NameOf, name_at, text_at}
+use Rattle.proto_names.specs.Linking.{LinkOf, NameOf, name_at, name_text}
 use Rattle.proto_rename_laws.specs.Targets.{may_rename}
 use Rattle.proto_captures.specs.declared.aim.NoTarget.{NoTarget}
 use Rattle.proto_captures.specs.declared.aim.NoTarget.TheVariants.{Unknown, NotAllowed, NoMemory}
@@ -24,7 +24,7 @@ pub record HasDeclared (l : LinkOf) (text : Text) (kind : Kind) (place : At) : T
 
 -- some name has the text
 abbrev pub HasText : LinkOf → Text → Type 0
-HasText l text = (row : ℕ) × (text_at l row ≡ Some text)
+HasText l text = (row : ℕ) × (name_text l row ≡ Some text)
 
 -- the name is of a kind that may not be renamed
 pub record HasUnmoved (l : LinkOf) (text : Text) : Type 0 where
@@ -36,7 +36,7 @@ pub record HasUnmoved (l : LinkOf) (text : Text) : Type 0 where
 
 -- why a link has no declaration of this name that may be renamed
 abbrev pub IsNotDeclared : LinkOf → Text → NoTarget → Type 0
-IsNotDeclared l name Unknown = (row : ℕ) → text_at l row ≢ Some name
+IsNotDeclared l name Unknown = (row : ℕ) → name_text l row ≢ Some name
 IsNotDeclared l name NotAllowed = HasUnmoved l name
 IsNotDeclared l name NoMemory = Unit {0}
 

@@ -14,7 +14,7 @@ use Rattle.proto_names.specs.LinkOfFiles.{IsLinkOf}
 use Rattle.proto_names.specs.Linking.{LinkOf}
 use Rattle.proto_names.specs.declared.references.Meant.{Meant}
 use Rattle.proto_text.specs.Texts.{words}
-use Rattle.proto_captures.specs.FirstCaptured.{first_of}
+use Rattle.proto_captures.specs.FirstCaptured.{first_passing}
 use Rattle.proto_captures.specs.Overtaking.{IsFirstOvertaken, SeesMarked, TellsPackages, overtakes_by}
 
 -- In linked files the first reference that the texts tell as overtaken, where a file sees marked
@@ -34,7 +34,7 @@ FirstsAreOvertaken = (files : List FileOf) (reads : List ReadOf)
     → map (used_by (read declared)) us ≡ uses_of reads file
     → ms ≡ get_or l.meant file []
     → (first : Option ℕ)
-    → first ≡ first_of
+    → first ≡ first_passing
     (overtakes_by l marks packages (words (file_at files file).bytes (read_at reads file).tokens)
     declared) us ms
     → IsFirstOvertaken files reads v file first

@@ -21,7 +21,7 @@ use Rattle.proto_meaning.specs.Names.{Workspace}
 use Rattle.proto_meaning.specs.Skeleton.{Used, name_of}
 use Rattle.proto_meaning.specs.Tree.{package_of}
 use Rattle.proto_imports.specs.Links.{uses_of}
-use Rattle.proto_names.specs.Linking.{LinkOf, NameOf, text_at}
+use Rattle.proto_names.specs.Linking.{LinkOf, NameOf, name_text}
 use Rattle.proto_names.specs.declared.references.Meant.{Meant}
 use Rattle.proto_imports.specs.Links.{used_named}
 use Rattle.proto_captures.specs.Capturing.{bytes_before, is_cons, shown_from}
@@ -82,14 +82,14 @@ TellsPackages files marks packages = (reads : List ReadOf)
     → (packages text ≡ true) ↔ IsPackageSeen files reads marks text
 
 -- the name's file is marked, or it is a package that is seen
-abbrev pub is_seen : List Bool → (Text → Bool) → NameOf → Bool
-is_seen marks packages n =
+abbrev pub sees_name : List Bool → (Text → Bool) → NameOf → Bool
+sees_name marks packages n =
     if is_package n.kind then packages n.text else is_marked marks (get_or n.files 0 0)
 
 -- whether a name is there, of a kind that fits a first word, and is seen
 abbrev pub fits_seen : List Bool → (Text → Bool) → Bool → Option NameOf → Bool
 fits_seen marks packages is_long None = false
-fits_seen marks packages is_long (Some n) = first_fits is_long n.kind && is_seen marks packages n
+fits_seen marks packages is_long (Some n) = first_fits is_long n.kind && sees_name marks packages n
 
 -- a name with this text fits, and is seen
 abbrev pub sees_text : LinkOf → List Bool → (Text → Bool) → Bool → Text → Bool
@@ -115,4 +115,4 @@ overtakes_use l marks packages text declared u meaning = not (is_some u.referenc
 abbrev pub overtakes_by : LinkOf → List Bool → (Text → Bool) → (ℕ → Text) → List Listed → Use
     → Meant → Bool
 overtakes_by l marks packages text declared u m =
-    overtakes_use l marks packages text declared u (or_nothing (text_at l m.row))
+    overtakes_use l marks packages text declared u (or_nothing (name_text l m.row))

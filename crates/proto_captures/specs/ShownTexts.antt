@@ -24,13 +24,13 @@ kind_fits is_long None = false
 kind_fits is_long (Some k) = first_fits is_long k
 
 -- a name with this text fits, and is visible from the file
-abbrev pub shows_text : LinkOf → ℕ → Bool → Text → Bool
-shows_text l file is_long text = kind_fits is_long (kind_named l text) && is_visible l file text
+abbrev pub shows_fitting : LinkOf → ℕ → Bool → Text → Bool
+shows_fitting l file is_long text = kind_fits is_long (kind_named l text) && is_visible l file text
 
 -- a map field's entry under its new name
 abbrev pub entry_shown : LinkOf → ℕ → Bool → Text × Text → Text → Text → Bool
 entry_shown l file is_long p scope word =
-    bytes_eq word p.1 && shows_text l file is_long (below scope p.0)
+    bytes_eq word p.1 && shows_fitting l file is_long (below scope p.0)
 
 -- the same, if there is an entry
 abbrev pub entry_shown_if : LinkOf → ℕ → Bool → Option (Text × Text) → Text → Text → Bool
@@ -40,7 +40,7 @@ entry_shown_if l file is_long (Some p) scope word = entry_shown l file is_long p
 -- the target, or its entry, under its new name
 abbrev pub shown_beside : LinkOf → ℕ → Bool → NewTexts → Text → Text → Bool
 shown_beside l file is_long n scope word =
-    (bytes_eq word n.new && shows_text l file is_long n.target)
+    (bytes_eq word n.new && shows_fitting l file is_long n.target)
     || entry_shown_if l file is_long n.entry scope word
 
 -- below the target's parent the target or its entry, elsewhere what has the name now
@@ -48,4 +48,4 @@ abbrev pub shown_below : LinkOf → ℕ → Bool → NewTexts → Text → Text 
 shown_below l file is_long n scope word =
     if bytes_eq (below scope n.old) n.target
     then shown_beside l file is_long n scope word
-    else shows_text l file is_long (below scope word)
+    else shows_fitting l file is_long (below scope word)

@@ -104,7 +104,7 @@ fn has_entry(alloc: Global, files: &Files, link: &Link, aim: Aim) -> Result<bool
 }
 
 /// The declaration of this name in a link; it is not yet asked whether it is a map field.
-fn declared<'a>(link: &Link, name: &'a str) -> Result<Aim<'a>, NoTarget>
+fn declared_aim<'a>(link: &Link, name: &'a str) -> Result<Aim<'a>, NoTarget>
     ensures ok { IfOk result (λ aim.
         HasDeclared link.now aim.name.now aim.kind (at aim.file aim.token)) }
     ensures named { IfOk result (λ aim. aim.name.now ≡ name.entry.now) }
@@ -148,7 +148,7 @@ pub fn target<'a>(
     ensures err { IfErr result (IsNoTarget files.now name.entry.now) }
 {
     are_read(files);
-    let found = declared(link, name)?;
+    let found = declared_aim(link, name)?;
     let is_map = has_entry(alloc, files, link, found)?;
     Ok(Aim { is_map, ..found })
 }

@@ -9,7 +9,7 @@ ghost use Rattle.proto_captures.specs.ShownTexts.{shown_below};
 ghost use Rattle.proto_listing.specs.Listing.{needs};
 ghost use Rattle.proto_listing.specs.declared.listing.Listed.{Listed as ListedOf};
 ghost use Rattle.proto_meaning.specs.Forest.{under};
-ghost use Rattle.proto_names.specs.Linking.{text_at};
+ghost use Rattle.proto_names.specs.Linking.{name_text};
 ghost use Rattle.proto_text.specs.Texts.{word_at};
 
 use crate::names::NewNames;
@@ -64,7 +64,7 @@ pub(crate) fn extend(name: &mut String, word: &str) -> Result<(), NoMemory>
 
 /// The text of what a reference means; empty where the link has no such name.
 pub(crate) fn meaning<'a>(link: &'a Link, meant: Meant) -> &'a str
-    ensures { result.now ≡ or_nothing (text_at link.now meant.row) }
+    ensures { result.now ≡ or_nothing (name_text link.now meant.row) }
 {
     match link.name_of(meant.symbol()) {
         Some(text) => text,

@@ -1,7 +1,7 @@
 //! The first reference that a rename captures.
 
 ghost use Rattle.std.specs.Prelude.{◌≡◌, ◌<◌, ℕ, List, length, true, IfOk};
-ghost use Rattle.proto_captures.specs.FirstCaptured.{IsFirstCaptured, IsFirstIn, IsRenameOf, AreNewNames, first_of, captures_by};
+ghost use Rattle.proto_captures.specs.FirstCaptured.{IsFirstCaptured, IsFirstIn, IsRenameOf, AreNewNames, first_passing, captures_by};
 ghost use Rattle.proto_captures.specs.NewTexts.{texts_of};
 ghost use Rattle.proto_files.specs.FilesRead.{ReadOf, AreRead};
 ghost use Rattle.proto_files.specs.Faults.{HasNoFault};
@@ -37,7 +37,7 @@ fn first_of<'a>(
     meant: &[Meant],
 ) -> Result<Option<u32>, NoMemory>
     requires { IsSound listing.now }
-    ensures { IfOk result (λ first. first ≡ first_of
+    ensures { IfOk result (λ first. first ≡ first_passing
         (captures_by link.now file (texts_of names.now)
         (word_at words.now) listing.now.declared.items) listing.now.used.items meant.now) }
 {

@@ -22,5 +22,5 @@ pub use collisions::collides;
 pub use first::first_captured;
 pub use overtaking::first_overtaken;
 pub use parts::{beside, front};
-pub use refusing::captured;
+pub use refusing::captured_refusal;
 pub use words::{has_name, is_keyword};

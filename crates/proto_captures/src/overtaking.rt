@@ -4,7 +4,7 @@ ghost use Rattle.std.specs.Prelude.{◌≡◌, ◌<◌, ◌≤◌, ◌&&◌, ◌
 ghost use Rattle.std.specs.HashSet.{contains_text};
 ghost use Rattle.std.specs.List.{list_any};
 ghost use Rattle.std.specs.Str.{bytes_eq};
-ghost use Rattle.proto_captures.specs.FirstCaptured.{first_of};
+ghost use Rattle.proto_captures.specs.FirstCaptured.{first_passing};
 ghost use Rattle.proto_captures.specs.Overtaking.{IsFirstOvertaken, SeesMarked, TellsPackages, fronts_from, overtakes_by, overtakes_use, sees_text};
 ghost use Rattle.proto_captures.specs.Capturing.{shown_from};
 ghost use Rattle.proto_meaning.specs.Joined.{below};
@@ -179,7 +179,7 @@ fn is_overtaken(
 
 /// The first token of the first reference of a list that is overtaken. What
 /// they mean is given in the same order.
-// As `first_of` of first.rt, with another test of a reference.
+// As `first_passing` of first.rt, with another test of a reference.
 fn first_in_list(
     alloc: Global,
     link: &Link,
@@ -189,7 +189,7 @@ fn first_in_list(
     meant: &[Meant],
 ) -> Result<Option<u32>, NoMemory>
     requires { IsSound listing.now }
-    ensures { IfOk result (λ first. first ≡ first_of
+    ensures { IfOk result (λ first. first ≡ first_passing
         (overtakes_by link.now seen.now.marks.now (contains_text seen.now.packages)
         (word_at words.now) listing.now.declared.items) listing.now.used.items meant.now) }
 {

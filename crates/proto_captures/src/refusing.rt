@@ -10,7 +10,12 @@ use std::alloc::Global;
 
 /// The refusal for a captured reference, with the place of its first token. Refused for want of
 /// memory alone.
-pub fn captured(alloc: Global, files: &Files, file: u32, token: u32) -> Result<Refusal, NoMemory>
+pub fn captured_refusal(
+    alloc: Global,
+    files: &Files,
+    file: u32,
+    token: u32,
+) -> Result<Refusal, NoMemory>
     requires { file < length files.now }
     ensures { IfOk result (IsCapturedPlace files.now file token) }
 {

@@ -2,7 +2,7 @@
 
 ghost use Rattle.std.specs.Prelude.{◌≡◌, IfOk};
 ghost use Rattle.proto_captures.specs.NewTexts.{texts_of, entry_pair};
-ghost use Rattle.proto_captures.specs.ShownTexts.{entry_shown, first_fits, kind_named, shown_beside, shown_below, shows_text};
+ghost use Rattle.proto_captures.specs.ShownTexts.{entry_shown, first_fits, kind_named, shown_beside, shown_below, shows_fitting};
 
 use crate::names::{EntryNames, NewNames};
 use proto_faults::NoMemory;
@@ -37,7 +37,7 @@ pub(crate) fn fits(kind: Kind, is_long: bool) -> bool
 
 /// Whether a name with this text fits and is visible.
 fn is_shown(link: &Link, looking: Looking, name: &str) -> bool
-    ensures { result ≡ shows_text link.now looking.file looking.is_long name.now }
+    ensures { result ≡ shows_fitting link.now looking.file looking.is_long name.now }
 {
     match kind_named(link, name) {
         Some(kind) => fits(kind, looking.is_long) && link.visible(looking.file, name),

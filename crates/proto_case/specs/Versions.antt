@@ -6,9 +6,9 @@ use Rattle.proto_faults.specs.Ascii as ascii
 use Rattle.proto_faults.specs.Texts.{Text}
 
 -- nothing stands in the text
-abbrev pub is_empty : Text → Bool
-is_empty [] = true
-is_empty (b ∷ rest) = false
+abbrev pub is_empty_text : Text → Bool
+is_empty_text [] = true
+is_empty_text (b ∷ rest) = false
 
 -- a positive decimal without leading zero
 abbrev pub is_positive : Text → Bool
@@ -20,11 +20,11 @@ is_positive (b ∷ rest) =
 abbrev pub is_numbered : Text → Text → Bool
 is_numbered name s =
     starts_with nat_eq s name
-    && (is_empty (drop (length name) s) || is_positive (drop (length name) s))
+    && (is_empty_text (drop (length name) s) || is_positive (drop (length name) s))
 
 -- nothing, or `alpha` or `beta` and behind that nothing or a positive decimal
 abbrev pub is_stage : Text → Bool
-is_stage s = is_empty s || is_numbered (codes "alpha") s || is_numbered (codes "beta") s
+is_stage s = is_empty_text s || is_numbered (codes "alpha") s || is_numbered (codes "beta") s
 
 -- what stands behind the digits at the front of a text
 abbrev pub behind_digits : Text → Text

@@ -7,12 +7,12 @@ use Rattle.proto_tree.specs.declared.tree.EnumItem.{EnumItem}
 use Rattle.proto_tree.specs.declared.tree.MethodItem.{MethodItem}
 use Rattle.proto_tree.specs.declared.piece.Header.{Header}
 use Rattle.proto_tree.specs.File.{extension_tree}
-use Rattle.proto_tree.proofs.Common.{Tree, End, Block, joined, trees, field_tree, enum_item_tree, method_item_tree}
+use Rattle.proto_tree.proofs.Common.{Tree, End, Block, joined_trees, trees, field_tree, enum_item_tree, method_item_tree}
 use Rattle.proto_parts.proofs.Common.{BlockOf, blocks_in, statements, Scene, no_block_in_enum, no_block_in_method, no_blocks, blocks_joined}
 use Rattle.proto_numbers.specs.declared.flaw.Flaw.{Flaw}
 use Rattle.proto_checks.specs.FileFlaws.{block_flaws, flaws_in_blocks, is_empty}
 
-flaws_joined : (scene : Scene) (t u : Tree) → flaws_in_blocks scene (joined t u) ≡ flaws_in_blocks scene t ++ flaws_in_blocks scene u
+flaws_joined : (scene : Scene) (t u : Tree) → flaws_in_blocks scene (joined_trees t u) ≡ flaws_in_blocks scene t ++ flaws_in_blocks scene u
 flaws_joined scene t u =
     ap (flat_map (λ b. block_flaws scene b.header b.within)) (blocks_joined t u) ∙ flat_map-append (λ b. block_flaws scene b.header b.within) (blocks_in t) (blocks_in u)
 

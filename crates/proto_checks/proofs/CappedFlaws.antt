@@ -1,6 +1,6 @@
 -- The flaws of a file with one cap and another: the least is the same (for the crates above).
 use Rattle.std.proofs.Common.{◌≡◌, ℕ, ◌<◌, ◌^◌, ◌-◌, ℤ, pos, negsuc, Bool, true, false, not, ◌&&◌, if◌then◌else◌, List, [], ◌∷◌, ◌++◌, map, flat_map, find, Option, Some, None, is_none, codes, refl, sym, ◌∙◌, ap, arith, Contains}
-use Rattle.proto_faults.proofs.Common.{Contains-append_left, Contains-append_right, number_of}
+use Rattle.proto_faults.proofs.Common.{Contains-append_left, Contains-append_right, kind_number}
 use Rattle.proto_faults.specs.declared.fault.FaultKind.{FaultKind}
 use Rattle.proto_faults.specs.declared.fault.FaultKind.TheVariants as kind
 use Rattle.proto_tree.specs.declared.piece.Header.{Header}
@@ -13,7 +13,7 @@ use Rattle.proto_tree.specs.declared.tree.Range.{Range}
 use Rattle.proto_tree.specs.declared.tree.Signed.{Signed}
 use Rattle.proto_tree.specs.declared.tree.Value.{Value}
 use Rattle.proto_tree.specs.Tree.{Tree}
-use Rattle.proto_parts.proofs.Common.{is_named, is_one_of, FieldOf, OptionOf, BlockOf, statements, fields_in, values_in, closed_ranges, enum_ranges, reserved_names_in, options_in, blocks_in, Scene, text, number_at, signed_at, uncapped, has_label}
+use Rattle.proto_parts.proofs.Common.{is_named, is_one_of, FieldOf, OptionOf, BlockOf, statements, fields_in, values_in, closed_ranges, enum_ranges, reserved_names_in, options_in, blocks_in, Scene, text, number_at, signed_value, uncapped, has_label}
 use Rattle.proto_parts.specs.declared.options.Element.{Element}
 use Rattle.proto_parts.specs.declared.options.Element.TheVariants as element
 use Rattle.proto_numbers.specs.declared.flaw.Flaw.{Flaw}
@@ -45,7 +45,7 @@ holds_same scalar a b h =
     four false false false false s t u v s' t' u' v' a b c d = refl
 
 -- where a number is outside its limits, a flaw with a greater number has no effect
-under_range : (zs : List Flaw) (k : FaultKind) (t : ℕ) → number_of kind.NumberRange < number_of k → Contains zs (flaw kind.NumberRange t) → Beneath zs (flaw k t)
+under_range : (zs : List Flaw) (k : FaultKind) (t : ℕ) → kind_number kind.NumberRange < kind_number k → Contains zs (flaw kind.NumberRange t) → Beneath zs (flaw k t)
 under_range zs k t l c = (flaw kind.NumberRange t, c, refl, l)
 
 in_second : (xs ys zs : List Flaw) (y : Flaw) → Contains ys y → Contains (xs ++ (ys ++ zs)) y
@@ -59,7 +59,7 @@ module _ (scene : Scene) (c d : Option ℕ) (caps : AlikeCaps c d) where
   two = capped scene d
 
   scalar_default_same : (scalar : List ℕ) (v : Constant) → is_scalar_default one scalar v ≡ is_scalar_default two scalar v
-  scalar_default_same scalar (constant.Number n) = holds_same scalar (signed_at one n) (signed_at two n) (alike_signed scene c d caps n)
+  scalar_default_same scalar (constant.Number n) = holds_same scalar (signed_value one n) (signed_value two n) (alike_signed scene c d caps n)
   scalar_default_same scalar (constant.Word w) = refl
   scalar_default_same scalar (constant.Text j) = refl
 
@@ -112,7 +112,7 @@ module _ (scene : Scene) (c d : Option ℕ) (caps : AlikeCaps c d) where
     last_alike : (r : Range ℕ) → Alike (closed_last c r) (closed_last d r)
     last_alike r = alike_end most_field (number_at one) (number_at two) (alike_at scene c d caps) r.first r.up_to
 
-    below_number : (k : FaultKind) → number_of kind.NumberRange < number_of k → (f : FieldOf) → Contains fs f → is_field_number (field_numbers c f) ≡ false → Beneath (parts d) (flaw k f.number)
+    below_number : (k : FaultKind) → kind_number kind.NumberRange < kind_number k → (f : FieldOf) → Contains fs f → is_field_number (field_numbers c f) ≡ false → Beneath (parts d) (flaw k f.number)
     below_number k l f h e =
         under_range (parts d) k f.number l
         (Contains-append_left (outside is_field_number (map (number_of_field two) fs)) (repeated d ++ (reserved d ++ ends d)) (flaw kind.NumberRange f.number)
@@ -160,16 +160,16 @@ module _ (scene : Scene) (c d : Option ℕ) (caps : AlikeCaps c d) where
     value_token v = first_of_signed v.number
 
     abbrev value_numbers : Option ℕ → Value → ℤ
-    value_numbers cap v = signed_at (capped scene cap) v.number
+    value_numbers cap v = signed_value (capped scene cap) v.number
 
     abbrev range_token : Range Signed → ℕ
     range_token r = first_of_signed r.first
 
     abbrev range_first : Option ℕ → Range Signed → ℤ
-    range_first cap r = signed_at (capped scene cap) r.first
+    range_first cap r = signed_value (capped scene cap) r.first
 
     abbrev range_last : Option ℕ → Range Signed → ℤ
-    range_last cap r = end_of most_value (signed_at (capped scene cap)) r.first r.up_to
+    range_last cap r = end_of most_value (signed_value (capped scene cap)) r.first r.up_to
 
     abbrev value_parts : Option ℕ → List Flaw
     value_parts cap = value_number_flaws (capped scene cap) within (map (enum_range_of (capped scene cap)) rs) (map (number_of_value (capped scene cap)) vs)
@@ -202,9 +202,9 @@ module _ (scene : Scene) (c d : Option ℕ) (caps : AlikeCaps c d) where
     range_first_alike r = alike_signed scene c d caps r.first
 
     range_last_alike : (r : Range Signed) → Alike (range_last c r) (range_last d r)
-    range_last_alike r = alike_end most_value (signed_at one) (signed_at two) (alike_signed scene c d caps) r.first r.up_to
+    range_last_alike r = alike_end most_value (signed_value one) (signed_value two) (alike_signed scene c d caps) r.first r.up_to
 
-    below_value : (k : FaultKind) → number_of kind.NumberRange < number_of k → (v : Value) → Contains vs v → is_value_number (value_numbers c v) ≡ false → Beneath (value_parts d) (flaw k (value_token v))
+    below_value : (k : FaultKind) → kind_number kind.NumberRange < kind_number k → (v : Value) → Contains vs v → is_value_number (value_numbers c v) ≡ false → Beneath (value_parts d) (flaw k (value_token v))
     below_value k l v h e =
         under_range (value_parts d) k (value_token v) l
         (Contains-append_left (value_outside d) (value_first d ++ (value_alias d ++ (value_reserved d ++ (value_broken d ++ value_overlaps d)))) (flaw kind.NumberRange (value_token v))

@@ -25,8 +25,8 @@ use Rattle.proto_tree.specs.declared.tree.ReservedList.TheVariants as reserved_l
 use Rattle.proto_tree.specs.declared.tree.Settings.{Settings}
 use Rattle.proto_tree.specs.declared.tree.Signed.{Signed}
 use Rattle.proto_tree.specs.declared.tree.Value.{Value}
-use Rattle.proto_tree.proofs.Common.{Mark, flat_all, flat_behind, flat_header, flat_number, flat_option, flat_range, flat_reserved_list, flat_separated, flat_setting, flat_settings, flat_signed, flat_statement, flat_type, flat_up_to, flat_value, one as one_mark, only, text as text_mark, name, Reads, Tree, End, Leaf, Block, flat, marks_fit}
-use Rattle.proto_parts.proofs.Common.{is_allowed, is_named, FieldOf, OptionOf, BlockOf, blocks_in, closed_ranges, enum_ranges, extension_words, fields_from, fields_in, map_field, names_of, option_of_setting, options_in, plain_field, ranges_of, reserved_names, reserved_names_in, separated, settings_of, statement_fields, statement_options, statement_values, statements, values_in, Scene, text, value, json_name_of}
+use Rattle.proto_tree.proofs.Common.{Mark, flat_all, flat_behind, flat_header, flat_number, flat_option, flat_range, flat_reserved_list, flat_separated, flat_setting, flat_settings, flat_signed, flat_statement, flat_type, flat_up_to, flat_value, one as one_mark, only, text_mark, name, Reads, Tree, End, Leaf, Block, flat, marks_fit}
+use Rattle.proto_parts.proofs.Common.{is_allowed, is_named, FieldOf, OptionOf, BlockOf, blocks_in, closed_ranges, enum_ranges, extension_words, fields_from, fields_in, map_field, reserved_names_of, option_of_setting, options_in, plain_field, ranges_of, reserved_names, reserved_names_in, separated, settings_of, statement_fields, statement_options, statement_values, statements, values_in, Scene, text, value, json_name_of}
 use Rattle.proto_parts.specs.declared.options.Element.{Element}
 use Rattle.proto_parts.specs.declared.options.Element.TheVariants as element
 use Rattle.proto_numbers.specs.declared.flaw.Flaw.{Flaw}
@@ -49,9 +49,9 @@ pub aft : {A : Type 0} (P : A → Type 0) (xs ys : List A) → AllByRecursion P 
 aft P [] ys h = h
 aft P (x ∷ xs) ys h = aft P xs ys h.1
 
-pub mapped : {A B : Type 0} (P : A → Type 0) (Q : B → Type 0) (f : A → B) → ((a : A) → P a → Q (f a)) → (xs : List A) → AllByRecursion P xs → AllByRecursion Q (map f xs)
-mapped P Q f h [] g = tt
-mapped P Q f h (x ∷ xs) g = (h x g.0, mapped P Q f h xs g.1)
+pub all_mapped : {A B : Type 0} (P : A → Type 0) (Q : B → Type 0) (f : A → B) → ((a : A) → P a → Q (f a)) → (xs : List A) → AllByRecursion P xs → AllByRecursion Q (map f xs)
+all_mapped P Q f h [] g = tt
+all_mapped P Q f h (x ∷ xs) g = (h x g.0, all_mapped P Q f h xs g.1)
 
 pub flattened : {A B : Type 0} (P : A → Type 0) (Q : B → Type 0) (f : A → List B) → ((a : A) → P a → AllByRecursion Q (f a)) → (xs : List A) → AllByRecursion P xs → AllByRecursion Q (flat_map f xs)
 flattened P Q f h [] g = tt
@@ -88,7 +88,7 @@ module _ (Here : ℕ → Type 0) where
   settings_here : (o : Option Settings) → Marks (flat_option flat_settings o) → Options_here (settings_of o)
   settings_here None h = tt
   settings_here (Some s) h =
-      mapped (λ x. Marks (flat_setting x)) (λ o. Here o.name) option_of_setting (λ x m. m.0) (separated s.list)
+      all_mapped (λ x. Marks (flat_setting x)) (λ o. Here o.name) option_of_setting (λ x m. m.0) (separated s.list)
       (separated_here class.Comma flat_setting s.list (left (flat_separated class.Comma flat_setting s.list) (one_mark class.RightBracket s.close) h.1))
 
   type_here : (t : FieldType) → Marks (flat_type t) → Here (type_token t)
@@ -189,7 +189,7 @@ module _ (Here : ℕ → Type 0) where
       starts view [] m = tt
       starts view (r ∷ rs) m = (starts_here view r m.0, starts view rs m.1)
 
-  names_listed : {N : Type 0} (view : N → List Mark) (l : ReservedList N) → Marks (flat_reserved_list view l) → All_here (names_of l)
+  names_listed : {N : Type 0} (view : N → List Mark) (l : ReservedList N) → Marks (flat_reserved_list view l) → All_here (reserved_names_of l)
   names_listed view (reserved_list.Ranges ranges) h = tt
   names_listed view (reserved_list.Names names) h = firsts (separated names) (separated_here class.Comma text_mark names h)
     where
@@ -319,10 +319,10 @@ module _ (Here : ℕ → Type 0) where
   inside_here rs ns = each (λ n. Here n.token) (λ n. flaw_if (list_any (is_inside n.number) rs) kind.ReservedNumber n.token) (λ n h. flaw_here (list_any (is_inside n.number) rs) kind.ReservedNumber n.token h) ns
 
   overlaps_here : (rs : List RangeAt) → Ranges_here rs → Stand (overlaps rs)
-  overlaps_here rs h = marked_here kind.RangeOverlap (map (λ r. r.token) rs) (after_earlier share rs) (mapped (λ r. Here r.token) Here (λ r. r.token) (λ r m. m) rs h)
+  overlaps_here rs h = marked_here kind.RangeOverlap (map (λ r. r.token) rs) (after_earlier share rs) (all_mapped (λ r. Here r.token) Here (λ r. r.token) (λ r m. m) rs h)
 
   again_here : (k : FaultKind) (ns : List NumberAt) → Numbers_here ns → Stand (marked k (map (λ n. n.token) ns) (repeated_numbers ns))
-  again_here k ns h = marked_here k (map (λ n. n.token) ns) (repeated_numbers ns) (mapped (λ n. Here n.token) Here (λ n. n.token) (λ n m. m) ns h)
+  again_here k ns h = marked_here k (map (λ n. n.token) ns) (repeated_numbers ns) (all_mapped (λ n. Here n.token) Here (λ n. n.token) (λ n m. m) ns h)
 
   field_numbers_here : (rs : List RangeAt) (ns : List NumberAt) → Ranges_here rs → Numbers_here ns → Stand (field_number_flaws rs ns)
   field_numbers_here rs ns r n =
@@ -336,7 +336,7 @@ module _ (Here : ℕ → Type 0) where
     options_stand on os h =
         join (misplaced_options scene on os) (repeated_options scene os)
         (each (λ o. Here o.name) (λ o. flaw_if (not (is_allowed (text scene) on o)) kind.BadOption o.name) (λ o m. flaw_here (not (is_allowed (text scene) on o)) kind.BadOption o.name m) os h)
-        (marked_here kind.BadOption (map (λ o. o.name) os) (after_earlier bytes_eq (map (λ o. text scene o.name) os)) (mapped (λ o. Here o.name) Here (λ o. o.name) (λ o m. m) os h))
+        (marked_here kind.BadOption (map (λ o. o.name) os) (after_earlier bytes_eq (map (λ o. text scene o.name) os)) (all_mapped (λ o. Here o.name) Here (λ o. o.name) (λ o m. m) os h))
 
     required_stand : (o : Option ℕ) → Maybe_here o → Stand (required_flaws scene o)
     required_stand None h = tt
@@ -377,7 +377,7 @@ module _ (Here : ℕ → Type 0) where
         (marked_here kind.ReservedName reserved (after_earlier bytes_eq (map (value scene) reserved)) r)
 
     field_names_here : (fs : List FieldOf) → AllByRecursion FieldHere fs → All_here (map (λ f. f.name) fs)
-    field_names_here fs = mapped FieldHere Here (λ f. f.name) (λ f h. h.of_name) fs
+    field_names_here fs = all_mapped FieldHere Here (λ f. f.name) (λ f h. h.of_name) fs
 
     json_stand : (fs : List FieldOf) → AllByRecursion FieldHere fs → Stand (json_clashes scene fs)
     json_stand fs h =
@@ -390,8 +390,8 @@ module _ (Here : ℕ → Type 0) where
         let rs : List RangeAt = map (range_of scene) (flat_map closed_ranges (statements within)) in
         let ns : List NumberAt = map (number_of_field scene) fs in
         let f = all_fields_here 0 within m in
-        let r = mapped (λ x. Here x.first) (λ x. Here x.token) (range_of scene) (λ x h. h) (flat_map closed_ranges (statements within)) (parts_here (λ x. Here x.first) closed_ranges closed_here within m) in
-        let n = mapped FieldHere (λ x. Here x.token) (number_of_field scene) (λ x h. h.of_number) fs f in
+        let r = all_mapped (λ x. Here x.first) (λ x. Here x.token) (range_of scene) (λ x h. h) (flat_map closed_ranges (statements within)) (parts_here (λ x. Here x.first) closed_ranges closed_here within m) in
+        let n = all_mapped FieldHere (λ x. Here x.token) (number_of_field scene) (λ x h. h.of_number) fs f in
         join (flat_map (field_flaws scene element.Field) fs) _ (each FieldHere (field_flaws scene element.Field) (field_stands element.Field) fs f)
         (join (field_number_flaws rs ns) _ (field_numbers_here rs ns r n)
         (join (name_flaws scene (reserved_names_in within) (map (λ x. x.name) fs)) _ (names_stand (reserved_names_in within) (map (λ x. x.name) fs) (parts_here Here reserved_names reserved_here within m) (field_names_here fs f))
@@ -418,12 +418,12 @@ module _ (Here : ℕ → Type 0) where
         let rs : List RangeAt = map (enum_range_of scene) (flat_map enum_ranges (statements within)) in
         let ns : List NumberAt = map (number_of_value scene) vs in
         let v = parts_here Value_here statement_values values_here within m in
-        let r = mapped (λ x. Here (first_of_signed x.first)) (λ x. Here x.token) (enum_range_of scene) (λ x h. h) (flat_map enum_ranges (statements within)) (parts_here (λ x. Here (first_of_signed x.first)) enum_ranges enum_ranges_here within m) in
-        let n = mapped Value_here (λ x. Here x.token) (number_of_value scene) (λ x h. (value_parts x h).1.0) vs v in
+        let r = all_mapped (λ x. Here (first_of_signed x.first)) (λ x. Here x.token) (enum_range_of scene) (λ x h. h) (flat_map enum_ranges (statements within)) (parts_here (λ x. Here (first_of_signed x.first)) enum_ranges enum_ranges_here within m) in
+        let n = all_mapped Value_here (λ x. Here x.token) (number_of_value scene) (λ x h. (value_parts x h).1.0) vs v in
         join (flaw_if (is_empty vs) kind.EmptyEnum name) _ (flaw_here (is_empty vs) kind.EmptyEnum name here)
         (join (value_number_flaws scene within rs ns) _ (value_numbers_stand within rs ns r n)
         (join (name_flaws scene (reserved_names_in within) (map (λ x. x.name) vs)) _
-        (names_stand (reserved_names_in within) (map (λ x. x.name) vs) (parts_here Here reserved_names reserved_here within m) (mapped Value_here Here (λ x. x.name) (λ x h. (value_parts x h).0) vs v))
+        (names_stand (reserved_names_in within) (map (λ x. x.name) vs) (parts_here Here reserved_names reserved_here within m) (all_mapped Value_here Here (λ x. x.name) (λ x h. (value_parts x h).0) vs v))
         (join (flat_map (value_option_flaws scene) vs) (option_flaws scene element.Enum (options_in within))
         (each Value_here (value_option_flaws scene) (λ x h. options_stand element.EnumValue (settings_of x.settings) (value_parts x h).1.1) vs v)
         (options_stand element.Enum (options_in within) (parts_here (λ o. Here o.name) statement_options option_here within m)))))
@@ -440,7 +440,7 @@ module _ (Here : ℕ → Type 0) where
         let fs : List FieldOf = fields_in within in
         let f = all_fields_here 0 within m in
         join (flaw_if scene.is_proto3 kind.NotInProto3 keyword) _ (flaw_here scene.is_proto3 kind.NotInProto3 keyword here)
-        (join (outside is_field_number (map (number_of_field scene) fs)) _ (outside_here is_field_number (map (number_of_field scene) fs) (mapped FieldHere (λ x. Here x.token) (number_of_field scene) (λ x h. h.of_number) fs f))
+        (join (outside is_field_number (map (number_of_field scene) fs)) _ (outside_here is_field_number (map (number_of_field scene) fs) (all_mapped FieldHere (λ x. Here x.token) (number_of_field scene) (λ x h. h.of_number) fs f))
         (each FieldHere (flaws_of_extension scene) extension_stands fs f))
 
     block_stands : (b : BlockOf) → BlockHere b → Stand (block_flaws scene b.header b.within)

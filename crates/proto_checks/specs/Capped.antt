@@ -5,11 +5,11 @@ use Rattle.proto_tree.specs.Tree.{Tree}
 use Rattle.proto_parts.specs.Numbers.{past}
 use Rattle.proto_parts.specs.Scenes.{Scene, uncapped}
 use Rattle.proto_numbers.specs.declared.flaw.Flaw.{Flaw}
-use Rattle.proto_numbers.specs.Flaws.{IsLeast}
+use Rattle.proto_numbers.specs.Flaws.{IsLeastOfFlaws}
 use Rattle.proto_checks.specs.FileFlaws.{file_flaws}
 
 -- the least flaw is the same with the cap and without it
 abbrev pub CapsKeepTheLeast : Type 0
 CapsKeepTheLeast = (scene : Scene) (tree : Tree) (r : Option Flaw) → scene.cap ≡ Some past
-    → IsLeast (Contains (file_flaws scene tree)) r
-    → IsLeast (Contains (file_flaws (uncapped scene) tree)) r
+    → IsLeastOfFlaws (Contains (file_flaws scene tree)) r
+    → IsLeastOfFlaws (Contains (file_flaws (uncapped scene) tree)) r

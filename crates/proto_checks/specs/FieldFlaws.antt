@@ -11,7 +11,7 @@ use Rattle.proto_tree.specs.References.{first_of}
 use Rattle.proto_parts.specs.Labels.{has_label}
 use Rattle.proto_parts.specs.Options.{is_allowed, is_named, is_one_of, truth_of, word_of}
 use Rattle.proto_parts.specs.Parts.{FieldOf, OptionOf}
-use Rattle.proto_parts.specs.Scenes.{Scene, EnumOf, signed_at, enum_meant, text}
+use Rattle.proto_parts.specs.Scenes.{Scene, EnumOf, signed_value, enum_meant, text}
 use Rattle.proto_parts.specs.declared.options.Element.{Element}
 use Rattle.proto_parts.specs.declared.options.Element.TheVariants as element
 use Rattle.proto_numbers.specs.declared.flaw.Flaw.{Flaw}
@@ -144,7 +144,7 @@ holds_number scalar n =
 -- a default that the scalar type allows: a whole number in its range, `true` or `false` of bool, or
 -- a text of string
 abbrev pub is_scalar_default : Scene → Text → Constant → Bool
-is_scalar_default scene scalar (constant.Number n) = holds_number scalar (signed_at scene n)
+is_scalar_default scene scalar (constant.Number n) = holds_number scalar (signed_value scene n)
 is_scalar_default scene scalar (constant.Word w) =
     bytes_eq scalar (codes "bool") && is_some (truth_of (text scene) (constant.Word w))
 is_scalar_default scene scalar (constant.Text j) = bytes_eq scalar (codes "string")

@@ -25,7 +25,7 @@ fn is_scalar_default(scene: &Scene, scalar: &str, value: &Constant) -> bool
     ensures { result ≡ is_scalar_default scene.now scalar.now value.now }
 {
     match value {
-        Constant::Number(number) => holds_number(scalar, scene.signed(*number)),
+        Constant::Number(number) => holds_number(scalar, scene.signed_number(*number)),
         Constant::Word(_) => scalar == "bool" && truth(scene, value).is_some(),
         Constant::Text(_) => scalar == "string",
     }

@@ -16,7 +16,7 @@ use crate::options::add_option_flaws;
 use proto_faults::{FaultKind, NoMemory};
 use proto_numbers::{
     Flaw, NumberAt, RangeAt, add_if, add_marked, add_outside_values, add_value_ranges,
-    number_tokens, repeated, value_numbers, value_ranges,
+    number_tokens, repeated_flags, value_numbers, value_ranges,
 };
 use proto_parts::{
     Element, OptionAt, Scene, enum_options, enum_ranges, enum_reserved_names, options_between,
@@ -72,7 +72,7 @@ fn add_aliases(
         return Ok(());
     }
     let tokens = number_tokens(alloc, numbers)?;
-    let flags = repeated(alloc, numbers)?;
+    let flags = repeated_flags(alloc, numbers)?;
     add_marked(found, FaultKind::AliasNotAllowed, &tokens, &flags)
 }
 

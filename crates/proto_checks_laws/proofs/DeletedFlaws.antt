@@ -8,7 +8,7 @@ use Rattle.proto_numbers.specs.declared.flaw.Flaw.{Flaw}
 use Rattle.proto_numbers.specs.declared.numbers.NumberAt.{NumberAt}
 use Rattle.proto_parts.specs.declared.ranges.RangeAt.{RangeAt}
 use Rattle.proto_checks_laws.specs.Deleted.{range_of_one, DeletionsKeepJsonNames, DeletionsKeepNames, DeletionsKeepNumbers}
-use Rattle.proto_numbers.proofs.Common.{field_number_flaws, broken_ranges, is_field_number, is_inside, is_sound_range, is_within, most_field, outside, overlaps, repeated_numbers, reserved_numbers, share, after_earlier, earlier, flaw_if, marked, le_both, le_itself, false_or, length_map, or_false, repeats_length}
+use Rattle.proto_numbers.proofs.Common.{field_number_flaws, broken_ranges, is_field_number, is_inside, is_sound_range, is_within, most_field, outside, overlaps, repeated_numbers, reserved_numbers, share, after_earlier, earlier, flaw_if, marked, le_both, le_itself, false_or, length_of_map, or_false, repeats_length}
 use Rattle.proto_checks.specs.FileFlaws.{reserved_again, with_reserved_name}
 use Rattle.proto_numbers.proofs.IndexLemmas.{alone_inside}
 
@@ -157,7 +157,7 @@ apart_keys_without so key xs y ys h =
     )
 
 as_many : {A B C : Type 0} (f : A → B) (g : A → C) (xs : List A) → length (map f xs) ≡ length (map g xs)
-as_many f g xs = length_map f xs ∙ sym (length_map g xs)
+as_many f g xs = length_of_map f xs ∙ sym (length_of_map g xs)
 
 -- ---- numbers and ranges
 
@@ -193,7 +193,7 @@ none_of_numbers rs ns h =
       once = apart_from_marks int_eq kind.DuplicateNumber (map (λ (n : NumberAt). n.token) ns) (map number ns) (as_many (λ (n : NumberAt). n.token) number ns) b.0;
       free = none_from_flaws (is_reserved rs) kind.ReservedNumber (λ n. n.token) ns c.0;
       sound = none_from_flaws is_broken kind.NumberRange (λ r. r.token) rs d.0;
-      apart = apart_from_marks share kind.RangeOverlap (map (λ (r : RangeAt). r.token) rs) rs (length_map (λ (r : RangeAt). r.token) rs) d.1;
+      apart = apart_from_marks share kind.RangeOverlap (map (λ (r : RangeAt). r.token) rs) rs (length_of_map (λ (r : RangeAt). r.token) rs) d.1;
     }
 
 numbers_of_none : (rs : List RangeAt) (ns : List NumberAt) → HasNoFlaws rs ns → field_number_flaws rs ns ≡ []
@@ -276,7 +276,7 @@ pub deletions_keep_names : DeletionsKeepNames
 deletions_keep_names scene rs qs names name h fresh unused =
     let s = nil_parts (with_reserved_name scene (rs ++ qs) names) (reserved_again scene (rs ++ qs)) h in
     let free = none_from_flaws (λ t. is_one_of (words (rs ++ qs)) (text scene t)) kind.ReservedName (λ t. t) names s.0 in
-    let apart = apart_from_marks bytes_eq kind.ReservedName (rs ++ qs) (words (rs ++ qs)) (sym (length_map (value scene) (rs ++ qs))) s.1 in
+    let apart = apart_from_marks bytes_eq kind.ReservedName (rs ++ qs) (words (rs ++ qs)) (sym (length_of_map (value scene) (rs ++ qs))) s.1 in
     let around = none_apart (bytes_eq word) (words rs) (words qs) (ap (list_any (bytes_eq word)) (sym (map-append (value scene) rs qs)) ∙ fresh) in
     nil_joined (with_reserved_name scene (rs ++ name ∷ qs) names) (reserved_again scene (rs ++ name ∷ qs))
     (flaws_from_none (λ t. is_one_of (words (rs ++ name ∷ qs)) (text scene t)) kind.ReservedName (λ t. t) names

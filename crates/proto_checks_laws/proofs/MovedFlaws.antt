@@ -16,7 +16,7 @@ use Rattle.proto_tree.specs.declared.tree.Signed.{Signed}
 use Rattle.proto_tree.specs.declared.tree.UpTo.{UpTo}
 use Rattle.proto_tree.specs.declared.tree.Value.{Value}
 use Rattle.proto_tree.proofs.Common.{Move, move_constant, move_header, move_option, move_range, move_range_end, move_separated, move_signed, move_statement, move_tree, move_type, move_up_to, move_value, Tree, first_of}
-use Rattle.proto_parts.proofs.Common.{number_of, fits_kind, idempotency_levels, is_allowed, is_named, is_one_of, is_text, is_word_of, optimize_modes, text_of, truth_named, value_kind_of, word_of, is_true, FieldOf, OptionOf, blocks_in, closed_ranges, enum_ranges, extension_words, fields_in, options_in, reserved_names_in, settings_of, statements, values_in, Scene, number_at, signed_at, text, up_to, value, is_label, json_name_of, written_or}
+use Rattle.proto_parts.proofs.Common.{number_value, fits_kind, idempotency_levels, is_allowed, is_named, is_one_of, is_text_value, is_word_of, optimize_modes, text_of_constant, truth_named, value_kind_of, word_of, is_true, FieldOf, OptionOf, blocks_in, closed_ranges, enum_ranges, extension_words, fields_in, options_in, reserved_names_in, settings_of, statements, values_in, Scene, number_at, signed_value, text, up_to_cap, value, is_label_word, json_name_of, written_or}
 use Rattle.proto_parts.specs.declared.options.Element.{Element}
 use Rattle.proto_parts.specs.declared.options.Element.TheVariants as element
 use Rattle.proto_parts.specs.declared.options.ValueKind.{ValueKind}
@@ -26,8 +26,8 @@ use Rattle.proto_numbers.specs.declared.numbers.NumberAt.{NumberAt}
 use Rattle.proto_parts.specs.declared.ranges.RangeAt.{RangeAt}
 use Rattle.proto_numbers.proofs.Common.{after_earlier, flaw_if, marked, bound_of, broken_ranges, end_of, enum_range_of, first_of_signed, is_field_number, is_inside, is_value_number, least_value, most_field, most_value, number_of_field, number_of_value, outside, overlaps, range_of, repeated_numbers, reserved_numbers, share, field_number_flaws}
 use Rattle.proto_checks.proofs.Common.{default_flaws, enum_of_type, extend_flaws, field_flaws, flaws_of_extension, holds_number, is_default_of, is_of_proto2, is_packable_type, is_past_zero, is_scalar_default, is_unpackable, is_value_of, lacks_label, map_key_flaws, may_be_packed, may_default, no_map_keys, option_flaws, required_extensions, required_flaws, type_flaws, type_token, wrong_default, allows_alias, block_flaws, enum_flaws, file_flaws, first_value_flaws, is_empty, json_clashes, message_flaws, name_flaws, value_number_flaws, value_option_flaws}
-use Rattle.proto_checks_laws.specs.Imports.{ImportsMoveFlaws, IsMoved, moved}
-use Rattle.proto_checks_laws.proofs.MovedParts.{any_kept, closed_ranges_moved, empty_kept, enum_ranges_moved, extension_words_moved, fields_moved, file_blocks_moved, file_options_moved, find_moved, flat_kept, flat_moved, maps_kept, maps_moved, move_block_of, move_field_of, move_option_of, none_kept, options_moved, reserved_names_moved, settings_moved, some_kept, statements_moved, values_moved}
+use Rattle.proto_checks_laws.specs.Imports.{ImportsMoveFlaws, IsMoved, reindexed_flaw}
+use Rattle.proto_checks_laws.proofs.MovedParts.{any_kept, closed_ranges_moved, empty_kept, enum_ranges_moved, extension_words_moved, fields_moved, file_blocks_moved, file_options_moved, find_moved, flat_kept, flat_map_moved, maps_kept, maps_moved, move_block_of, move_field_of, move_option_of, none_kept, options_moved, reserved_names_moved, settings_moved, some_kept, statements_moved, values_moved}
 use Rattle.proto_checks.proofs.OptionNames.{earlier_map}
 use Rattle.proto_checks_laws.proofs.RenamedFlaws.{numbered}
 
@@ -35,18 +35,18 @@ use Rattle.proto_checks_laws.proofs.RenamedFlaws.{numbered}
 
 -- a record, so that the lists are found from it
 pub record Moves (g : Move) (xs ys : List Flaw) : Type 0 where
-  pub same : xs ≡ map (moved g) ys
+  pub same : xs ≡ map (reindexed_flaw g) ys
 
 none : {g : Move} → Moves g [] []
 none = record { same = refl }
 
 join : {g : Move} {xs ys vs ws : List Flaw} → Moves g xs ys → Moves g vs ws → Moves g (xs ++ vs) (ys ++ ws)
-join {g} {xs} {ys} {vs} {ws} h k = record { same = ap₂ (λ (l m : List Flaw). l ++ m) h.same k.same ∙ sym (map-append (moved g) ys ws) }
+join {g} {xs} {ys} {vs} {ws} h k = record { same = ap₂ (λ (l m : List Flaw). l ++ m) h.same k.same ∙ sym (map-append (reindexed_flaw g) ys ws) }
 
 if_at : (g : Move) (k : FaultKind) (t : ℕ) {u : ℕ} {c d : Bool} → u ≡ g t → c ≡ d → Moves g (flaw_if c k u) (flaw_if d k t)
 if_at g k t {u} {c} {d} e h = record { same = ap₂ (λ v n. flaw_if v k n) h e ∙ go d }
   where
-    go : (v : Bool) → flaw_if v k (g t) ≡ map (moved g) (flaw_if v k t)
+    go : (v : Bool) → flaw_if v k (g t) ≡ map (reindexed_flaw g) (flaw_if v k t)
     go true = refl
     go false = refl
 
@@ -56,18 +56,18 @@ if_moved g k t = if_at g k t refl
 marked_moved : (g : Move) (k : FaultKind) (ts : List ℕ) {us : List ℕ} (bs : List Bool) {cs : List Bool} → us ≡ map g ts → cs ≡ bs → Moves g (marked k us cs) (marked k ts bs)
 marked_moved g k ts {us} bs {cs} e h = record { same = ap₂ (marked k) e h ∙ go ts bs }
   where
-    go : (vs : List ℕ) (ds : List Bool) → marked k (map g vs) ds ≡ map (moved g) (marked k vs ds)
+    go : (vs : List ℕ) (ds : List Bool) → marked k (map g vs) ds ≡ map (reindexed_flaw g) (marked k vs ds)
     go [] ds = refl
     go (v ∷ vs) [] = refl
-    go (v ∷ vs) (d ∷ ds) = ap₂ (λ (l m : List Flaw). l ++ m) (if_moved g k v {c = d} {d = d} refl).same (go vs ds) ∙ sym (map-append (moved g) (flaw_if d k v) (marked k vs ds))
+    go (v ∷ vs) (d ∷ ds) = ap₂ (λ (l m : List Flaw). l ++ m) (if_moved g k v {c = d} {d = d} refl).same (go vs ds) ∙ sym (map-append (reindexed_flaw g) (flaw_if d k v) (marked k vs ds))
 
 pub each : {A B : Type 0} (g : Move) (h : A → B) (f : A → List Flaw) (k : B → List Flaw) → ((x : A) → Moves g (k (h x)) (f x)) → (xs : List A) {ys : List B} → ys ≡ map h xs → Moves g (flat_map k ys) (flat_map f xs)
-each g h f k e xs y = record { same = ap (flat_map k) y ∙ flat_moved h (moved g) f k (λ x. (e x).same) xs }
+each g h f k e xs y = record { same = ap (flat_map k) y ∙ flat_map_moved h (reindexed_flaw g) f k (λ x. (e x).same) xs }
 
 either : {g : Move} {c d : Bool} {xs ys vs ws : List Flaw} → c ≡ d → Moves g xs ys → Moves g vs ws → Moves g (if c then xs else vs) (if d then ys else ws)
 either {g} {c} {d} {xs} {ys} {vs} {ws} e h k = record { same = ap (λ v. if v then xs else vs) e ∙ go d }
   where
-    go : (v : Bool) → (if v then xs else vs) ≡ map (moved g) (if v then ys else ws)
+    go : (v : Bool) → (if v then xs else vs) ≡ map (reindexed_flaw g) (if v then ys else ws)
     go true = h.same
     go false = k.same
 
@@ -115,9 +115,9 @@ module _ (g : Move) (a b : Scene) (is : IsMoved g a b) where
   version = sym is.version
 
   pub number_moved : (t : ℕ) → number_at b (g t) ≡ number_at a t
-  number_moved t = ap₂ (λ cap w. pos (up_to cap (number_of w))) (sym is.caps) (is.texts t)
+  number_moved t = ap₂ (λ cap w. pos (up_to_cap cap (number_value w))) (sym is.caps) (is.texts t)
 
-  pub signed_moved : (s : Signed) → signed_at b (move_signed g s) ≡ signed_at a s
+  pub signed_moved : (s : Signed) → signed_value b (move_signed g s) ≡ signed_value a s
   signed_moved s = ap₂ (λ v n. if v then neg_ℤ n else n) (some_kept g s.minus) (number_moved s.number)
 
   first_moved : (s : Signed) → first_of_signed (move_signed g s) ≡ g (first_of_signed s)
@@ -140,7 +140,7 @@ module _ (g : Move) (a b : Scene) (is : IsMoved g a b) where
 
   pub enum_range_moved : (r : Range Signed) → enum_range_of b (move_range g (move_signed g) r) ≡ move_range_at g (enum_range_of a r)
   enum_range_moved r =
-      λ i. record { token = first_moved r.first i; first = signed_moved r.first i; last = end_moved most_value (move_signed g) (signed_at a) (signed_at b) signed_moved r.first r.up_to i }
+      λ i. record { token = first_moved r.first i; first = signed_moved r.first i; last = end_moved most_value (move_signed g) (signed_value a) (signed_value b) signed_moved r.first r.up_to i }
 
   pub field_number_moved : (f : FieldOf) → number_of_field b (move_field_of g f) ≡ move_number_at g (number_of_field a f)
   field_number_moved f = ap (numbered (g f.number)) (number_moved f.number)
@@ -155,12 +155,12 @@ module _ (g : Move) (a b : Scene) (is : IsMoved g a b) where
   word_moved (constant.Text j) = refl
   word_moved (constant.Number n) = refl
 
-  pub text_moved : (c : Constant) → text_of (value b) (move_constant g c) ≡ text_of (value a) c
+  pub text_moved : (c : Constant) → text_of_constant (value b) (move_constant g c) ≡ text_of_constant (value a) c
   text_moved (constant.Text j) = ap Some (flat_kept g (value a) (value b) is.strings (j.first ∷ j.rest))
   text_moved (constant.Word w) = refl
   text_moved (constant.Number n) = refl
 
-  is_text_moved : (c : Constant) → is_text (move_constant g c) ≡ is_text c
+  is_text_moved : (c : Constant) → is_text_value (move_constant g c) ≡ is_text_value c
   is_text_moved (constant.Text j) = refl
   is_text_moved (constant.Word w) = refl
   is_text_moved (constant.Number n) = refl
@@ -209,7 +209,7 @@ module _ (g : Move) (a b : Scene) (is : IsMoved g a b) where
   map_key_moved None = none
   map_key_moved (Some t) = if_moved g kind.BadMap t (ap (is_one_of no_map_keys) (is.texts t))
 
-  pub label_moved : (w : List ℕ) (o : Option ℕ) → is_label b w (move_option g o) ≡ is_label a w o
+  pub label_moved : (w : List ℕ) (o : Option ℕ) → is_label_word b w (move_option g o) ≡ is_label_word a w o
   label_moved w None = refl
   label_moved w (Some t) = ap (λ v. bytes_eq v w) (is.texts t)
 
@@ -276,12 +276,12 @@ module _ (g : Move) (a b : Scene) (is : IsMoved g a b) where
   json_name_moved f = ap₂ written_or (ap written first ∙ go (find (is_named (text a) (codes "json_name")) f.options)) (is.texts f.name)
     where
       written : Option OptionOf → Option (List ℕ)
-      written o = option_and_then (text_of (value b)) (option_map (λ x. x.value) o)
+      written o = option_and_then (text_of_constant (value b)) (option_map (λ x. x.value) o)
 
       first : find (is_named (text b) (codes "json_name")) (map (move_option_of g) f.options) ≡ option_map (move_option_of g) (find (is_named (text a) (codes "json_name")) f.options)
       first = find_moved (move_option_of g) _ _ (named_moved (codes "json_name")) f.options
 
-      go : (o : Option OptionOf) → option_and_then (text_of (value b)) (option_map (λ (x : OptionOf). x.value) (option_map (move_option_of g) o)) ≡ option_and_then (text_of (value a)) (option_map (λ (x : OptionOf). x.value) o)
+      go : (o : Option OptionOf) → option_and_then (text_of_constant (value b)) (option_map (λ (x : OptionOf). x.value) (option_map (move_option_of g) o)) ≡ option_and_then (text_of_constant (value a)) (option_map (λ (x : OptionOf). x.value) o)
       go None = refl
       go (Some o) = text_moved o.value
 

@@ -11,7 +11,7 @@ use Rattle.proto_tree.specs.declared.piece.Statement.{Statement}
 use Rattle.proto_tree.specs.declared.piece.Statement.TheVariants as statement
 use Rattle.proto_tree.specs.declared.piece.Header.TheVariants as header
 use Rattle.proto_tree.proofs.Common.{Move, move_behind, move_constant, move_header, move_option, move_range, move_reserved_list, move_separated, move_setting, move_settings, move_signed, move_statement, move_tree, move_type, move_value, Tree, End, Leaf, Block}
-use Rattle.proto_parts.specs.Parts.{BlockOf, FieldOf, OptionOf, blocks_in, closed_ranges, enum_ranges, extension_ranges, extension_words, fields_from, names_of, option_of_setting, options_in, ranges_of, reserved_names, reserved_names_in, reserved_ranges, separated, settings_of, statement_fields, statement_options, statement_values, statements, values_in}
+use Rattle.proto_parts.specs.Parts.{BlockOf, FieldOf, OptionOf, blocks_in, closed_ranges, enum_ranges, extension_ranges, extension_words, fields_from, reserved_names_of, option_of_setting, options_in, ranges_of, reserved_names, reserved_names_in, reserved_ranges, separated, settings_of, statement_fields, statement_options, statement_values, statements, values_in}
 use Rattle.proto_checks.specs.FileFlaws.{is_empty}
 use Rattle.proto_checks_laws.specs.Imports.{without_imports}
 
@@ -26,9 +26,9 @@ pub maps_kept : {A B X : Type 0} (h : A → B) (f : A → X) (k : B → X) → (
 maps_kept h f k e [] = refl
 maps_kept h f k e (x ∷ xs) = ap₂ (λ y ys. y ∷ ys) (e x) (maps_kept h f k e xs)
 
-pub flat_moved : {A B X Y : Type 0} (h : A → B) (m : X → Y) (f : A → List X) (k : B → List Y) → ((x : A) → k (h x) ≡ map m (f x)) → (xs : List A) → flat_map k (map h xs) ≡ map m (flat_map f xs)
-flat_moved h m f k e [] = refl
-flat_moved h m f k e (x ∷ xs) = ap₂ (λ ys zs. ys ++ zs) (e x) (flat_moved h m f k e xs) ∙ sym (map-append m (f x) (flat_map f xs))
+pub flat_map_moved : {A B X Y : Type 0} (h : A → B) (m : X → Y) (f : A → List X) (k : B → List Y) → ((x : A) → k (h x) ≡ map m (f x)) → (xs : List A) → flat_map k (map h xs) ≡ map m (flat_map f xs)
+flat_map_moved h m f k e [] = refl
+flat_map_moved h m f k e (x ∷ xs) = ap₂ (λ ys zs. ys ++ zs) (e x) (flat_map_moved h m f k e xs) ∙ sym (map-append m (f x) (flat_map f xs))
 
 pub flat_kept : {A B X : Type 0} (h : A → B) (f : A → List X) (k : B → List X) → ((x : A) → k (h x) ≡ f x) → (xs : List A) → flat_map k (map h xs) ≡ flat_map f xs
 flat_kept h f k e [] = refl
@@ -92,7 +92,7 @@ module _ (g : Move) where
 
   -- what each statement gives
   pub given_moved : {X : Type 0} (m : X → X) (f : Statement → List X) → ((s : Statement) → f (move_statement g s) ≡ map m (f s)) → (t : Tree) → flat_map f (statements (move_tree g t)) ≡ map m (flat_map f (statements t))
-  given_moved m f e t = ap (flat_map f) (statements_moved t) ∙ flat_moved (move_statement g) m f f e (statements t)
+  given_moved m f e t = ap (flat_map f) (statements_moved t) ∙ flat_map_moved (move_statement g) m f f e (statements t)
 
   -- ---- options
 
@@ -130,7 +130,7 @@ module _ (g : Move) where
   ranges_of_moved f (reserved_list.Names names) = refl
   ranges_of_moved f (reserved_list.Ranges ranges) = separated_moved (move_range g f) ranges
 
-  names_of_moved : {N : Type 0} (f : N → N) (l : ReservedList N) → names_of (move_reserved_list g f l) ≡ map g (names_of l)
+  names_of_moved : {N : Type 0} (f : N → N) (l : ReservedList N) → reserved_names_of (move_reserved_list g f l) ≡ map g (reserved_names_of l)
   names_of_moved f (reserved_list.Names names) = separated_moved g names
   names_of_moved f (reserved_list.Ranges ranges) = refl
 

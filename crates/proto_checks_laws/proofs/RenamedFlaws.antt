@@ -16,7 +16,7 @@ use Rattle.proto_tree.specs.declared.tree.Signed.{Signed}
 use Rattle.proto_tree.specs.declared.tree.UpTo.{UpTo}
 use Rattle.proto_tree.specs.declared.tree.Value.{Value}
 use Rattle.proto_tree.specs.Tree.{Tree}
-use Rattle.proto_parts.proofs.Common.{number_of, fits_kind, idempotency_levels, is_allowed, is_named, is_word_of, optimize_modes, truth_named, truth_of, value_kind_of, word_of, is_true, BlockOf, FieldOf, OptionOf, blocks_in, closed_ranges, enum_ranges, extension_words, fields_in, options_in, reserved_names_in, settings_of, statements, values_in, EnumOf, Scene, enum_meant, number_at, signed_at, text, up_to, value, is_label, json_name_of}
+use Rattle.proto_parts.proofs.Common.{number_value, fits_kind, idempotency_levels, is_allowed, is_named, is_word_of, optimize_modes, truth_named, truth_of, value_kind_of, word_of, is_true, BlockOf, FieldOf, OptionOf, blocks_in, closed_ranges, enum_ranges, extension_words, fields_in, options_in, reserved_names_in, settings_of, statements, values_in, EnumOf, Scene, enum_meant, number_at, signed_value, text, up_to_cap, value, is_label_word, json_name_of}
 use Rattle.proto_parts.specs.declared.options.Element.{Element}
 use Rattle.proto_parts.specs.declared.options.Element.TheVariants as element
 use Rattle.proto_parts.specs.declared.options.ValueKind.{ValueKind}
@@ -181,7 +181,7 @@ module _ (named : ℕ → Bool) (a b : Scene) (differ : DifferInNames named a b)
   map_key_same None k = refl
   map_key_same (Some t) k = ap (λ w. flaw_if (list_any (bytes_eq w) no_map_keys) kind.BadMap t) (differ.texts t k.0)
 
-  label_same : (w : List ℕ) (o : Option ℕ) → Kept (option_to_list o) → is_label a w o ≡ is_label b w o
+  label_same : (w : List ℕ) (o : Option ℕ) → Kept (option_to_list o) → is_label_word a w o ≡ is_label_word b w o
   label_same w None k = refl
   label_same w (Some t) k = ap (λ v. bytes_eq v w) (differ.texts t k.0)
 
@@ -229,9 +229,9 @@ module _ (named : ℕ → Bool) (a b : Scene) (differ : DifferInNames named a b)
   -- ---- numbers
 
   number_same : (t : ℕ) → named t ≡ false → number_at a t ≡ number_at b t
-  number_same t k = ap₂ (λ cap w. pos (up_to cap (number_of w))) differ.caps (differ.texts t k)
+  number_same t k = ap₂ (λ cap w. pos (up_to_cap cap (number_value w))) differ.caps (differ.texts t k)
 
-  signed_same : (s : Signed) → named s.number ≡ false → signed_at a s ≡ signed_at b s
+  signed_same : (s : Signed) → named s.number ≡ false → signed_value a s ≡ signed_value b s
   signed_same s k = ap (λ n. if is_some s.minus then neg_ℤ n else n) (number_same s.number k)
 
   end_same : {N : Type 0} (token : N → ℕ) (most : ℤ) (f g : N → ℤ) → ((n : N) → named (token n) ≡ false → f n ≡ g n) → (first : N) (u : Option (UpTo N)) → f first ≡ g first → Kept (up_to_tokens token u) → end_of most f first u ≡ end_of most g first u
@@ -250,7 +250,7 @@ module _ (named : ℕ → Bool) (a b : Scene) (differ : DifferInNames named a b)
   enum_range_same : (r : Range Signed) → Kept (range_tokens (λ (s : Signed). s.number) r) → enum_range_of a r ≡ enum_range_of b r
   enum_range_same r k =
       let e = signed_same r.first k.0 in
-      λ i. record { token = first_of_signed r.first; first = e i; last = end_same (λ (s : Signed). s.number) most_value (signed_at a) (signed_at b) signed_same r.first r.up_to e k.1 i }
+      λ i. record { token = first_of_signed r.first; first = e i; last = end_same (λ (s : Signed). s.number) most_value (signed_value a) (signed_value b) signed_same r.first r.up_to e k.1 i }
 
   field_number_same : (f : FieldOf) → Kept (field_tokens a f) → number_of_field a f ≡ number_of_field b f
   field_number_same f k = ap (λ (n : ℤ). numbered f.number n) (number_same f.number (field_kept f k).3.0)

@@ -29,7 +29,7 @@ use Rattle.proto_tree.specs.declared.tree.UpTo.{UpTo}
 use Rattle.proto_tree.specs.declared.tree.Value.{Value}
 use Rattle.proto_tree.proofs.Common.{Mark, mark, flat_all, flat_behind, flat_constant, flat_header, flat_number, flat_option, flat_range, flat_range_end, flat_reserved_list, flat_separated, flat_setting, flat_settings, flat_signed, flat_statement, flat_type, flat_up_to, name as name_mark, one as one_mark, only, Numbered, HasRole, Role, is_number, is_other, is_scalar, is_value, labels, names, names_option, refers, role_of, Tree, End, Leaf, Block, Spells, flat, classes, trees_are_numbered, roles_are_one}
 use Rattle.proto_parts.proofs.Common.{is_named, FieldOf, OptionOf, BlockOf, blocks_in, closed_ranges, enum_ranges, fields_from, fields_in, map_field, option_of_setting, options_in, plain_field, ranges_of, separated, settings_of, statement_fields, statement_options, statement_values, statements, values_in, Scene, text}
-use Rattle.proto_checks.proofs.FlawTokens.{both, flattened, mapped}
+use Rattle.proto_checks.proofs.FlawTokens.{both, flattened, all_mapped}
 use Rattle.proto_checks_laws.specs.Renamed.{asked_tokens, block_tokens, constant_tokens, end_tokens, field_tokens, header_tokens, option_tokens, range_tokens, scalar_tokens, up_to_tokens, value_tokens}
 use Rattle.proto_checks_laws.specs.Roles.{AskedTokensHaveRoles, DefaultsAreNotAsked, FieldOptionsHaveRoles, IsOtherValue, NamesAreNotAsked, ValueHasRole, ValueNumbersAreNumbers, is_asked, is_of_declarations}
 
@@ -106,7 +106,7 @@ module _ (tree : Tree) where
   settings_has (Some s) h =
       let list : List Mark = flat_separated class.Comma flat_setting s.list in
       let behind = tail (mark (want.One class.LeftBracket) s.open) (list ++ one_mark class.RightBracket s.close) h in
-      mapped (λ x. Run (flat_setting x)) OptionHas option_of_setting setting_has (separated s.list)
+      all_mapped (λ x. Run (flat_setting x)) OptionHas option_of_setting setting_has (separated s.list)
       (separated_has class.Comma flat_setting s.list (left list (one_mark class.RightBracket s.close) behind))
 
   option_has : (s : Statement) → Run (flat_statement s) → AllByRecursion OptionHas (statement_options s)

@@ -25,11 +25,11 @@ without_imports (Block h opens within closes rest) =
     Block h opens within closes (without_imports rest)
 
 -- the same flaw, at the other index of its token
-abbrev pub moved : Move → Flaw → Flaw
-moved g f = record { token = g f.token; kind = f.kind }
+abbrev pub reindexed_flaw : Move → Flaw → Flaw
+reindexed_flaw g f = record { token = g f.token; kind = f.kind }
 
 -- Where the rest of a file is that of another with its tokens moved, so are the flaws.
 abbrev pub ImportsMoveFlaws : Type 0
 ImportsMoveFlaws = (g : Move) (a b : Scene) (s t : Tree) → IsMoved g a b
     → without_imports t ≡ move_tree g (without_imports s)
-    → file_flaws b t ≡ map (moved g) (file_flaws a s)
+    → file_flaws b t ≡ map (reindexed_flaw g) (file_flaws a s)

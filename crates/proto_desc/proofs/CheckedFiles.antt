@@ -5,13 +5,13 @@ use Rattle.proto_tree.specs.Tree.{Tree}
 use Rattle.proto_files.proofs.Common.{FileOf, file_at, Each, ReadOf, AreRead, read_at, IsTreeOf, same_tree}
 use Rattle.proto_parts.proofs.Common.{past, Scene}
 use Rattle.proto_checks.specs.FileFlaws.{file_flaws}
-use Rattle.proto_numbers.specs.Flaws.{IsLeast}
+use Rattle.proto_numbers.specs.Flaws.{IsLeastOfFlaws}
 use Rattle.proto_numbers.specs.declared.flaw.Flaw.{Flaw}
 use Rattle.proto_extensions.specs.Extensions.{workspace_flaws}
 use Rattle.proto_extensions.specs.Listed.{AreWorkspaceFlaws}
 use Rattle.proto_extensions.proofs.CappedExtensions.{caps_keep_the_least}
 use Rattle.proto_described.proofs.CappedDescriptors.{caps_keep_the_descriptor}
-use Rattle.proto_desc.specs.Common.{AreOfWorkspace, described_from, flaws_of, IsFaultOf, IsFileError}
+use Rattle.proto_desc.specs.Common.{AreOfWorkspace, described_from, flaws_of, IsFaultOf, IsLeastFlawError}
 use Rattle.proto_scenes.specs.Scenes.{IsSceneOf}
 use Rattle.proto_faults.specs.declared.fault.SchemaFault.{SchemaFault}
 use Rattle.proto_faults.specs.declared.fault.SchemaFault.TheVariants.{Schema, NoMemory}
@@ -25,12 +25,12 @@ abbrev pub described_at : List FileOf → List ReadOf → ℕ → Tree → FileD
 described_at files reads k tree = file_described (scene_of None files reads k) (file_at files k).path tree
 
 module _ (files : List FileOf) (file : ℕ) (within : file < length files) (scene : Scene) (is : IsSceneOf files file scene) (tree : Tree) (of_file : IsTreeOf (file_at files file).bytes tree) (reads : List ReadOf) (are : AreRead files reads) where
-  pub least_of_file : (flaws : List Flaw) → AreOfWorkspace files file flaws → (o : Option Flaw) → IsLeast (Contains (file_flaws scene tree ++ flaws)) o → IsLeast (Contains (flaws_of files reads file)) o
+  pub least_of_file : (flaws : List Flaw) → AreOfWorkspace files file flaws → (o : Option Flaw) → IsLeastOfFlaws (Contains (file_flaws scene tree ++ flaws)) o → IsLeastOfFlaws (Contains (flaws_of files reads file)) o
   least_of_file flaws others o least =
       caps_keep_the_least files reads file o
-      (subst (λ (s : Scene). IsLeast (Contains (file_flaws s (read_at reads file).tree ++ workspace_flaws (Some past) files reads file)) o) (is reads are)
-      (subst (λ (fs : List Flaw). IsLeast (Contains (file_flaws scene (read_at reads file).tree ++ fs)) o) (others reads are)
-      (subst (λ (t : Tree). IsLeast (Contains (file_flaws scene t ++ flaws)) o) (sym (same_tree files reads file tree are within of_file)) least)))
+      (subst (λ (s : Scene). IsLeastOfFlaws (Contains (file_flaws s (read_at reads file).tree ++ workspace_flaws (Some past) files reads file)) o) (is reads are)
+      (subst (λ (fs : List Flaw). IsLeastOfFlaws (Contains (file_flaws scene (read_at reads file).tree ++ fs)) o) (others reads are)
+      (subst (λ (t : Tree). IsLeastOfFlaws (Contains (file_flaws scene t ++ flaws)) o) (sym (same_tree files reads file tree are within of_file)) least)))
 
   pub described_of_file : file_described scene (file_at files file).path tree ≡ described_at files reads file (read_at reads file).tree
   described_of_file =
@@ -54,7 +54,7 @@ all_described files reads ds e h =
     described_all files reads 0 ds reads e (λ (k : ℕ) (d : FileDescriptor) l. subst (λ (m : ℕ). file_desc (get_or ds k d) ≡ described_at files reads m (read_at reads k).tree) (omega arith) (h k d l))
 
 -- what is answered for a file with a flaw
-pub file_error : (files : List FileOf) (file : ℕ) (f : Flaw) (e : SchemaFault) → IsFaultOf files file f e → ((reads : List ReadOf) → AreRead files reads → IsLeast (Contains (flaws_of files reads file)) (Some f)) → IsFileError files file e
+pub file_error : (files : List FileOf) (file : ℕ) (f : Flaw) (e : SchemaFault) → IsFaultOf files file f e → ((reads : List ReadOf) → AreRead files reads → IsLeastOfFlaws (Contains (flaws_of files reads file)) (Some f)) → IsLeastFlawError files file e
 file_error files file f (Schema fault) is least = record { flaw = f; fault = is; least = least }
 file_error files file f NoMemory is least = tt
 

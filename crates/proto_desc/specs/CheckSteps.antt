@@ -5,10 +5,10 @@ use Rattle.proto_files.specs.Faults.{fault_at}
 use Rattle.proto_files.specs.GivenFiles.{FileOf}
 use Rattle.proto_files.specs.FilesRead.{ReadOf, AreRead}
 use Rattle.proto_parts.specs.Numbers.{past}
-use Rattle.proto_numbers.specs.Flaws.{IsLeast}
+use Rattle.proto_numbers.specs.Flaws.{IsLeastOfFlaws}
 use Rattle.proto_numbers.specs.declared.flaw.Flaw.{Flaw}
 use Rattle.proto_extensions.specs.Extensions.{workspace_flaws}
-use Rattle.proto_desc.specs.Checked.{fault_of, flaws_of}
+use Rattle.proto_desc.specs.Checked.{fault_of_flaw, flaws_of}
 use Rattle.proto_faults.specs.declared.fault.SchemaFault.{SchemaFault}
 use Rattle.proto_faults.specs.declared.fault.SchemaFault.TheVariants.{Schema, NoMemory}
 
@@ -28,7 +28,7 @@ AreOfWorkspace files file flaws =
 -- the error is want of memory, or the flaw as a fault of the file
 abbrev pub IsFaultOf : List FileOf → ℕ → Flaw → SchemaFault → Type 0
 IsFaultOf files file f (Schema fault) =
-    (reads : List ReadOf) → AreRead files reads → fault_at fault ≡ fault_of files reads file f
+    (reads : List ReadOf) → AreRead files reads → fault_at fault ≡ fault_of_flaw files reads file f
 IsFaultOf files file f NoMemory = Unit {0}
 
 -- the fault is the file's least flaw, by token and then by number
@@ -36,9 +36,9 @@ pub record IsLeastFlaw (files : List FileOf) (file : ℕ) (e : SchemaFault) : Ty
   pub flaw : Flaw
   pub fault : IsFaultOf files file flaw e
   pub least : (reads : List ReadOf) → AreRead files reads
-      → IsLeast (Contains (flaws_of files reads file)) (Some flaw)
+      → IsLeastOfFlaws (Contains (flaws_of files reads file)) (Some flaw)
 
 -- the error is want of memory, or the file's least flaw as a fault
-abbrev pub IsFileError : List FileOf → ℕ → SchemaFault → Type 0
-IsFileError files file (Schema fault) = IsLeastFlaw files file (Schema fault)
-IsFileError files file NoMemory = Unit {0}
+abbrev pub IsLeastFlawError : List FileOf → ℕ → SchemaFault → Type 0
+IsLeastFlawError files file (Schema fault) = IsLeastFlaw files file (Schema fault)
+IsLeastFlawError files file NoMemory = Unit {0}

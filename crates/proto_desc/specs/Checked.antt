@@ -19,8 +19,8 @@ abbrev pub flaws_of : List FileOf → List ReadOf → ℕ → List Flaw
 flaws_of files reads file = all_flaws None files reads file
 
 -- a flaw as a fault of the file at an offset
-abbrev pub fault_of : List FileOf → List ReadOf → ℕ → Flaw → FaultAt
-fault_of files reads file f = record {
+abbrev pub fault_of_flaw : List FileOf → List ReadOf → ℕ → Flaw → FaultAt
+fault_of_flaw files reads file f = record {
   path = (file_at files file).path;
   offset = offset_at (read_at reads file).tokens f.token;
   kind = f.kind;
@@ -31,7 +31,7 @@ fault_of files reads file f = record {
 pub data CheckFaults (files : List FileOf) : FaultAt → Type 0 where
   of_flaw : (reads : List ReadOf) (file : ℕ) (f : Flaw) → AreRead files reads
       → file < length files → Contains (flaws_of files reads file) f
-      → CheckFaults files (fault_of files reads file f)
+      → CheckFaults files (fault_of_flaw files reads file f)
 
 -- the descriptors of the files from this number on
 abbrev pub described_from : List FileOf → List ReadOf → ℕ → List ReadOf → List FileDesc

@@ -6,10 +6,10 @@ ghost use Rattle.proto_tree.specs.File.{tree_of_file};
 ghost use Rattle.proto_files.specs.Faults.{HasNoFault};
 ghost use Rattle.proto_scenes.specs.LinkOfFiles.{IsLinkOf};
 ghost use Rattle.proto_checks.specs.FileFlaws.{file_flaws};
-ghost use Rattle.proto_numbers.specs.Flaws.{IsLeast};
+ghost use Rattle.proto_numbers.specs.Flaws.{IsLeastOfFlaws};
 ghost use Rattle.proto_desc.specs.Checked.{AreDescribed, CheckFaults, IsCheckError};
 ghost use Rattle.proto_scenes.specs.Scenes.{AreScenes, IsSceneOf};
-ghost use Rattle.proto_desc.specs.CheckSteps.{AreOfWorkspace, HasNoFlaw, IsFaultOf, IsFileError};
+ghost use Rattle.proto_desc.specs.CheckSteps.{AreOfWorkspace, HasNoFlaw, IsFaultOf, IsLeastFlawError};
 ghost use Rattle.proto_scenes.specs.Enums.{IsEnumTable};
 ghost use Rattle.proto_extensions.specs.Listed.{AreWorkspaceFlaws};
 ghost use Rattle.proto_descriptors.specs.Views.{file_desc, files_desc};
@@ -45,7 +45,7 @@ fn least_flaw(
     tree: &File,
     of_workspace: &[Flaw],
 ) -> Result<Option<Flaw>, NoMemory>
-    ensures { IfOk result (λ flaw. IsLeast
+    ensures { IfOk result (λ flaw. IsLeastOfFlaws
         (Contains (file_flaws scene.now (tree_of_file tree.now) ++ of_workspace.now)) flaw) }
 {
     let mut found = file_flaws(alloc, scene, tree)?;
@@ -65,7 +65,7 @@ fn check_file(
     requires scene { IsSceneOf files.now file scene.now }
     requires flaws { AreOfWorkspace files.now file of_workspace.now }
     ensures clean { IfOk result (λ _. HasNoFlaw files.now file) }
-    ensures fault { IfErr result (IsFileError files.now file) }
+    ensures fault { IfErr result (IsLeastFlawError files.now file) }
 {
     match least_flaw(alloc, scene, files.tree(file), of_workspace)? {
         Some(flaw) => Err(fault(alloc, files, file, flaw)),

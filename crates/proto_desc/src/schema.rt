@@ -70,7 +70,7 @@ impl Model for Schema {
 }
 
 // The link of files that were read, and their descriptors, where they have no fault.
-fn linked(alloc: Global, files: &Files) -> Result<(Link, Descriptors), SchemaFault>
+fn link_and_descriptors(alloc: Global, files: &Files) -> Result<(Link, Descriptors), SchemaFault>
     requires { HasNoFault (ReadFaults files.now) }
     ensures clean { IfOk result (λ _. HasNoFault (FileFaults files.now)) }
     ensures link { IfOk result (λ l. IsLinkOf files.now l.0) }
@@ -98,7 +98,7 @@ fn files_read(alloc: Global, given: Vec<(String, Vec<u8>)>) -> Result<Files, Sch
 }
 
 // The link of files that were read, where they have no fault.
-fn checked(alloc: Global, files: &Files) -> Result<Link, SchemaFault>
+fn checked_link(alloc: Global, files: &Files) -> Result<Link, SchemaFault>
     requires { HasNoFault (ReadFaults files.now) }
     ensures clean { IfOk result (λ _. HasNoFault (FileFaults files.now)) }
     ensures link { IfOk result (IsLinkOf files.now) }
@@ -124,7 +124,7 @@ impl CheckedSchema {
         ensures fault { IfErr result (λ e. IsOpenError (files_of files.items) e) }
     {
         let files = files_read(alloc, files)?;
-        match checked(alloc, &files) {
+        match checked_link(alloc, &files) {
             Ok(link) => Ok(CheckedSchema { files, link }),
             Err(fault) => {
                 files.release();
@@ -165,7 +165,7 @@ impl Schema {
         ensures fault { IfErr result (λ e. IsOpenError (files_of files.items) e) }
     {
         let files = files_read(alloc, files)?;
-        match linked(alloc, &files) {
+        match link_and_descriptors(alloc, &files) {
             Ok((link, descriptors)) => Ok(Schema {
                 files,
                 link,

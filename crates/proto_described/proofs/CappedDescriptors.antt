@@ -11,7 +11,7 @@ use Rattle.proto_tree.specs.declared.tree.Value.{Value}
 use Rattle.proto_tree.specs.Tree.{Tree, End, Leaf, Block}
 use Rattle.proto_listing.specs.FromTree.{items_in}
 use Rattle.proto_meaning.specs.Tree.{package_of}
-use Rattle.proto_parts.proofs.Common.{value_named, FieldOf, statements, fields_in, values_in, reserved_ranges, extension_ranges, enum_ranges, Scene, text, number_at, signed_at, json_name_of}
+use Rattle.proto_parts.proofs.Common.{value_named, FieldOf, statements, fields_in, values_in, reserved_ranges, extension_ranges, enum_ranges, Scene, text, number_at, signed_value, json_name_of}
 use Rattle.proto_numbers.proofs.Common.{is_within, most_field, most_value, least_value, range_of, enum_range_of, end_of, Alike, AlikeCaps, is_near, within_alike, near_within, same_near, past_or_none, capped, alike_at, alike_signed, alike_end}
 use Rattle.proto_described.specs.Capped.{CapsKeepTheDescriptor}
 use Rattle.proto_descriptors.specs.Descriptors.{NoMessages, Message}
@@ -61,12 +61,12 @@ module _ (scene : Scene) (c d : Option ℕ) (caps : AlikeCaps c d) where
 
   enum_range_same : (r : Range Signed) → value_range (enum_range_of one r) ≡ value_range (enum_range_of two r)
   enum_range_same r = λ i. record {
-    start = value_number_same (signed_at one r.first) (signed_at two r.first) (alike_signed scene c d caps r.first) i;
-    end = value_number_same (end_of most_value (signed_at one) r.first r.up_to) (end_of most_value (signed_at two) r.first r.up_to) (alike_end most_value (signed_at one) (signed_at two) (alike_signed scene c d caps) r.first r.up_to) i;
+    start = value_number_same (signed_value one r.first) (signed_value two r.first) (alike_signed scene c d caps r.first) i;
+    end = value_number_same (end_of most_value (signed_value one) r.first r.up_to) (end_of most_value (signed_value two) r.first r.up_to) (alike_end most_value (signed_value one) (signed_value two) (alike_signed scene c d caps) r.first r.up_to) i;
   }
 
   default_same : (v : Constant) → default_text one v ≡ default_text two v
-  default_same (constant.Number n) = ap signed_decimal (default_number_same (signed_at one n) (signed_at two n) (alike_signed scene c d caps n))
+  default_same (constant.Number n) = ap signed_decimal (default_number_same (signed_value one n) (signed_value two n) (alike_signed scene c d caps n))
   default_same (constant.Word w) = refl
   default_same (constant.Text j) = refl
 
@@ -87,7 +87,7 @@ module _ (scene : Scene) (c d : Option ℕ) (caps : AlikeCaps c d) where
   extensions_same (Block h opens within closes rest) = extensions_same rest
 
   value_same : (v : Value) → value_described one v ≡ value_described two v
-  value_same v = λ i. record (value_described one v) { number = value_number_same (signed_at one v.number) (signed_at two v.number) (alike_signed scene c d caps v.number) i }
+  value_same v = λ i. record (value_described one v) { number = value_number_same (signed_value one v.number) (signed_value two v.number) (alike_signed scene c d caps v.number) i }
 
   enum_same : (name : ℕ) (within : Tree) → enum_described one name within ≡ enum_described two name within
   enum_same name within = λ i. record (enum_described one name within) {

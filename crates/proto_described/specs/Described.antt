@@ -23,7 +23,7 @@ use Rattle.proto_meaning.specs.Joined.{joined}
 use Rattle.proto_meaning.specs.Tree.{package_of, key_word, value_word}
 use Rattle.proto_parts.specs.Options.{truth_option, word_option, text_option, value_named}
 use Rattle.proto_parts.specs.Parts.{FieldOf, OptionOf, statements, fields_in, values_in, reserved_ranges, extension_ranges, enum_ranges, reserved_names_in, options_in, settings_of}
-use Rattle.proto_parts.specs.Scenes.{Scene, text, value, number, number_at, signed_at, meant_by, enum_meant}
+use Rattle.proto_parts.specs.Scenes.{Scene, text, value, number_in_text, number_at, signed_value, meant_by, enum_meant}
 use Rattle.proto_parts.specs.Labels.{has_label}
 use Rattle.proto_parts.specs.JsonNames.{json_name_of}
 use Rattle.proto_numbers.specs.NumberFlaws.{is_within, most_field, most_value, least_value, range_of, enum_range_of}
@@ -133,7 +133,7 @@ field_type_name scene full f =
 
 -- a default as text: decimal, a word, or the value of its strings
 abbrev pub default_text : Scene → Constant → Text
-default_text scene (constant.Number n) = signed_decimal (default_number (signed_at scene n))
+default_text scene (constant.Number n) = signed_decimal (default_number (signed_value scene n))
 default_text scene (constant.Word w) = text scene w
 default_text scene (constant.Text j) = flat_map (value scene) (j.first ∷ j.rest)
 
@@ -186,7 +186,7 @@ extensions_described scene (Block h opens within closes rest) = extensions_descr
 abbrev pub value_described : Scene → Value → EnumValueDesc
 value_described scene v = record {
   name = text scene v.name;
-  number = value_number (signed_at scene v.number);
+  number = value_number (signed_value scene v.number);
   options = record {
     deprecated = truth_option (text scene) (codes "deprecated") (settings_of v.settings);
   };
@@ -253,9 +253,9 @@ message_described scene full name within = record {
 
 -- `key` or `value` of a map field's entry
 abbrev pub entry_field : Text → ℕ → FieldType → Option Text → FieldDesc
-entry_field word number kind type_name = record {
+entry_field word number_in_text kind type_name = record {
   name = word;
-  number = number;
+  number = number_in_text;
   label = label.Optional;
   field_type = kind;
   type_name = type_name;

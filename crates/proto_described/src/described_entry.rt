@@ -4,7 +4,7 @@ ghost use Rattle.std.specs.Prelude.{◌≡◌, map, option_map, IfOk};
 ghost use Rattle.std.specs.String.{string_bytes};
 ghost use Rattle.proto_described.specs.Described.{entry_field, entry_described};
 ghost use Rattle.proto_descriptors.specs.Descriptors.{NoMessages};
-ghost use Rattle.proto_descriptors.specs.Views.{field_desc, message_tree};
+ghost use Rattle.proto_descriptors.specs.Views.{field_desc, descriptor_tree};
 
 use crate::described_type::{scalar_type, type_name, type_of};
 use proto_case::entry_name;
@@ -69,7 +69,7 @@ pub(crate) fn entry_descriptor(
     scene: &Scene,
     field: &MapField,
 ) -> Result<MessageDescriptor, NoMemory>
-    ensures { IfOk result (λ d. message_tree d
+    ensures { IfOk result (λ d. descriptor_tree d
         ≡ record { message = entry_described scene.now field.now; nested_type = NoMessages }) }
 {
     Ok(MessageDescriptor {

@@ -32,7 +32,7 @@ fn value_descriptor(
     let options = options_between(alloc, value.settings.as_ref())?;
     Ok(EnumValueDescriptor {
         name: String::from_str(alloc, scene.text(value.name))?,
-        number: value_number(scene.signed(value.number)),
+        number: value_number(scene.signed_number(value.number)),
         options: EnumValueOptions {
             deprecated: truth_option(scene, &options, "deprecated"),
         },
@@ -80,7 +80,7 @@ fn enum_options(scene: &Scene, options: &[OptionAt]) -> EnumOptions
 }
 
 // The numbers and the names that no value may have.
-fn reserved(
+fn reserved_of_enum(
     alloc: Global,
     scene: &Scene,
     items: &[EnumItem],
@@ -121,7 +121,7 @@ fn enum_descriptor(
         (trees enum_item_tree enumeration.now.members.items)) }
 {
     let items = &enumeration.members;
-    let (reserved_range, reserved_name) = reserved(alloc, scene, items)?;
+    let (reserved_range, reserved_name) = reserved_of_enum(alloc, scene, items)?;
     let options = proto_parts::enum_options(alloc, items)?;
     let values = values(alloc, items)?;
     Ok(EnumDescriptor {

@@ -67,7 +67,9 @@ fn default_text(alloc: Global, scene: &Scene, constant: &Constant) -> Result<Str
     ensures { IfOk result (λ d. string_bytes d ≡ default_text scene.now constant.now) }
 {
     match constant {
-        Constant::Number(number) => { Ok(default_number(scene.signed(*number)).to_string(alloc)?) }
+        Constant::Number(number) => {
+            Ok(default_number(scene.signed_number(*number)).to_string(alloc)?)
+        }
         Constant::Word(word) => Ok(String::from_str(alloc, scene.text(*word))?),
         Constant::Text(_) => Ok(text_value(alloc, scene, constant)?.unwrap_or(String::new(alloc))),
     }

@@ -6,7 +6,7 @@ ghost use Rattle.proto_parts.specs.Parts.{extension_ranges, fields_in, options_i
 ghost use Rattle.proto_parts.specs.Scenes.{value};
 ghost use Rattle.proto_numbers.specs.NumberFlaws.{range_of};
 ghost use Rattle.proto_described.specs.Described.{enums_described, extensions_described, field_described, message_described, message_options, messages_described, number_range, oneof_names};
-ghost use Rattle.proto_descriptors.specs.Views.{enum_desc, field_desc, message_tree, messages_desc, oneof_desc};
+ghost use Rattle.proto_descriptors.specs.Views.{enum_desc, field_desc, descriptor_tree, messages_desc, oneof_desc};
 
 use crate::described_entry::entry_descriptor;
 use crate::described_enum::push_enum;
@@ -142,7 +142,7 @@ fn message_around(
     members: &[Member],
     nested: Vec<MessageDescriptor>,
 ) -> Result<MessageDescriptor, NoMemory>
-    ensures { IfOk result (λ d. message_tree d
+    ensures { IfOk result (λ d. descriptor_tree d
         ≡ record {
           message = message_described scene.now full.now name
               (trees member_tree members.now);

@@ -25,7 +25,7 @@ pub(crate) fn type_text(
 ) -> Result<String, NoMemory>
     ensures { IfOk result (λ s. string_bytes s ≡ type_text scene.now reference.now) }
 {
-    match scene.meant(reference) {
+    match scene.meaning(reference) {
         Some(meant) => absolute(alloc, meant.name),
         None => Ok(String::new(alloc)),
     }

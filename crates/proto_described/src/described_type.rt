@@ -57,7 +57,7 @@ pub(crate) fn meant_name(
     ensures { IfOk result (λ name. option_map string_bytes name
         ≡ option_map (λ m. absolute m.name) (meant_by scene.now reference.now)) }
 {
-    match scene.meant(reference) {
+    match scene.meaning(reference) {
         Some(meant) => Ok(Some(absolute(alloc, meant.name)?)),
         None => Ok(None),
     }

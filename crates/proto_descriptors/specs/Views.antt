@@ -90,12 +90,12 @@ abbrev pub message_step : MessageDescriptor-F MessageTree → MessageTree
 message_step m = record { message = message_desc m; nested_type = messages_of m.nested_type.items }
 
 -- a message with all that are nested in it, however deep
-abbrev pub message_tree : MessageDescriptor → MessageTree
-message_tree = fold-MessageDescriptor MessageTree message_step
+abbrev pub descriptor_tree : MessageDescriptor → MessageTree
+descriptor_tree = fold-MessageDescriptor MessageTree message_step
 
 -- messages in order, each with all that are nested in it
 abbrev pub messages_desc : List MessageDescriptor → Messages
-messages_desc ms = messages_of (map message_tree ms)
+messages_desc ms = messages_of (map descriptor_tree ms)
 
 -- a method, its name and the names of its types as bytes
 abbrev pub method_desc : MethodDescriptor → MethodDesc

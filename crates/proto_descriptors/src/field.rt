@@ -1,7 +1,7 @@
 //! Fields of messages, and extensions.
 
 ghost use Rattle.std.specs.Prelude.{◌≡◌};
-ghost use Rattle.proto_descriptors.specs.Names.{label_name, field_type_name};
+ghost use Rattle.proto_descriptors.specs.Names.{label_name, type_word};
 
 /// A field, or an extension: a field that an `extend` block gives another message.
 #[derive(Drop)]
@@ -118,7 +118,7 @@ impl Label {
 impl FieldType {
     /// The name in descriptor.proto.
     pub fn name(self) -> &'static str
-        ensures { result.now ≡ field_type_name self }
+        ensures { result.now ≡ type_word self }
     {
         match self {
             FieldType::Double => "TYPE_DOUBLE",

@@ -4,12 +4,12 @@ use Rattle.proto_faults.proofs.Common.{IsPermutation-sym, All-permutation, cases
 use Rattle.proto_text.proofs.OneEdit.{length_map}
 use Rattle.proto_faults.specs.declared.fault.FaultKind.{FaultKind}
 use Rattle.proto_faults.specs.declared.fault.FaultKind.TheVariants.{BadPath, DoublePath, TooLarge, TooManyFiles}
-use Rattle.proto_files.proofs.Common.{FaultAt, IsLeastFault, FileOf, paths_of, AreWorkspaceFiles, IsPathFault, IsWorkspacePath, IsBefore, one_order, Rises, count_once}
+use Rattle.proto_files.proofs.Common.{FaultAt, IsLeastFault, FileOf, paths_of, AreWorkspaceFiles, IsPathFault, IsWorkspacePath, IsBefore, one_order, PathsRise, count_once}
 use Rattle.proto_files.proofs.Members.{Contains-from_member}
 use Rattle.proto_entries.specs.Putting.{AreShortFiles}
 use Rattle.proto_desc.specs.Whole.{IsSortedOf, FileFaults, WorkspaceFaults, of_path, of_files, of_read}
 use Rattle.proto_rename_described.proofs.CleanFiles.{clean_files_are_read}
-use Rattle.proto_edit.specs.Common.{AreCompiled, at, CompiledAreRead, WorkspacesAreClean}
+use Rattle.proto_edit.specs.Common.{AreCompiled, fault_of_kind, CompiledAreRead, WorkspacesAreClean}
 
 pub compiled_are_read : CompiledAreRead
 compiled_are_read w has = clean_files_are_read w (λ x h. has.clean x (of_read x h))
@@ -17,7 +17,7 @@ compiled_are_read w has = clean_files_are_read w (λ x h. has.clean x (of_read x
 -- no file of what compiles is too large
 pub are_short : (w : List FileOf) → AreCompiled w → AreShortFiles w
 are_short w has g k = elim (cases_lt text_limit (length g.bytes)) [
-  | inl lt ↦ absurd (has.clean (at g.path 0 TooLarge) (of_read (at g.path 0 TooLarge) (inl (g, k, refl, (refl, lt)))))
+  | inl lt ↦ absurd (has.clean (fault_of_kind g.path 0 TooLarge) (of_read (fault_of_kind g.path 0 TooLarge) (inl (g, k, refl, (refl, lt)))))
   | inr le ↦ le
 ]
 
@@ -31,7 +31,7 @@ sorted_again w files workspace sorted = one_order files w (IsPermutation-sym w f
         let few = workspace.few in
         record { few = omega (arith, long, few); named = All-permutation (λ (f : FileOf). IsWorkspacePath f.path) w files sorted.same workspace.named; ordered = sorted.ordered }
 
-rises : (w : List FileOf) → AllPairs (λ f g. IsBefore f.path g.path) w → Rises (paths_of w)
+rises : (w : List FileOf) → AllPairs (λ f g. IsBefore f.path g.path) w → PathsRise (paths_of w)
 rises [] h = tt
 rises (f ∷ w) h = (
   (λ q m. (

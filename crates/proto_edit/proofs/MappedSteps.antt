@@ -9,7 +9,7 @@ use Rattle.proto_rename_laws.specs.ChangesEntry.{IsPutIn}
 use Rattle.proto_rename_laws.proofs.ChangesEntry.{changes_are_entry, texts_after}
 use Rattle.proto_rename_laws.proofs.ChangesPut.{changes_are_put}
 use Rattle.proto_rename_described.proofs.CleanFiles.{file_is_text}
-use Rattle.proto_rename_described.specs.Allowed.{IsAllowed}
+use Rattle.proto_rename_described.specs.Allowed.{IsAllowedRename}
 use Rattle.proto_rename_described.proofs.Allowed.{words_suit}
 use Rattle.proto_rename_described.proofs.DefaultsFit.{renames_leave_no_fault}
 use Rattle.proto_rename_described.proofs.FilesTurn.{renames_are_mapped}
@@ -19,7 +19,7 @@ use Rattle.proto_edit.proofs.GivenAgain.{compiled_are_read}
 
 -- ---- the step
 
-allowed_by : (files : List FileOf) (reads : List ReadOf) (name to : List ℕ) (t : Target) → AreCompiled files → AreRead files reads → IsNamed files reads name t → IsAdmissible files (rename name to) → IsAllowed files reads name to t
+allowed_by : (files : List FileOf) (reads : List ReadOf) (name to : List ℕ) (t : Target) → AreCompiled files → AreRead files reads → IsNamed files reads name t → IsAdmissible files (rename name to) → IsAllowedRename files reads name to t
 allowed_by files reads name to t compiled read named admissible = record {
   read = read;
   link = λ x h. compiled.clean x (of_link x h);
@@ -33,7 +33,7 @@ module _ (files : List FileOf) (reads : List ReadOf) (name to : List ℕ) (t : T
   no_case : (n : ℕ) → RenameCase files reads name to n → ⊥
   no_case n c = admissible n (reads, read, c)
 
-  allowed : IsAllowed files reads name to t
+  allowed : IsAllowedRename files reads name to t
   allowed = allowed_by files reads name to t compiled read named admissible
 
   texts : (k : ℕ) → k < length files → IsText (file_at files k).bytes

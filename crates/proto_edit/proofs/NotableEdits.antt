@@ -8,7 +8,7 @@ use Rattle.std.proofs.lemmas.List.Elements.{All-nil, All-head, All-tail, All-pus
 use Rattle.std.proofs.lemmas.List.Quantifiers.{position-Some}
 use Rattle.proto_faults.specs.declared.fault.FaultKind.{FaultKind}
 use Rattle.proto_faults.specs.declared.fault.FaultKind.TheVariants as kind
-use Rattle.proto_faults.proofs.Common.{number_of, contains_cases, from_map, word_from_same}
+use Rattle.proto_faults.proofs.Common.{kind_number, contains_cases, from_map, word_from_same}
 use Rattle.proto_text.specs.declared.class.Class.TheVariants.{Letter}
 use Rattle.proto_text.proofs.Common.{IsRun, offset_at, is_run, is_run_again}
 use Rattle.proto_case.specs.Camel.{entry_name}
@@ -17,7 +17,7 @@ use Rattle.proto_files.specs.WorkspacePaths.{is_workspace_path}
 use Rattle.proto_files.proofs.WorkspacePathTest.{is_path_from_test, test_from_is_path}
 use Rattle.proto_meaning.specs.declared.kind.Kind.{Kind}
 use Rattle.proto_meaning.specs.declared.kind.Kind.TheVariants.{Field, Value, Method, Extension}
-use Rattle.proto_meaning.proofs.Common.{Fault, ImportFault, fault, file_of, unknown, At, at, all_declared, declared_of, file_declared, joined, Declared, EntryOf, Given, Source, Token, name_of, shifted_declared, spell, Items, Member, Members, Placed, all_placed, enum, extend, field, file_placed, item, items_placed, map_field, member, message, no_items, no_members, oneof, package_of, packaged, place, placed, prefixes, service, map_append, file_stands}
+use Rattle.proto_meaning.proofs.Common.{Fault, ImportFault, fault, file_with_path, unknown, At, at, all_declared, declared_of, file_declared, joined, Declared, EntryOf, Given, Source, Token, name_of, shifted_declared, spell, Items, Member, Members, Placed, all_placed, enum, extend, field, file_placed, item, items_placed, map_field, member, message, no_items, no_members, oneof, package_of, packaged, place, placed, prefixes, service, map_append, file_stands}
 use Rattle.proto_listing.proofs.Common.{items_in, last_token, whole, token_last}
 use Rattle.proto_listing.proofs.ReadWords.{placed_worded}
 use Rattle.proto_imports.proofs.Common.{LinkFaults, names_in, of_import, text_of, name_in}
@@ -44,14 +44,14 @@ module _ (files : List FileOf) (reads : List ReadOf) (compiled : AreCompiled fil
   links : HasNoFault (LinkFaults files)
   links x h = compiled.clean x (of_link x h)
 
-  no_fault : (f : Fault) (k : FaultKind) → number_of k ≡ f.number → ImportFault (paths_of files) (asked_in files reads) f → ⊥
+  no_fault : (f : Fault) (k : FaultKind) → kind_number k ≡ f.number → ImportFault (paths_of files) (asked_in files reads) f → ⊥
   no_fault f k e h = links (record { path = (file_at files f.place.file).path; offset = offset_at (read_at reads f.place.file).tokens f.place.token; kind = k }) (of_import reads f _ read (record { path = refl; offset = refl; number = e }) h)
 
   -- an import names a file
   imported_path : (path : List ℕ) (k : ℕ) → IsImported files reads k path → IsWorkspacePath path
-  imported_path path k i = go (file_of (paths_of files) i.0.path) refl
+  imported_path path k i = go (file_with_path (paths_of files) i.0.path) refl
     where
-      go : (o : Option ℕ) → file_of (paths_of files) i.0.path ≡ o → IsWorkspacePath path
+      go : (o : Option ℕ) → file_with_path (paths_of files) i.0.path ≡ o → IsWorkspacePath path
       go None e = absurd (no_fault (fault i.0.place 10) kind.UnknownImport refl (unknown i.0 i.1 e))
       go (Some to) e = subst IsWorkspacePath i.3 (named_path files i.0.path to compiled.workspace e)
 
@@ -63,9 +63,9 @@ module _ (files : List FileOf) (reads : List ReadOf) (compiled : AreCompiled fil
       go false e = absurd (admissible 13 (reads, read, not_imported k there (λ i. false≢true (sym e ∙ test_from_is_path path (imported_path path k i)))))
 
   added_path : (file path : List ℕ) → IsAdmissible files (add_import file path) → IsWorkspacePath path
-  added_path file path admissible = go (file_of (paths_of files) path) refl
+  added_path file path admissible = go (file_with_path (paths_of files) path) refl
     where
-      go : (o : Option ℕ) → file_of (paths_of files) path ≡ o → IsWorkspacePath path
+      go : (o : Option ℕ) → file_with_path (paths_of files) path ≡ o → IsWorkspacePath path
       go None e = absurd (admissible 11 (reads, read, by_name 11 (unknown_path e)))
       go (Some to) e = named_path files path to compiled.workspace e
 

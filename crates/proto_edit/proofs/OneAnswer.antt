@@ -10,7 +10,7 @@ use Rattle.proto_rename_laws.proofs.FirstPlaces.{first_places_are_one}
 use Rattle.proto_rename_described.specs.Mapped.{mapped}
 use Rattle.proto_rename_described.specs.Renamed.{AreRenamed}
 use Rattle.proto_rename_described.proofs.WrittenJson.{written_once}
-use Rattle.proto_edit.specs.Common.{AreCompiled, DescribedOnce, MappedOnce, RefusedOnce, StepsAreUndone, StepsOnce, Asked, rename, delete_field, add_import, drop_import, AreChanges, ChangesOf, IsLeastCase, IsPlaceOf, Maps, PlaceOf, StatementLaws}
+use Rattle.proto_edit.specs.Common.{AreCompiled, DescribedOnce, MappedOnce, RefusedOnce, StepsAreUndone, StepsOnce, Asked, rename, delete_field, add_import, drop_import, AreChanges, ChangesOf, IsLeastCase, IsCaseAt, Maps, PlaceOf, StatementLaws}
 use Rattle.proto_statement_changes.proofs.Common.{FieldAt, changes_of_deletion, IsImportOf, changes_of_addition, changes_of_drop}
 use Rattle.proto_statement_deleted.specs.Files.{tree_at}
 use Rattle.proto_statement_deleted.specs.Imports.{with_dependency, without_dependency}
@@ -67,7 +67,7 @@ place_by laws w reads (delete_field name) path file offset other has read x y = 
 place_by laws w reads (add_import imports imported) path file offset other has read x y = laws.overtaken w reads imports imported path file offset other x y
 place_by laws w reads (drop_import imports imported) path file offset other has read x y = laws.needed w reads imports imported path file offset other x y
 
-pub place_once : StatementLaws → (w : List FileOf) (e : Asked) (path file : List ℕ) (offset other : ℕ) → AreCompiled w → IsPlaceOf w e path offset → IsPlaceOf w e file other → (path ≡ file) × (offset ≡ other)
+pub place_once : StatementLaws → (w : List FileOf) (e : Asked) (path file : List ℕ) (offset other : ℕ) → AreCompiled w → IsCaseAt w e path offset → IsCaseAt w e file other → (path ≡ file) × (offset ≡ other)
 place_once laws w e path file offset other has x y =
     place_by laws w y.0 e path file offset other has y.1 (subst (λ (rs : List ReadOf). PlaceOf w rs e path offset) (read_once w x.0 y.0 x.1 y.1) x.2) y.2
 

@@ -7,7 +7,7 @@ use Rattle.proto_entries.specs.declared.refusal.Refusal.{Refusal}
 use Rattle.proto_entries.specs.declared.refusal.Refusal.TheVariants as refusal
 use Rattle.proto_desc.specs.Whole.{of_link}
 use Rattle.proto_rename.specs.Renames.{IsLeastRenameCase, IsRenamed, IsRenameRefusal}
-use Rattle.proto_statement_edits.specs.Edits.{IsAdded, IsAdditionCase, IsAdditionRefusal, IsDeleted, IsDeletionCase, IsDeletionRefusal, IsDropCase, IsDropRefusal, IsDropped, IsLeastOf}
+use Rattle.proto_statement_edits.specs.Edits.{HasAdditionChanges, IsAdditionCase, IsAdditionRefusal, HasDeletionChanges, IsDeletionCase, IsDeletionRefusal, IsDropCase, IsDropRefusal, HasDropChanges, IsLeastOf}
 use Rattle.proto_edit.specs.Common.{AreCompiled, rename, delete_field, add_import, drop_import, AreChanges, IsAdmissible, IsLeastCase, IsRefusal}
 
 -- ---- a rename, as it is answered
@@ -63,7 +63,7 @@ deletion_refused w name refusal.Cycle h = least_deletion w name 14 h
 deletion_refused w name refusal.TooLarge h = least_deletion w name 16 h
 deletion_refused w name refusal.Stale h = least_deletion w name 17 h
 
-pub deletion_made : (w : List FileOf) (name : List ℕ) (cs : List ChangeOf) → IsDeleted w name cs → IsAdmissible w (delete_field name) × AreChanges w (delete_field name) cs
+pub deletion_made : (w : List FileOf) (name : List ℕ) (cs : List ChangeOf) → HasDeletionChanges w name cs → IsAdmissible w (delete_field name) × AreChanges w (delete_field name) cs
 deletion_made w name cs h = (h.admissible, h.changes)
 
 -- ---- an added import
@@ -91,7 +91,7 @@ addition_refused w file path refusal.Cycle h = least_addition w file path 14 h
 addition_refused w file path refusal.TooLarge h = least_addition w file path 16 h
 addition_refused w file path refusal.Stale h = least_addition w file path 17 h
 
-pub addition_made : (w : List FileOf) (file path : List ℕ) (cs : List ChangeOf) → IsAdded w file path cs → IsAdmissible w (add_import file path) × AreChanges w (add_import file path) cs
+pub addition_made : (w : List FileOf) (file path : List ℕ) (cs : List ChangeOf) → HasAdditionChanges w file path cs → IsAdmissible w (add_import file path) × AreChanges w (add_import file path) cs
 addition_made w file path cs h = (h.admissible, h.changes)
 
 -- ---- a dropped import
@@ -119,7 +119,7 @@ drop_refused w file path refusal.Cycle h = least_drop w file path 14 h
 drop_refused w file path refusal.TooLarge h = least_drop w file path 16 h
 drop_refused w file path refusal.Stale h = least_drop w file path 17 h
 
-pub drop_made : (w : List FileOf) (file path : List ℕ) (cs : List ChangeOf) → IsDropped w file path cs → IsAdmissible w (drop_import file path) × AreChanges w (drop_import file path) cs
+pub drop_made : (w : List FileOf) (file path : List ℕ) (cs : List ChangeOf) → HasDropChanges w file path cs → IsAdmissible w (drop_import file path) × AreChanges w (drop_import file path) cs
 drop_made w file path cs h = (h.admissible, h.changes)
 
 -- ---- files that compile

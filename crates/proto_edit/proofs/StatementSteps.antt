@@ -12,7 +12,7 @@ use Rattle.proto_tree.specs.declared.tree.Import.{Import}
 use Rattle.proto_statement_changes.proofs.Common.{FieldAt, changes_of_deletion, IsImportOf, changes_of_addition, changes_of_drop}
 use Rattle.proto_statement_imports.specs.Workspaces.{AreFaultless, IsMade}
 use Rattle.proto_statement_names.specs.Cases.{IsPlaceOf}
-use Rattle.proto_statement_deleted.specs.Workspace.{IsAllowed}
+use Rattle.proto_statement_deleted.specs.Workspace.{IsAllowedDeletion}
 use Rattle.proto_edit.specs.Common.{AreCompiled, StatementLaws, AreMapped, Asked, ChangesOf, IsAdmissible, IsMappedStep, add_import, delete_field, drop_import}
 use Rattle.proto_statement_edits.specs.Edits.{IsFieldNamed, by_name, too_large}
 
@@ -56,7 +56,7 @@ module _ (laws : StatementLaws) (files : List FileOf) (reads : List ReadOf) (com
   faultless : AreFaultless files reads
   faultless = faultless_by files reads compiled read
 
-  allowed : (name : List ℕ) (f : FieldAt) → IsFieldNamed files reads name f → IsAdmissible files (delete_field name) → IsAllowed files reads name f
+  allowed : (name : List ℕ) (f : FieldAt) → IsFieldNamed files reads name f → IsAdmissible files (delete_field name) → IsAllowedDeletion files reads name f
   allowed name f named admissible = record {
     are = faultless.are;
     link = faultless.links;

@@ -12,5 +12,5 @@ pub record AreCompiled (files : List FileOf) : Type 0 where
   pub clean : HasNoFault (FileFaults files)
 
 -- the fault of a kind at an offset of the file at a path
-abbrev pub at : Path → ℕ → FaultKind → FaultAt
-at path offset k = record { path = path; offset = offset; kind = k }
+abbrev pub fault_of_kind : Path → ℕ → FaultKind → FaultAt
+fault_of_kind path offset k = record { path = path; offset = offset; kind = k }

@@ -12,7 +12,7 @@ use Rattle.proto_entries.specs.EditsAsked.{IsNotable}
 use Rattle.proto_entries.specs.Entries.{ChangeOf, IsEntry}
 use Rattle.proto_entries.specs.Putting.{IsPut}
 use Rattle.proto_edit.specs.Compiled.{AreCompiled}
-use Rattle.proto_edit.specs.Workspaces.{Asked, IsAdmissible, IsLeastCase, IsPlaceOf, AreChanges, AreMapped, IsStep, IsMappedStep, IsUndo, Run, accepted, Undone}
+use Rattle.proto_edit.specs.Workspaces.{Asked, IsAdmissible, IsLeastCase, IsCaseAt, AreChanges, AreMapped, IsStep, IsMappedStep, IsUndo, Run, accepted, Undone}
 
 -- ---- workspaces
 
@@ -63,7 +63,7 @@ RefusedOnce = (w : List FileOf) (e : Asked)
     → AreCompiled w
     → ((m n : ℕ) → IsLeastCase w e m → IsLeastCase w e n → m ≡ n)
     × ((path file : Path) (offset other : ℕ)
-    → IsPlaceOf w e path offset → IsPlaceOf w e file other → (path ≡ file) × (offset ≡ other))
+    → IsCaseAt w e path offset → IsCaseAt w e file other → (path ≡ file) × (offset ≡ other))
 
 -- Undoing what an edit answered leads back, and to no other files.
 abbrev pub StepsAreUndone : Type 0

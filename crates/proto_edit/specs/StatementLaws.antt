@@ -3,7 +3,7 @@ use Rattle.proto_statement_changes.specs.DeletionChanges.{FieldsAreOne}
 use Rattle.proto_statement_deleted.specs.Workspace.{DeletionsAreMade, FieldsMayBeDeleted}
 use Rattle.proto_statement_imports.specs.Statements.{FilesAreThere, ImportsAreOne, ImportsAreThere}
 use Rattle.proto_statement_imports.specs.Workspaces.{AdditionsAreMade, DropsAreMade}
-use Rattle.proto_statement_names.specs.Fields.{FieldsAreOne as NamedFieldsAreOne}
+use Rattle.proto_statement_names.specs.Fields.{NamedFieldsAreOne}
 use Rattle.proto_statement_names.specs.Places.{NeededPlacesAreOne, OvertakenPlacesAreOne}
 
 -- what is known of deletions, added and dropped imports: the laws that steps of these rest on

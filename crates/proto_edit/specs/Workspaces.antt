@@ -11,7 +11,7 @@ use Rattle.proto_entries.specs.declared.refusal.Refusal.{Refusal}
 pub use Rattle.proto_entries.specs.EditsAsked.{Asked, rename, delete_field, add_import, drop_import}
 use Rattle.proto_entries.specs.Entries.{ChangeOf, inverted}
 use Rattle.proto_entries.specs.Putting.{IsPut}
-use Rattle.proto_entries.specs.RefusalTable.{number_of}
+use Rattle.proto_entries.specs.RefusalTable.{refusal_number}
 use Rattle.proto_entries.specs.declared.refusal.Refusal.TheVariants as refusal
 use Rattle.proto_rename_laws.specs.Cases.{Captures, IsFirstPlace, RenameCase}
 use Rattle.proto_rename_laws.specs.Changes.{changes_of_words}
@@ -63,17 +63,17 @@ PlaceOf files reads (drop_import file imported) path offset =
     IsNeededAt files reads file imported path offset
 
 -- this path and offset are answered with the case
-abbrev pub IsPlaceOf : List FileOf → Asked → Path → ℕ → Type 0
-IsPlaceOf w e path offset = (reads : List ReadOf) × AreRead w reads × PlaceOf w reads e path offset
+abbrev pub IsCaseAt : List FileOf → Asked → Path → ℕ → Type 0
+IsCaseAt w e path offset = (reads : List ReadOf) × AreRead w reads × PlaceOf w reads e path offset
 
 -- The least case, with its place where one is answered; memory may come in the place of any.
 abbrev pub IsRefusal : List FileOf → Asked → Refusal → Type 0
 IsRefusal w e refusal.NoMemory = Unit {0}
 IsRefusal w e (refusal.Captured path offset) = IsLeastCase w e 7
-    × IsPlaceOf w e (string_bytes path) offset
+    × IsCaseAt w e (string_bytes path) offset
 IsRefusal w e (refusal.Needed path offset) = IsLeastCase w e 15
-    × IsPlaceOf w e (string_bytes path) offset
-IsRefusal w e r = IsLeastCase w e (number_of r)
+    × IsCaseAt w e (string_bytes path) offset
+IsRefusal w e r = IsLeastCase w e (refusal_number r)
 
 -- ---- what an edit changes
 

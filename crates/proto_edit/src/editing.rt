@@ -19,7 +19,7 @@ use std::mem;
 
 impl Workspace {
     // What a rename changes, file by file, or the least case that refuses it.
-    fn renamed(&self, alloc: Global, name: &str, to: &str) -> Result<Vec<Change>, Refusal>
+    fn changes_of_rename(&self, alloc: Global, name: &str, to: &str) -> Result<Vec<Change>, Refusal>
         ensures ok { IfOk result (λ cs. IsAdmissible self.now (rename_asked name.now to.now)
             × AreChanges self.now (rename_asked name.now to.now) (map change_of cs.items)) }
         ensures err { IfErr result (IsRefusal self.now (rename_asked name.now to.now)) }
@@ -29,7 +29,7 @@ impl Workspace {
 
     // What the deletion of a field changes, or the least case that refuses it. The numbers
     // of fields that compile are small.
-    fn deleted(&self, alloc: Global, name: &str) -> Result<Vec<Change>, Refusal>
+    fn changes_of_deletion(&self, alloc: Global, name: &str) -> Result<Vec<Change>, Refusal>
         ensures ok { IfOk result (λ cs. IsAdmissible self.now (delete_asked name.now)
             × AreChanges self.now (delete_asked name.now) (map change_of cs.items)) }
         ensures err { IfErr result (IsRefusal self.now (delete_asked name.now)) }
@@ -39,7 +39,12 @@ impl Workspace {
     }
 
     // What an added import changes, or the least case that refuses it.
-    fn added(&self, alloc: Global, file: &str, path: &str) -> Result<Vec<Change>, Refusal>
+    fn changes_of_addition(
+        &self,
+        alloc: Global,
+        file: &str,
+        path: &str,
+    ) -> Result<Vec<Change>, Refusal>
         ensures ok { IfOk result (λ cs. IsAdmissible self.now (add_asked file.now path.now)
             × AreChanges self.now (add_asked file.now path.now) (map change_of cs.items)) }
         ensures err { IfErr result (IsRefusal self.now (add_asked file.now path.now)) }
@@ -48,7 +53,7 @@ impl Workspace {
     }
 
     // What a dropped import changes, or the least case that refuses it.
-    fn dropped(&self, alloc: Global, file: &str, path: &str) -> Result<Vec<Change>, Refusal>
+    fn changes_of_drop(&self, alloc: Global, file: &str, path: &str) -> Result<Vec<Change>, Refusal>
         ensures ok { IfOk result (λ cs. IsAdmissible self.now (drop_asked file.now path.now)
             × AreChanges self.now (drop_asked file.now path.now) (map change_of cs.items)) }
         ensures err { IfErr result (IsRefusal self.now (drop_asked file.now path.now)) }
@@ -64,15 +69,23 @@ impl Workspace {
     {
         are_read(self.files());
         match edit {
-            Edit::Rename { name, to } => self.renamed(alloc, name.as_str(), to.as_str()),
-            Edit::DeleteField { name } => self.deleted(alloc, name.as_str()),
-            Edit::AddImport { file, path } => self.added(alloc, file.as_str(), path.as_str()),
-            Edit::DropImport { file, path } => self.dropped(alloc, file.as_str(), path.as_str()),
+            Edit::Rename { name, to } => self.changes_of_rename(alloc, name.as_str(), to.as_str()),
+            Edit::DeleteField { name } => self.changes_of_deletion(alloc, name.as_str()),
+            Edit::AddImport { file, path } => self.changes_of_addition(
+                alloc,
+                file.as_str(),
+                path.as_str(),
+            ),
+            Edit::DropImport { file, path } => self.changes_of_drop(
+                alloc,
+                file.as_str(),
+                path.as_str(),
+            ),
         }
     }
 
     // The workspace with changes, if they can be made and what they leave compiles.
-    fn reopened(&self, alloc: Global, changes: &[Change]) -> Result<Option<Workspace>, Refusal>
+    fn with_changes(&self, alloc: Global, changes: &[Change]) -> Result<Option<Workspace>, Refusal>
         requires { AreRising (map change_of changes.now) }
         ensures ok { IfOk result (λ found. IsReopened self.now (map change_of changes.now) found) }
         ensures err { IfErr result (λ r. r ≡ Refusal.NoMemory) }
@@ -98,7 +111,7 @@ impl Workspace {
         statements_are_known();
         self.files();
         let changes = self.change(alloc, edit)?;
-        let workspace = match self.reopened(alloc, &changes)? {
+        let workspace = match self.with_changes(alloc, &changes)? {
             Some(workspace) => workspace,
             None => unreachable!(),
         };
@@ -115,7 +128,7 @@ impl Workspace {
         ensures err { IfErr result (IsUndoRefusal self.now entry.now) }
     {
         let back = all_turned_round(alloc, entry.changes())?;
-        match self.reopened(alloc, &back)? {
+        match self.with_changes(alloc, &back)? {
             Some(workspace) => Ok(workspace),
             None => Err(Refusal::Stale),
         }
@@ -144,7 +157,7 @@ impl Workspace {
     }
 
     // The same files, compiled anew.
-    fn copied(&self, alloc: Global) -> Result<Workspace, Refusal>
+    fn recompile(&self, alloc: Global) -> Result<Workspace, Refusal>
         ensures ok { IfOk result (λ w. w ≡ self.now) }
         ensures err { IfErr result (λ r. r ≡ Refusal.NoMemory) }
     {
@@ -171,7 +184,7 @@ impl Workspace {
     ) -> Result<(Workspace, Vec<Result<Entry, Refusal>>), NoMemory>
         ensures { IfOk result (λ x. Run self.now (map asked edits.now) x.1.items x.0) }
     {
-        let mut workspace = match self.copied(alloc) {
+        let mut workspace = match self.recompile(alloc) {
             Ok(workspace) => workspace,
             Err(_) => return Err(NoMemory),
         };
@@ -208,7 +221,7 @@ impl Workspace {
         ensures back { LeadsBack self.now entries.now result }
     {
         statements_are_known();
-        let mut workspace = self.copied(alloc)?;
+        let mut workspace = self.recompile(alloc)?;
         for entry in entries.iter().rev() {
             match workspace.without_entry(alloc, entry) {
                 Ok(before) => mem::replace(&mut workspace, before).release(),

@@ -5,7 +5,7 @@ use Rattle.proto_files.specs.GivenFiles.{FileOf}
 use Rattle.proto_entries.specs.declared.refusal.Refusal.{Refusal}
 use Rattle.proto_entries.specs.Entries.{ChangeOf}
 use Rattle.proto_edit.proofs.Common.{Asked, Run, accepted, run_more}
-use Rattle.proto_edit_rows.specs.RowsHold.{AnsweredSo, AnswersHold, AreLed, IsLed, StepOf, step_of}
+use Rattle.proto_edit_rows.specs.RowsHold.{AnsweredSo, AnswersHold, AreLed, IsLed, StepOf, written_step}
 use Rattle.proto_edit_rows.specs.Told.{told_of}
 
 abbrev pub Answer : Type 0
@@ -43,7 +43,7 @@ led_more w m to had es fs steps s led next = record {
 }
 
 -- the same of the step at an index
-pub led_next : (w m to : List FileOf) (had es fs : List (List ChangeOf)) (steps : List Written) (i : ℕ) (d : Written) → i < length steps → AreLed w had (map step_of (take i steps)) m es → IsLed m es (step_of (get_or steps i d)) to fs → AreLed w had (map step_of (take (i + 1) steps)) to fs
+pub led_next : (w m to : List FileOf) (had es fs : List (List ChangeOf)) (steps : List Written) (i : ℕ) (d : Written) → i < length steps → AreLed w had (map written_step (take i steps)) m es → IsLed m es (written_step (get_or steps i d)) to fs → AreLed w had (map written_step (take (i + 1) steps)) to fs
 led_next w m to had es fs steps i d lt led next =
-    subst (λ (z : List StepOf). AreLed w had z to fs) (sym (map_more step_of steps i d lt))
-    (led_more w m to had es fs (map step_of (take i steps)) (step_of (get_or steps i d)) led next)
+    subst (λ (z : List StepOf). AreLed w had z to fs) (sym (map_more written_step steps i d lt))
+    (led_more w m to had es fs (map written_step (take i steps)) (written_step (get_or steps i d)) led next)

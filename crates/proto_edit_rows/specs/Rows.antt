@@ -4,7 +4,7 @@ use Rattle.std.specs.Str.{bytes_eq}
 use Rattle.proto_faults.specs.Texts.{Text, Path}
 use Rattle.proto_files.specs.GivenFiles.{FileOf}
 use Rattle.proto_entries.specs.declared.refusal.Refusal.{Refusal}
-use Rattle.proto_entries.specs.RefusalTable.{number_of, name_of}
+use Rattle.proto_entries.specs.RefusalTable.{refusal_number, refusal_name}
 use Rattle.proto_edit.specs.Workspaces.{Asked, rename, delete_field, add_import, drop_import}
 
 -- The file that a path and a text give.
@@ -26,4 +26,4 @@ row_edit kind of to = if bytes_eq kind (codes "rename") then rename of to
 abbrev pub is_row_answer : {A : Type 0} → Result A Refusal → ℕ → Text → Bool
 is_row_answer (Ok it) number name = number == 0 && bytes_eq name (codes "done")
 is_row_answer (Err refusal) number name =
-    number_of refusal == number && bytes_eq (name_of refusal) name
+    refusal_number refusal == number && bytes_eq (refusal_name refusal) name

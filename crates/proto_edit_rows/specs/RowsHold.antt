@@ -28,8 +28,8 @@ pub record StepOf : Type 0 where
   pub answer : Text
 
 -- the step that four texts write: a kind, a name or a file, a new name or a path, and the answer
-abbrev pub step_of : Bor Text × Bor Text × Bor Text × Bor Text → StepOf
-step_of s = record { edit = row_edit s.0.now s.1.now s.2.now; answer = s.3.now }
+abbrev pub written_step : Bor Text × Bor Text × Bor Text × Bor Text → StepOf
+written_step s = record { edit = row_edit s.0.now s.1.now s.2.now; answer = s.3.now }
 
 -- a row: its files, its steps, the files after them, and a part of their descriptors' JSON text
 pub record RowOf : Type 0 where
@@ -44,10 +44,10 @@ files_after before [] = before
 files_after before (f ∷ fs) = f ∷ fs
 
 -- the row that lists of texts write
-abbrev pub row_of : Row → RowOf
-row_of r = record {
+abbrev pub written_row : Row → RowOf
+written_row r = record {
   files = row_files r.files.now;
-  steps = map step_of r.steps.now;
+  steps = map written_step r.steps.now;
   after = files_after (row_files r.files.now) (row_files r.after.now);
   part = r.json.now;
 }

@@ -5,7 +5,7 @@ use Rattle.proto_text.specs.Edits.{Edit}
 use Rattle.proto_entries.specs.declared.refusal.Refusal.{Refusal}
 use Rattle.proto_entries.specs.declared.refusal.Refusal.TheVariants as refusal
 use Rattle.proto_entries.specs.Entries.{ChangeOf}
-use Rattle.proto_entries.specs.RefusalTable.{number_of, name_of}
+use Rattle.proto_entries.specs.RefusalTable.{refusal_number, refusal_name}
 
 -- a path and an offset behind a refusal's name, as ` path offset`
 abbrev pub place_told : Path → ℕ → Text
@@ -19,7 +19,7 @@ places_told _ = codes ""
 
 -- a refusal as `number name`, with the place of a reference where it has one
 abbrev pub refusal_told : Refusal → Text
-refusal_told r = (decimal (number_of r) ++ (codes " " ++ name_of r)) ++ places_told r
+refusal_told r = (decimal (refusal_number r) ++ (codes " " ++ refusal_name r)) ++ places_told r
 
 -- a splice as ` (offset old new)`
 abbrev pub splice_told : Edit → Text

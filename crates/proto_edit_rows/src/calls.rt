@@ -103,7 +103,7 @@ pub fn is_said<T: Drop>(answer: Result<T, Refusal>, said: Said) -> bool
 }
 
 /// The text, and spaces behind it up to so many bytes.
-pub fn filled(alloc: Global, text: &str, bytes: usize) -> Result<String, NoMemory>
+pub fn padded_text(alloc: Global, text: &str, bytes: usize) -> Result<String, NoMemory>
     ensures { IfOk result (λ s. string_bytes s
         ≡ text.now ++ repeat (bytes - length text.now) (codes " ")) }
 {

@@ -1,7 +1,7 @@
 //! What is otherwise than rows say.
 
 ghost use Rattle.std.specs.Prelude.{◌≡◌, [], IfOk, IsOk, map, string_bytes};
-ghost use Rattle.proto_edit_rows.specs.RowsHold.{RowHolds, StepsHold, UndosHold, row_files, row_of, step_of, undo_of};
+ghost use Rattle.proto_edit_rows.specs.RowsHold.{RowHolds, StepsHold, UndosHold, row_files, written_row, written_step, undo_of};
 
 use crate::edited::{expect_row, expect_steps};
 use crate::row::{Row, Undo};
@@ -11,7 +11,7 @@ use proto_faults::NoMemory;
 use std::alloc::Global;
 
 // What is otherwise, in words; an empty text where nothing is.
-fn told(alloc: Global, answer: Result<(), Unlike>) -> Result<String, NoMemory>
+fn difference_text(alloc: Global, answer: Result<(), Unlike>) -> Result<String, NoMemory>
     ensures { IfOk result (λ s. string_bytes s ≡ [] → IsOk answer) }
 {
     match answer {
@@ -26,11 +26,11 @@ fn told(alloc: Global, answer: Result<(), Unlike>) -> Result<String, NoMemory>
 /// done as one run and step by step, and led back by these undos to the files that it begins with,
 /// or by its entries, at once and one by one, where there are no undos.
 pub fn difference(alloc: Global, row: &Row, undos: &[Undo]) -> Result<String, NoMemory>
-    ensures row { IfOk result (λ s. string_bytes s ≡ [] → RowHolds (row_of row.now)) }
+    ensures row { IfOk result (λ s. string_bytes s ≡ [] → RowHolds (written_row row.now)) }
     ensures undos { IfOk result (λ s. string_bytes s ≡ []
-        → UndosHold (row_of row.now) (map undo_of undos.now)) }
+        → UndosHold (written_row row.now) (map undo_of undos.now)) }
 {
-    told(alloc, expect_row(alloc, row, undos))
+    difference_text(alloc, expect_row(alloc, row, undos))
 }
 
 /// What is first answered otherwise than these steps say, one after another; an empty text only
@@ -41,7 +41,7 @@ pub fn difference_of_answers(
     steps: &[Step],
 ) -> Result<String, NoMemory>
     ensures { IfOk result (λ s. string_bytes s ≡ []
-        → StepsHold (row_files files.now) (map step_of steps.now)) }
+        → StepsHold (row_files files.now) (map written_step steps.now)) }
 {
-    told(alloc, expect_steps(alloc, files, steps))
+    difference_text(alloc, expect_steps(alloc, files, steps))
 }

@@ -4,7 +4,7 @@
 ghost use Rattle.std.specs.Prelude.{◌≡◌, ◌≢◌, ◌++◌, [], ◌∷◌, IfErr, IfOk, OnOk, map};
 ghost use Rattle.proto_edit.specs.Compiled.{AreCompiled};
 ghost use Rattle.proto_edit.specs.Workspaces.{IsMappedStep, IsRefusal, Run, accepted};
-ghost use Rattle.proto_edit_rows.specs.RowsHold.{AreLed, IsLed, RowHolds, ShowsPart, StepsHold, UndoneSo, UndosHold, UndosLead, row_files, row_of, step_of, undo_of};
+ghost use Rattle.proto_edit_rows.specs.RowsHold.{AreLed, IsLed, RowHolds, ShowsPart, StepsHold, UndoneSo, UndosHold, UndosLead, row_files, written_row, written_step, undo_of};
 ghost use Rattle.proto_edit_rows.specs.Told.{told_of};
 ghost use Rattle.proto_desc.specs.Whole.{IsSortedOf};
 
@@ -24,7 +24,7 @@ struct Edited {
     entries: Vec<Entry>,
 }
 
-fn begun(alloc: Global, files: &[(&str, &str)]) -> Result<Edited, Unlike>
+fn begin_edits(alloc: Global, files: &[(&str, &str)]) -> Result<Edited, Unlike>
     ensures sorted { IfOk result (λ e. IsSortedOf (row_files files.now) e.workspace) }
     ensures compiled { IfOk result (λ e. AreCompiled e.workspace) }
     ensures none { IfOk result (λ e. e.entries.items ≡ []) }
@@ -106,8 +106,8 @@ type Answer = Result<Entry, Refusal>;
 
 fn apply(alloc: Global, workspace: &mut Workspace, step: Step) -> Answer
     ensures ok { IfOk result (λ cs. IsMappedStep workspace.old
-        (step_of step.entry).edit cs workspace.new) }
-    ensures err { IfErr result (λ r. IsRefusal workspace.old (step_of step.entry).edit r
+        (written_step step.entry).edit cs workspace.new) }
+    ensures err { IfErr result (λ r. IsRefusal workspace.old (written_step step.entry).edit r
         × (workspace.new ≡ workspace.old)) }
 {
     let edit = edit_of(alloc, step)?;
@@ -122,7 +122,7 @@ fn answered_again(
     before: &[u8],
 ) -> Result<Answer, Unlike>
     ensures { IfOk result (λ a. Run workspace.old
-        ((step_of step.entry).edit ∷ []) (a ∷ []) workspace.new) }
+        ((written_step step.entry).edit ∷ []) (a ∷ []) workspace.new) }
 {
     expect_state(alloc, workspace, before)?;
     match apply(alloc, workspace, step) {
@@ -133,9 +133,9 @@ fn answered_again(
 }
 
 // What the step's edit is answered.
-fn answered(alloc: Global, workspace: &mut Workspace, step: Step) -> Result<Answer, Unlike>
+fn answer_of_step(alloc: Global, workspace: &mut Workspace, step: Step) -> Result<Answer, Unlike>
     ensures { IfOk result (λ a. Run workspace.old
-        ((step_of step.entry).edit ∷ []) (a ∷ []) workspace.new) }
+        ((written_step step.entry).edit ∷ []) (a ∷ []) workspace.new) }
 {
     let before = state(alloc, workspace)?;
     match apply(alloc, workspace, step) {
@@ -172,9 +172,9 @@ fn expect_answer(
 
 fn expect_step(alloc: Global, edited: &mut Edited, step: Step) -> Result<(), Unlike>
     ensures { OnOk result (IsLed edited.old.workspace edited.old.entries.items
-        (step_of step.entry) edited.new.workspace edited.new.entries.items) }
+        (written_step step.entry) edited.new.workspace edited.new.entries.items) }
 {
-    let answer = answered(alloc, &mut edited.workspace, step)?;
+    let answer = answer_of_step(alloc, &mut edited.workspace, step)?;
     let (.., wanted) = step;
     expect_answer(alloc, &mut edited.entries, answer, wanted)
 }
@@ -182,7 +182,7 @@ fn expect_step(alloc: Global, edited: &mut Edited, step: Step) -> Result<(), Unl
 // The steps are answered as they say, each in the workspace as it then stands.
 fn expect_answers(alloc: Global, edited: &mut Edited, steps: &[Step]) -> Result<(), Unlike>
     ensures { OnOk result (AreLed edited.old.workspace edited.old.entries.items
-        (map step_of steps.now) edited.new.workspace edited.new.entries.items) }
+        (map written_step steps.now) edited.new.workspace edited.new.entries.items) }
 {
     for &step in steps {
         expect_step(alloc, edited, step)?;
@@ -308,7 +308,7 @@ fn expect_back(
 
 // The files of the row afterwards.
 fn files_of<'a>(row: &Row<'a>) -> &'a [(&'a str, &'a str)]
-    ensures { row_files result.now ≡ (row_of row.now).after }
+    ensures { row_files result.now ≡ (written_row row.now).after }
 {
     match row.after {
         [] => row.files,
@@ -324,10 +324,10 @@ fn expect_after(
     first: &[u8],
     undos: &[Undo],
 ) -> Result<(), Unlike>
-    ensures files { OnOk result (edited.old.workspace ≡ (row_of row.now).after) }
-    ensures shown { OnOk result (ShowsPart edited.old.workspace (row_of row.now).part) }
+    ensures files { OnOk result (edited.old.workspace ≡ (written_row row.now).after) }
+    ensures shown { OnOk result (ShowsPart edited.old.workspace (written_row row.now).part) }
     ensures back { OnOk result (map undo_of undos.now ≢ [] → UndosLead edited.old.entries.items
-        edited.old.workspace (map undo_of undos.now) (row_of row.now).files) }
+        edited.old.workspace (map undo_of undos.now) (written_row row.now).files) }
 {
     expect_held(alloc, &edited.workspace, files_of(row), row.json)?;
     expect_back_at_once(alloc, edited, row.files, first)?;
@@ -408,9 +408,9 @@ fn expect_ways(
     first: &[u8],
     undos: &[Undo],
 ) -> Result<(), Unlike>
-    ensures row { OnOk result (AreCompiled edited.old.workspace → RowHolds (row_of row.now)) }
+    ensures row { OnOk result (AreCompiled edited.old.workspace → RowHolds (written_row row.now)) }
     ensures undos { OnOk result (edited.old.entries.items ≡ []
-        → UndosHold (row_of row.now) (map undo_of undos.now)) }
+        → UndosHold (written_row row.now) (map undo_of undos.now)) }
 {
     expect_run(alloc, &edited.workspace, row, first, undos)?;
     expect_first(alloc, &edited.workspace, row.files, first)?;
@@ -424,9 +424,9 @@ fn expect_edited(
     row: &Row,
     undos: &[Undo],
 ) -> Result<(), Unlike>
-    ensures row { OnOk result (AreCompiled edited.old.workspace → RowHolds (row_of row.now)) }
+    ensures row { OnOk result (AreCompiled edited.old.workspace → RowHolds (written_row row.now)) }
     ensures undos { OnOk result (edited.old.entries.items ≡ []
-        → UndosHold (row_of row.now) (map undo_of undos.now)) }
+        → UndosHold (written_row row.now) (map undo_of undos.now)) }
 {
     let first = state(alloc, &edited.workspace)?;
     expect_ways(alloc, edited, row, first.as_slice(), undos)
@@ -438,9 +438,9 @@ pub(crate) fn expect_steps(
     files: &[(&str, &str)],
     steps: &[Step],
 ) -> Result<(), Unlike>
-    ensures { OnOk result (StepsHold (row_files files.now) (map step_of steps.now)) }
+    ensures { OnOk result (StepsHold (row_files files.now) (map written_step steps.now)) }
 {
-    let mut edited = begun(alloc, files)?;
+    let mut edited = begin_edits(alloc, files)?;
     let held = expect_answers(alloc, &mut edited, steps);
     edited.workspace.release();
     held
@@ -449,10 +449,10 @@ pub(crate) fn expect_steps(
 /// The row holds as one run and step by step, with the way back at once and one by one, as undos
 /// say, if there are any.
 pub(crate) fn expect_row(alloc: Global, row: &Row, undos: &[Undo]) -> Result<(), Unlike>
-    ensures row { OnOk result (RowHolds (row_of row.now)) }
-    ensures undos { OnOk result (UndosHold (row_of row.now) (map undo_of undos.now)) }
+    ensures row { OnOk result (RowHolds (written_row row.now)) }
+    ensures undos { OnOk result (UndosHold (written_row row.now) (map undo_of undos.now)) }
 {
-    let mut edited = begun(alloc, row.files)?;
+    let mut edited = begin_edits(alloc, row.files)?;
     let held = expect_edited(alloc, &mut edited, row, undos);
     edited.workspace.release();
     held

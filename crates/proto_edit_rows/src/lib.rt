@@ -9,7 +9,7 @@ mod step;
 mod told;
 mod unlike;
 
-pub use calls::{are_texts, edit_of, filled, is_said, open};
+pub use calls::{are_texts, edit_of, is_said, open, padded_text};
 pub use differences::{difference, difference_of_answers};
 pub use row::{Row, Texts, Undo};
 pub use step::{Said, Step};

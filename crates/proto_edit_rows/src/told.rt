@@ -14,7 +14,7 @@ use std::fmt::Write;
 
 // A refusal as `number name`, behind which a reference has its `path offset`, or the changes of an
 // entry, each as `path before after (at old new)..;`.
-fn told(alloc: Global, answer: &Result<Entry, Refusal>) -> Result<String, NoMemory>
+fn answer_text(alloc: Global, answer: &Result<Entry, Refusal>) -> Result<String, NoMemory>
     ensures { IfOk result (λ s. string_bytes s ≡ told_of answer.now) }
 {
     let mut out = String::new(alloc);
@@ -84,6 +84,6 @@ pub(crate) fn expect_told(
 ) -> Result<(), Unlike>
     ensures { OnOk result (told_of answer.now ≡ wanted.now) }
 {
-    let told = told(alloc, answer)?;
+    let told = answer_text(alloc, answer)?;
     expect(alloc, told.as_str() == wanted, told.as_str(), wanted)
 }

@@ -4,7 +4,7 @@ use Rattle.std.specs.List.{All, AllPass, list_all, join_with_byte, slice_split}
 use Rattle.std.proofs.lemmas.Bool.{false≢true, cases_Bool, eqb-true}
 use Rattle.std.proofs.lemmas.List.Elements.{All-nil, All-cons, All-head, All-tail}
 use Rattle.std.proofs.lemmas.List.Splits.{slice_split_at, slice_split_none, join_with_byte-slice_split}
-use Rattle.proto_text.proofs.Common.{Each, class_of, extends_word, is_identifier, IsRun, is_run, is_run_again, run_is}
+use Rattle.proto_text.proofs.Common.{EachByte, class_of, extends_word, is_identifier, IsRun, is_run, is_run_again, run_is}
 use Rattle.proto_text.specs.declared.class.Class.TheVariants.{Letter}
 use Rattle.proto_files.proofs.WorkspacePathTest.{AllPass-from_list_all, list_all-from_AllPass}
 use Rattle.proto_entries.specs.EditsAsked.{IsDotted}
@@ -16,7 +16,7 @@ no_dot b h = elim (cases_Bool (b == 46)) [
   | inr f ↦ f
 ]
 
-none_dotted : (bytes : List ℕ) → Each is_identifier bytes → All (λ b. (b == 46) ≡ false) bytes
+none_dotted : (bytes : List ℕ) → EachByte is_identifier bytes → All (λ b. (b == 46) ≡ false) bytes
 none_dotted [] h = All-nil (λ b. (b == 46) ≡ false)
 none_dotted (b ∷ bytes) h = All-cons (λ b. (b == 46) ≡ false) b bytes (no_dot b h.0) (none_dotted bytes h.1)
 

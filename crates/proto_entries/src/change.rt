@@ -55,7 +55,7 @@ fn push_splice(
     Ok(())
 }
 
-fn copied(alloc: Global, splices: &Splices) -> Result<Splices, NoMemory>
+fn copy_splices(alloc: Global, splices: &Splices) -> Result<Splices, NoMemory>
     ensures { IfOk result (λ copy. copy ≡ splices.now) }
 {
     let mut list = Vec::new(alloc);
@@ -78,7 +78,7 @@ fn push_turned(back: &mut Vec<Change>, alloc: Global, change: &Change) -> Result
         ≡ map change_of back.old.items ++ turned_round (change_of change.now) ∷ []) }
 {
     let path = change.path.as_str().to_string(alloc)?;
-    let splices = copied(alloc, &change.splices)?;
+    let splices = copy_splices(alloc, &change.splices)?;
     back.push(Change {
         path,
         before: change.after,

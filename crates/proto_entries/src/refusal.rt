@@ -1,7 +1,7 @@
 //! Why an edit or an undo is refused.
 
 ghost use Rattle.std.specs.Prelude.{◌≡◌};
-ghost use Rattle.proto_entries.specs.RefusalTable.{number_of, name_of};
+ghost use Rattle.proto_entries.specs.RefusalTable.{refusal_number, refusal_name};
 
 use proto_faults::NoMemory;
 use std::alloc::{AllocError, AllocFailed};
@@ -100,7 +100,7 @@ impl Refusal {
 
     /// The number in the table of refusals, from 1 to 18.
     pub fn number(&self) -> u32
-        ensures { result ≡ number_of self.now }
+        ensures { result ≡ refusal_number self.now }
     {
         match self {
             Refusal::UnknownTarget => 1,
@@ -126,7 +126,7 @@ impl Refusal {
 
     /// The name in the table of refusals.
     pub fn name(&self) -> &'static str
-        ensures { result.now ≡ name_of self.now }
+        ensures { result.now ≡ refusal_name self.now }
     {
         match self {
             Refusal::UnknownTarget => "UnknownTarget",

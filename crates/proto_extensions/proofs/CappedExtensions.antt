@@ -1,6 +1,6 @@
 -- What is wrong with the files of a workspace, with one cap and another: the least flaw is the same (for the crates above).
 use Rattle.std.proofs.Common.{◌≡◌, ◌⊎◌, ℕ, ◌<◌, ℤ, pos, Bool, true, false, not, ◌&&◌, ◌||◌, List, [], ◌∷◌, ◌++◌, map, flat_map, Option, Some, None, option_map, refl, sym, ◌∙◌, ap, subst, inl, inr, arith, Contains, find, int_eq}
-use Rattle.proto_faults.proofs.Common.{Contains-append_left, cases_Bool, contains_head, contains_later, list_any, number_of, or_cases, or_right}
+use Rattle.proto_faults.proofs.Common.{Contains-append_left, cases_Bool, contains_head, contains_later, list_any, kind_number, or_cases, or_right}
 use Rattle.proto_faults.specs.declared.fault.FaultKind.{FaultKind}
 use Rattle.proto_faults.specs.declared.fault.FaultKind.TheVariants as kind
 use Rattle.proto_tree.specs.declared.tree.Range.{Range}
@@ -15,7 +15,7 @@ use Rattle.proto_numbers.proofs.CappedRanges.{inside_same, number_same}
 use Rattle.proto_checks.proofs.Common.{file_flaws}
 use Rattle.proto_checks.proofs.CappedFlaws.{covered_file}
 use Rattle.proto_scenes.specs.SceneOf.{declared_as, scene_of}
-use Rattle.proto_extensions.specs.Capped.{CapsKeepTheLeast}
+use Rattle.proto_extensions.specs.Capped.{CapsKeepTheLeastOfFile}
 use Rattle.proto_extensions.specs.Common.{ExtensionOf, all_flaws, are_same, is_extendable, is_message_at, ranges_at_place, ranges_named, ranges_within, workspace_flaws}
 use Rattle.proto_extensions.proofs.WrittenExtensions.{Written, again_of, as_extension, flaws_written, outside_of, written_before, written_in, written_number, wrong_there}
 
@@ -69,7 +69,7 @@ module _ (files : List FileOf) (reads : List ReadOf) where
           Contains-append_left own (workspace_flaws d files reads file) (flaw kind.NumberRange w.token)
           (wrong_there files reads d file w h (sym (field_limit.same (number c w) (number d w) (number_alike w)) ∙ e))
 
-      beneath : (k : FaultKind) → number_of kind.NumberRange < number_of k → (w : Written) → Contains (written_in files reads file) w → is_field_number (number c w) ≡ false → Beneath zs (flaw k w.token)
+      beneath : (k : FaultKind) → kind_number kind.NumberRange < kind_number k → (w : Written) → Contains (written_in files reads file) w → is_field_number (number c w) ≡ false → Beneath zs (flaw k w.token)
       beneath k l w h e = (flaw kind.NumberRange w.token, limited w h e, refl, l)
 
       -- ---- numbers that are not left to extensions
@@ -129,7 +129,7 @@ module _ (files : List FileOf) (reads : List ReadOf) where
           (subst (λ (fs : List Flaw). Covered zs (flat_map (outside_of files reads c) (written_in files reads file) ++ again_of files reads c file) fs) (sym (flaws_written files reads d file))
           (covered_join zs (flat_map (outside_of files reads c) (written_in files reads file)) (flat_map (outside_of files reads d) (written_in files reads file)) (again_of files reads c file) (again_of files reads d file) (covered_outside (written_in files reads file) (λ w h. h)) covered_again)))
 
-pub caps_keep_the_least : CapsKeepTheLeast
+pub caps_keep_the_least : CapsKeepTheLeastOfFile
 caps_keep_the_least files reads file r h =
     let caps = past_or_none (Some past) refl in
     least_kept (all_flaws (Some past) files reads file) (all_flaws None files reads file) (covered_all files reads (Some past) None caps file) (covered_all files reads None (Some past) (caps_back (Some past) None caps) file) r h

@@ -7,12 +7,12 @@ use Rattle.proto_tree.specs.declared.tree.Field.{Field}
 use Rattle.proto_tree.specs.declared.tree.Member.{Member}
 use Rattle.proto_tree.specs.declared.tree.ServiceItem.{ServiceItem}
 use Rattle.proto_tree.specs.File.{enum_item_tree, enum_tree, field_tree, member_tree, message_tree, oneof_tree, service_item_tree, service_tree, trees}
-use Rattle.proto_tree.proofs.Common.{Tree, joined}
+use Rattle.proto_tree.proofs.Common.{Tree, joined_trees}
 use Rattle.proto_parts.proofs.Common.{BlockOf, blocks_in, no_block_in_enum, no_method_within, none_within}
 use Rattle.proto_parts.proofs.JoinedTrees.{blocks_joined}
 use Rattle.proto_extensions.specs.Common.{has_extend, is_extend}
 
-pub in_joined : (t u : Tree) → has_extend (joined t u) ≡ (has_extend t || has_extend u)
+pub in_joined : (t u : Tree) → has_extend (joined_trees t u) ≡ (has_extend t || has_extend u)
 in_joined t u = ap (list_any (λ (b : BlockOf). is_extend b.header)) (blocks_joined t u) ∙ list_any-append (λ (b : BlockOf). is_extend b.header) (blocks_in t) (blocks_in u)
 
 pub in_message : (m : Braced Member) → has_extend (message_tree m) ≡ has_extend (trees member_tree m.members.items)

@@ -7,13 +7,13 @@ use Rattle.proto_files.proofs.Common.{FileOf, ReadOf}
 use Rattle.proto_meaning.proofs.Common.{At, at, joined, is_package, place_of, Declared, Used}
 use Rattle.proto_names.specs.Links.{uses_of}
 use Rattle.proto_names.specs.Common.{meant_at}
-use Rattle.proto_names.proofs.Common.{IsLinkRead, LinkOf, NameOf, file_at, name_at, own_file, own_token, text_at, token_at}
+use Rattle.proto_names.proofs.Common.{IsLinkRead, LinkOf, NameOf, declaring_file, name_at, own_file, own_token, name_text, declaring_token}
 use Rattle.proto_names.specs.declared.references.Meant.{Meant}
 use Rattle.proto_parts.proofs.Common.{past}
-use Rattle.proto_numbers.specs.RangeIndex.{IsIndexOf}
+use Rattle.proto_numbers.specs.RangeIndex.{IsRangeIndexOf}
 use Rattle.proto_scenes.specs.SceneOf.{meaning_of}
 use Rattle.proto_scenes.proofs.MeantPlaces.{Named, Placed, none_named, one_named, place_meant}
-use Rattle.proto_extensions.specs.Common.{Extendee, IsExtendee, index_in, name_meant, ranges_at, ranges_at_place, ranges_named}
+use Rattle.proto_extensions.specs.Common.{Extendee, IsExtendee, index_in, name_meant, extension_ranges_at, ranges_at_place, ranges_named}
 
 module _ (files : List FileOf) (reads : List ReadOf) (l : LinkOf) (link : IsLinkRead files reads l) (file : ℕ) (within : file < length files) (r : Reference) where
   abbrev first : ℕ
@@ -56,26 +56,26 @@ module _ (files : List FileOf) (reads : List ReadOf) (l : LinkOf) (link : IsLink
           })
 
   module _ (row : ℕ) (m : MeantName row) where
-    pub text_there : text_at l row ≡ Some (joined m.name)
+    pub text_there : name_text l row ≡ Some (joined m.name)
     text_there = ap (option_map (λ (n : NameOf). n.text)) m.there ∙ ap (λ (t : List ℕ). Some t) m.text
 
-    pub file_there : file_at l row ≡ Some (get_or m.has.files 0 0)
+    pub file_there : declaring_file l row ≡ Some (get_or m.has.files 0 0)
     file_there = ap (option_and_then own_file) m.there ∙ ap (λ (b : Bool). if b then None else Some (get_or m.has.files 0 0)) m.placed.other
 
-    pub token_there : token_at l row ≡ Some m.has.token
+    pub token_there : declaring_token l row ≡ Some m.has.token
     token_there = ap (option_and_then own_token) m.there ∙ ap (λ (b : Bool). if b then None else Some m.has.token) m.placed.other
 
-    pub ranges_there : ranges_at (Some past) files reads (at (get_or m.has.files 0 0) m.has.token) ≡ ranges_named (Some past) files reads m.name
+    pub ranges_there : extension_ranges_at (Some past) files reads (at (get_or m.has.files 0 0) m.has.token) ≡ ranges_named (Some past) files reads m.name
     ranges_there =
-        ap (ranges_at (Some past) files reads) m.placed.place
+        ap (extension_ranges_at (Some past) files reads) m.placed.place
         ∙ sym (ap (λ (o : Option (Declared At)). ranges_at_place (Some past) files reads (option_map place_of o)) m.placed.is)
 
     -- what the code finds
     pub found_extendee : (x : Extendee) (declared token : ℕ) → x.name.now ≡ joined m.name → declared ≡ get_or m.has.files 0 0 → token ≡ m.has.token
-        → IsIndexOf (ranges_at (Some past) files reads (at declared token)) x.ranges.now → IsExtendee files reads file r (Some x)
+        → IsRangeIndexOf (extension_ranges_at (Some past) files reads (at declared token)) x.ranges.now → IsExtendee files reads file r (Some x)
     found_extendee x declared token name d t is = (
       m.name,
       m.is,
       name,
-      subst (λ rs. IsIndexOf rs x.ranges.now) (ap (λ (i : ℕ). ranges_at (Some past) files reads (at i token)) d ∙ ap (λ (i : ℕ). ranges_at (Some past) files reads (at (get_or m.has.files 0 0) i)) t ∙ ranges_there) is,
+      subst (λ rs. IsRangeIndexOf rs x.ranges.now) (ap (λ (i : ℕ). extension_ranges_at (Some past) files reads (at i token)) d ∙ ap (λ (i : ℕ). extension_ranges_at (Some past) files reads (at (get_or m.has.files 0 0) i)) t ∙ ranges_there) is,
     )

@@ -10,7 +10,7 @@ use Rattle.proto_files.proofs.Common.{FileOf, ReadOf}
 use Rattle.proto_meaning.specs.Joined.{joined}
 use Rattle.proto_parts.proofs.Common.{BlockOf, FieldOf, blocks_in, fields_in, past, Scene}
 use Rattle.proto_parts.specs.declared.ranges.RangeAt.{RangeAt}
-use Rattle.proto_numbers.specs.RangeIndex.{IsIndexOf}
+use Rattle.proto_numbers.specs.RangeIndex.{IsRangeIndexOf}
 use Rattle.proto_numbers.proofs.Common.{number_of_field}
 use Rattle.proto_scenes.specs.SceneOf.{scene_of}
 use Rattle.proto_extensions.specs.Common.{BlockAt, Extendee, ExtensionAt, ExtensionOf, IsExtendee, Told, asked_in, block_extensions, block_of, extend_block, extendee_in, extensions_of, is_asked, name_meant, ranges_named, told, told_by, told_number}
@@ -34,7 +34,7 @@ module _ (files : List FileOf) (reads : List ReadOf) where
 
   -- an `extend` block whose fields were added
   pub pushed_block : (file : ℕ) (extend : Extend) (x : Extendee) (scene : Scene) → scene ≡ scene_of (Some past) files reads file → IsExtendee files reads file extend.extendee (Some x) → (b : BlockAt) → block_of b ≡ extend_block extend → (old new : List Told)
-      → ((ranges : List RangeAt) → IsIndexOf ranges x.ranges.now → new ≡ old ++ map (told_number x.name.now ranges) (map (number_of_field scene) (fields_in (trees extension_tree extend.fields.items))))
+      → ((ranges : List RangeAt) → IsRangeIndexOf ranges x.ranges.now → new ≡ old ++ map (told_number x.name.now ranges) (map (number_of_field scene) (fields_in (trees extension_tree extend.fields.items))))
       → new ≡ old ++ map (told files reads) (block_extensions (Some past) files reads file (block_of b))
   pushed_block file extend x scene is e b block old new pushed =
       let ranges : List RangeAt = ranges_named (Some past) files reads e.0 in

@@ -12,7 +12,7 @@ use Rattle.proto_checks.proofs.Phases.{flaws_are_of_checks}
 use Rattle.proto_scenes.specs.SceneOf.{scene_of}
 use Rattle.proto_extensions.specs.Common.{all_flaws, workspace_flaws}
 use Rattle.proto_extensions.proofs.WrittenExtensions.{Written, again_of, flaws_written, from_flat, outside_of, written_in, written_number, wrong_there}
-use Rattle.proto_parts.proofs.Common.{Scene, number_of, text}
+use Rattle.proto_parts.proofs.Common.{Scene, number_value, text}
 
 of_if : (b : Bool) (k : FaultKind) (t : ℕ) (f : Flaw) → Contains (flaw_if b k t) f → flaw k t ≡ f
 of_if true k t f c = elim (contains_cases (flaw k t) f [] c) [
@@ -61,7 +61,7 @@ module _ (cap : Option ℕ) (files : List FileOf) (reads : List ReadOf) (file : 
     -- where all numbers are read as 0, each number of an extension is a flaw of the file alone
     number_there : (w : Written) → Contains (written_in files reads file) w → w.token < length (read_at reads file).tokens
     number_there w h =
-        let n : ℕ = number_of (text (scene_of (Some 0) files reads w.file) w.token) in
+        let n : ℕ = number_value (text (scene_of (Some 0) files reads w.file) w.token) in
         let least : min 0 n ≡ 0 = omega arith in
         in_file (scene_of (Some 0) files reads file) (flaw kind.NumberRange w.token) (wrong_there files reads (Some 0) file w h (ap (λ (m : ℕ). is_field_number (pos m)) least))
 

@@ -6,11 +6,11 @@ use Rattle.proto_files.specs.FilesRead.{ReadOf}
 use Rattle.proto_files.specs.GivenFiles.{FileOf}
 use Rattle.proto_parts.specs.Numbers.{past}
 use Rattle.proto_numbers.specs.declared.flaw.Flaw.{Flaw}
-use Rattle.proto_numbers.specs.Flaws.{IsLeast}
+use Rattle.proto_numbers.specs.Flaws.{IsLeastOfFlaws}
 use Rattle.proto_extensions.specs.Extensions.{all_flaws}
 
 -- the least flaw of a file is the same with the cap and without it
-abbrev pub CapsKeepTheLeast : Type 0
-CapsKeepTheLeast = (files : List FileOf) (reads : List ReadOf) (file : ℕ) (r : Option Flaw)
-    → IsLeast (Contains (all_flaws (Some past) files reads file)) r
-    → IsLeast (Contains (all_flaws None files reads file)) r
+abbrev pub CapsKeepTheLeastOfFile : Type 0
+CapsKeepTheLeastOfFile = (files : List FileOf) (reads : List ReadOf) (file : ℕ) (r : Option Flaw)
+    → IsLeastOfFlaws (Contains (all_flaws (Some past) files reads file)) r
+    → IsLeastOfFlaws (Contains (all_flaws None files reads file)) r

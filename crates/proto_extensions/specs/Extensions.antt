@@ -95,15 +95,15 @@ ranges_within scene (Some b) =
 
 -- the ranges that the message whose name is at this token of a file leaves to extensions; none
 -- where no message has it
-abbrev pub ranges_at : Option ℕ → List FileOf → List ReadOf → At → List RangeAt
-ranges_at cap files reads a =
+abbrev pub extension_ranges_at : Option ℕ → List FileOf → List ReadOf → At → List RangeAt
+extension_ranges_at cap files reads a =
     ranges_within (scene_of cap files reads a.file)
     (find (λ b. is_message_at a.token b.header) (blocks_in (read_at reads a.file).tree))
 
 -- the ranges at this place, where there is one
 abbrev pub ranges_at_place : Option ℕ → List FileOf → List ReadOf → Option At → List RangeAt
 ranges_at_place cap files reads None = []
-ranges_at_place cap files reads (Some a) = ranges_at cap files reads a
+ranges_at_place cap files reads (Some a) = extension_ranges_at cap files reads a
 
 -- the ranges that the message with this full name leaves to extensions; none where no message has
 -- it

@@ -15,7 +15,7 @@ use Rattle.proto_parts.specs.Numbers.{past}
 use Rattle.proto_parts.specs.declared.ranges.RangeAt.{RangeAt}
 use Rattle.proto_numbers.specs.Flaws.{earlier, flaw_if, marked}
 use Rattle.proto_numbers.specs.NumberFlaws.{is_inside}
-use Rattle.proto_numbers.specs.RangeIndex.{IsIndexOf}
+use Rattle.proto_numbers.specs.RangeIndex.{IsRangeIndexOf}
 use Rattle.proto_numbers.specs.declared.flaw.Flaw.{Flaw}
 use Rattle.proto_numbers.specs.declared.numbers.NumberAt.{NumberAt}
 use Rattle.proto_extensions.specs.Extensions.{ExtensionOf, extensions_in, is_extendable, name_meant, ranges_named, workspace_flaws}
@@ -63,7 +63,7 @@ IsExtendee files reads file r None = name_meant files reads file r ≡ None
 IsExtendee files reads file r (Some x) =
     (name : List Text) × (name_meant files reads file r ≡ Some name)
     × (x.name.now ≡ joined name)
-    × IsIndexOf (ranges_named (Some past) files reads name) x.ranges.now
+    × IsRangeIndexOf (ranges_named (Some past) files reads name) x.ranges.now
 
 -- a number as an extension of what has the name and leaves the ranges to extensions
 abbrev pub told_number : Text → List RangeAt → NumberAt → Told

@@ -11,8 +11,8 @@ use Rattle.proto_parts.specs.Numbers.{past}
 use Rattle.proto_parts.specs.Parts.{BlockOf}
 use Rattle.proto_parts.specs.Scenes.{Scene}
 use Rattle.proto_parts.specs.declared.ranges.RangeAt.{RangeAt}
-use Rattle.proto_numbers.specs.RangeIndex.{IsIndexOf}
-use Rattle.proto_extensions.specs.Extensions.{is_message_at, ranges_at, ranges_within}
+use Rattle.proto_numbers.specs.RangeIndex.{IsRangeIndexOf}
+use Rattle.proto_extensions.specs.Extensions.{is_message_at, extension_ranges_at, ranges_within}
 
 -- the index in a row, where there is one; without a row no range
 abbrev pub index_of_row : Option (Vec RangeAt) → List RangeAt
@@ -21,18 +21,18 @@ index_of_row (Some row) = row.items
 
 -- there is a row exactly where there is a message, and it is an index of the ranges that the
 -- message leaves to extensions
-abbrev pub IsRowOf : Scene → Option BlockOf → Option (Vec RangeAt) → Type 0
-IsRowOf scene None None = Unit {0}
-IsRowOf scene None (Some row) = ⊥
-IsRowOf scene (Some b) None = ⊥
-IsRowOf scene (Some b) (Some row) = IsIndexOf (ranges_within scene (Some b)) row.items
+abbrev pub IsRangeRowOf : Scene → Option BlockOf → Option (Vec RangeAt) → Type 0
+IsRangeRowOf scene None None = Unit {0}
+IsRangeRowOf scene None (Some row) = ⊥
+IsRangeRowOf scene (Some b) None = ⊥
+IsRangeRowOf scene (Some b) (Some row) = IsRangeIndexOf (ranges_within scene (Some b)) row.items
 
 -- the rows of one file have for each token the first message among these blocks whose name is at
 -- it, and nothing else
 abbrev pub AreRowsOf
     : {S : Type 0} → Scene → List BlockOf → IndexMap ℕ (Vec RangeAt) S → Type 0
 AreRowsOf scene blocks rows =
-    (token : ℕ) → IsRowOf scene
+    (token : ℕ) → IsRangeRowOf scene
     (find (λ b. is_message_at token b.header) blocks) (get nat_eq rows token)
 
 -- the index that a table of all files has for a token of a file
@@ -46,4 +46,4 @@ abbrev pub IsOpenTable
     : {S : Type 0} → List FileOf → List (IndexMap ℕ (Vec RangeAt) S) → Type 0
 IsOpenTable files table =
     (reads : List ReadOf) → AreRead files reads
-    → (a : At) → IsIndexOf (ranges_at (Some past) files reads a) (index_in table a)
+    → (a : At) → IsRangeIndexOf (extension_ranges_at (Some past) files reads a) (index_in table a)

@@ -7,7 +7,7 @@ ghost use Rattle.proto_parts.specs.Numbers.{past};
 ghost use Rattle.proto_parts.specs.Parts.{fields_in};
 ghost use Rattle.proto_parts.specs.declared.ranges.RangeAt.{RangeAt as RangeOf};
 ghost use Rattle.proto_numbers.specs.NumberFlaws.{number_of_field};
-ghost use Rattle.proto_numbers.specs.RangeIndex.{IsIndexOf};
+ghost use Rattle.proto_numbers.specs.RangeIndex.{IsRangeIndexOf};
 ghost use Rattle.proto_scenes.specs.LinkOfFiles.{IsLinkOf};
 ghost use Rattle.proto_scenes.specs.Scenes.{IsSceneOf};
 ghost use Rattle.proto_extensions.specs.Blocks.{block_of};
@@ -58,7 +58,7 @@ fn extendee_of<'a>(
         → IsExtendee files.now reads file reference.now result }
 {
     let first = reference.dot.unwrap_or(reference.words.first);
-    let meant = link.meant(file, first)?;
+    let meant = link.meaning(file, first)?;
     let name = link.name_of(meant)?;
     let declared = link.file_of(meant)?;
     let token = link.token_of(meant)?;
@@ -74,7 +74,7 @@ fn push_numbers<'a>(
     extendee: Extendee<'a>,
     numbers: &[NumberAt],
 ) -> Result<(), NoMemory>
-    ensures { OnOk result ((ranges : List RangeOf) → IsIndexOf ranges extendee.entry.ranges.now
+    ensures { OnOk result ((ranges : List RangeOf) → IsRangeIndexOf ranges extendee.entry.ranges.now
         → map told_by found.new.items ≡ map told_by found.old.items
         ++ map (told_number extendee.entry.name.now ranges) numbers.now) }
 {
@@ -97,7 +97,7 @@ fn push_fields<'a>(
     extendee: Extendee<'a>,
     extend: &Extend,
 ) -> Result<(), NoMemory>
-    ensures { OnOk result ((ranges : List RangeOf) → IsIndexOf ranges extendee.entry.ranges.now
+    ensures { OnOk result ((ranges : List RangeOf) → IsRangeIndexOf ranges extendee.entry.ranges.now
         → map told_by found.new.items ≡ map told_by found.old.items
         ++ map (told_number extendee.entry.name.now ranges) (map (number_of_field scene.now)
         (fields_in (trees extension_tree extend.now.fields.items)))) }

@@ -6,7 +6,7 @@ ghost use Rattle.indexmap.specs.IndexMap.{get};
 ghost use Rattle.proto_tree.specs.File.{tree_of_file};
 ghost use Rattle.proto_meaning.specs.Grown.{at};
 ghost use Rattle.proto_parts.specs.Parts.{BlockOf, blocks_in};
-ghost use Rattle.proto_numbers.specs.RangeIndex.{IsIndexOf};
+ghost use Rattle.proto_numbers.specs.RangeIndex.{IsRangeIndexOf};
 ghost use Rattle.proto_scenes.specs.Scenes.{AreScenes};
 ghost use Rattle.proto_extensions.specs.Blocks.{block_of, message_block};
 ghost use Rattle.proto_extensions.specs.Extensions.{ranges_within};
@@ -23,7 +23,7 @@ use std::alloc::Global;
 
 /// An index of the ranges that a message leaves to extensions.
 fn row(alloc: Global, scene: &Scene, message: &Message) -> Result<Vec<RangeAt>, NoMemory>
-    ensures { IfOk result (λ index. IsIndexOf
+    ensures { IfOk result (λ index. IsRangeIndexOf
         (ranges_within scene.now (Some (message_block message.now))) index.items) }
 {
     let written = extension_ranges(alloc, &message.members)?;

@@ -53,8 +53,8 @@ then_added a rest before found last first second = second ∙ ap (λ (ys : List 
 -- ---- what is found so far, and what is left
 
 -- what is left begins with the next element
-pub front : {X : Type 0} (xs : List X) (i : ℕ) (x d : X) → i < length xs → x ≡ get_or xs i d → drop i xs ≡ x ∷ drop (i + 1) xs
-front xs i x d lt is = drop_more xs i d lt ∙ ap (λ (y : _). y ∷ drop (i + 1) xs) (sym is)
+pub front_element : {X : Type 0} (xs : List X) (i : ℕ) (x d : X) → i < length xs → x ≡ get_or xs i d → drop i xs ≡ x ∷ drop (i + 1) xs
+front_element xs i x d lt is = drop_more xs i d lt ∙ ap (λ (y : _). y ∷ drop (i + 1) xs) (sym is)
 
 -- what is listed of elements, with one element more
 pub listed_turn : {X A : Type 0} (listed : List X → List A) (part : X → List A) → ((x : X) (xs : List X) → listed (x ∷ xs) ≡ part x ++ listed xs)
@@ -64,7 +64,7 @@ listed_turn listed part by xs i x d found next whole lt is new before =
     let rest : List _ = drop (i + 1) xs in
     ap (λ ps. ps ++ listed rest) new ∙ append_assoc found (part x) (listed rest)
     ∙ ap (λ ps. found ++ ps) (sym (by x rest))
-    ∙ ap (λ (ys : List _). found ++ listed ys) (sym (front xs i x d lt is)) ∙ before
+    ∙ ap (λ (ys : List _). found ++ listed ys) (sym (front_element xs i x d lt is)) ∙ before
 
 -- the same of two lists, one by one
 pub both_turn : {X Y A : Type 0} (listed : List X → List Y → List A) (part : X → Y → List A) → ((x : X) (xs : List X) (y : Y) (ys : List Y) → listed (x ∷ xs) (y ∷ ys) ≡ part x y ++ listed xs ys)
@@ -75,8 +75,8 @@ both_turn listed part by xs ys i x d y e found next whole less lt is too new bef
     let right : List _ = drop (i + 1) ys in
     ap (λ ps. ps ++ listed left right) new ∙ append_assoc found (part x y) (listed left right)
     ∙ ap (λ ps. found ++ ps) (sym (by x left y right))
-    ∙ ap (λ (zs : List _). found ++ listed (x ∷ left) zs) (sym (front ys i y e lt too))
-    ∙ ap (λ (zs : List _). found ++ listed zs (drop i ys)) (sym (front xs i x d less is)) ∙ before
+    ∙ ap (λ (zs : List _). found ++ listed (x ∷ left) zs) (sym (front_element ys i y e lt too))
+    ∙ ap (λ (zs : List _). found ++ listed zs (drop i ys)) (sym (front_element xs i x d less is)) ∙ before
 
 -- what one element more gives, as the elements are seen
 pub given_turn : {X Y A : Type 0} (part : Y → List A) (view : X → Y) (xs : List X) (i : ℕ) (x d : X) (found next whole : List A) → i < length xs → x ≡ get_or xs i d
@@ -98,7 +98,7 @@ module _ {X Y : Type 0} (test : Y → Bool) (view : X → Y) (xs : List X) (i : 
   rest = list_any test (map view (drop (i + 1) xs))
 
   next_any : list_any test (map view (drop i xs)) ≡ (test (view x) || rest)
-  next_any = ap (λ (ys : List X). list_any test (map view ys)) (front xs i x d lt is)
+  next_any = ap (λ (ys : List X). list_any test (map view ys)) (front_element xs i x d lt is)
 
   pub passed_over : test (view x) ≡ false → list_any test (map view (drop i xs)) ≡ rest
   passed_over e = next_any ∙ ap (λ b. b || rest) e

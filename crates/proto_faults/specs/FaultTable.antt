@@ -7,86 +7,86 @@ use Rattle.proto_faults.specs.declared.fault.SchemaFault.TheVariants as answer
 use Rattle.proto_faults.specs.Texts.{Text}
 
 -- the number of each fault: 1 to 38, no two the same
-abbrev pub number_of : FaultKind → ℕ
-number_of TooLarge = 1
-number_of NotUtf8 = 2
-number_of BadChar = 3
-number_of OpenComment = 4
-number_of OpenString = 5
-number_of BadEscape = 6
-number_of BadNumber = 7
-number_of Syntax = 8
-number_of TooDeep = 9
-number_of UnknownImport = 10
-number_of DoubleImport = 11
-number_of ImportCycle = 12
-number_of DuplicateName = 13
-number_of Unresolved = 14
-number_of WrongKind = 15
-number_of MapEntryRef = 16
-number_of NumberRange = 17
-number_of DuplicateNumber = 18
-number_of ReservedNumber = 19
-number_of ReservedName = 20
-number_of RangeOverlap = 21
-number_of EmptyEnum = 22
-number_of FirstNotZero = 23
-number_of ClosedEnum = 24
-number_of Label = 25
-number_of BadMap = 26
-number_of BadOption = 27
-number_of BadDefault = 28
-number_of EmptyOneof = 29
-number_of JsonClash = 30
-number_of NotInProto3 = 31
-number_of AliasNotAllowed = 32
-number_of BadPath = 33
-number_of DoublePath = 34
-number_of TooManyFiles = 35
-number_of NotExtendable = 36
-number_of DuplicateExtension = 37
-number_of RequiredExtension = 38
+abbrev pub kind_number : FaultKind → ℕ
+kind_number TooLarge = 1
+kind_number NotUtf8 = 2
+kind_number BadChar = 3
+kind_number OpenComment = 4
+kind_number OpenString = 5
+kind_number BadEscape = 6
+kind_number BadNumber = 7
+kind_number Syntax = 8
+kind_number TooDeep = 9
+kind_number UnknownImport = 10
+kind_number DoubleImport = 11
+kind_number ImportCycle = 12
+kind_number DuplicateName = 13
+kind_number Unresolved = 14
+kind_number WrongKind = 15
+kind_number MapEntryRef = 16
+kind_number NumberRange = 17
+kind_number DuplicateNumber = 18
+kind_number ReservedNumber = 19
+kind_number ReservedName = 20
+kind_number RangeOverlap = 21
+kind_number EmptyEnum = 22
+kind_number FirstNotZero = 23
+kind_number ClosedEnum = 24
+kind_number Label = 25
+kind_number BadMap = 26
+kind_number BadOption = 27
+kind_number BadDefault = 28
+kind_number EmptyOneof = 29
+kind_number JsonClash = 30
+kind_number NotInProto3 = 31
+kind_number AliasNotAllowed = 32
+kind_number BadPath = 33
+kind_number DoublePath = 34
+kind_number TooManyFiles = 35
+kind_number NotExtendable = 36
+kind_number DuplicateExtension = 37
+kind_number RequiredExtension = 38
 
 -- the word that stands for each fault where one is printed
-abbrev pub name_of : FaultKind → Text
-name_of TooLarge = codes "TooLarge"
-name_of NotUtf8 = codes "NotUtf8"
-name_of BadChar = codes "BadChar"
-name_of OpenComment = codes "OpenComment"
-name_of OpenString = codes "OpenString"
-name_of BadEscape = codes "BadEscape"
-name_of BadNumber = codes "BadNumber"
-name_of Syntax = codes "Syntax"
-name_of TooDeep = codes "TooDeep"
-name_of UnknownImport = codes "UnknownImport"
-name_of DoubleImport = codes "DoubleImport"
-name_of ImportCycle = codes "ImportCycle"
-name_of DuplicateName = codes "DuplicateName"
-name_of Unresolved = codes "Unresolved"
-name_of WrongKind = codes "WrongKind"
-name_of MapEntryRef = codes "MapEntryRef"
-name_of NumberRange = codes "NumberRange"
-name_of DuplicateNumber = codes "DuplicateNumber"
-name_of ReservedNumber = codes "ReservedNumber"
-name_of ReservedName = codes "ReservedName"
-name_of RangeOverlap = codes "RangeOverlap"
-name_of EmptyEnum = codes "EmptyEnum"
-name_of FirstNotZero = codes "FirstNotZero"
-name_of ClosedEnum = codes "ClosedEnum"
-name_of Label = codes "Label"
-name_of BadMap = codes "BadMap"
-name_of BadOption = codes "BadOption"
-name_of BadDefault = codes "BadDefault"
-name_of EmptyOneof = codes "EmptyOneof"
-name_of JsonClash = codes "JsonClash"
-name_of NotInProto3 = codes "NotInProto3"
-name_of AliasNotAllowed = codes "AliasNotAllowed"
-name_of BadPath = codes "BadPath"
-name_of DoublePath = codes "DoublePath"
-name_of TooManyFiles = codes "TooManyFiles"
-name_of NotExtendable = codes "NotExtendable"
-name_of DuplicateExtension = codes "DuplicateExtension"
-name_of RequiredExtension = codes "RequiredExtension"
+abbrev pub kind_name : FaultKind → Text
+kind_name TooLarge = codes "TooLarge"
+kind_name NotUtf8 = codes "NotUtf8"
+kind_name BadChar = codes "BadChar"
+kind_name OpenComment = codes "OpenComment"
+kind_name OpenString = codes "OpenString"
+kind_name BadEscape = codes "BadEscape"
+kind_name BadNumber = codes "BadNumber"
+kind_name Syntax = codes "Syntax"
+kind_name TooDeep = codes "TooDeep"
+kind_name UnknownImport = codes "UnknownImport"
+kind_name DoubleImport = codes "DoubleImport"
+kind_name ImportCycle = codes "ImportCycle"
+kind_name DuplicateName = codes "DuplicateName"
+kind_name Unresolved = codes "Unresolved"
+kind_name WrongKind = codes "WrongKind"
+kind_name MapEntryRef = codes "MapEntryRef"
+kind_name NumberRange = codes "NumberRange"
+kind_name DuplicateNumber = codes "DuplicateNumber"
+kind_name ReservedNumber = codes "ReservedNumber"
+kind_name ReservedName = codes "ReservedName"
+kind_name RangeOverlap = codes "RangeOverlap"
+kind_name EmptyEnum = codes "EmptyEnum"
+kind_name FirstNotZero = codes "FirstNotZero"
+kind_name ClosedEnum = codes "ClosedEnum"
+kind_name Label = codes "Label"
+kind_name BadMap = codes "BadMap"
+kind_name BadOption = codes "BadOption"
+kind_name BadDefault = codes "BadDefault"
+kind_name EmptyOneof = codes "EmptyOneof"
+kind_name JsonClash = codes "JsonClash"
+kind_name NotInProto3 = codes "NotInProto3"
+kind_name AliasNotAllowed = codes "AliasNotAllowed"
+kind_name BadPath = codes "BadPath"
+kind_name DoublePath = codes "DoublePath"
+kind_name TooManyFiles = codes "TooManyFiles"
+kind_name NotExtendable = codes "NotExtendable"
+kind_name DuplicateExtension = codes "DuplicateExtension"
+kind_name RequiredExtension = codes "RequiredExtension"
 
 -- the phase that finds each fault: 0 paths, 1 text, 2 grammar, 3 imports, 4 names, 5 references,
 -- 6 checks
@@ -134,10 +134,10 @@ phase_of RequiredExtension = 6
 
 -- the number of the fault, from 1 to 38; for want of memory, which is no fault of a schema, 0
 abbrev pub answer_number : SchemaFault → ℕ
-answer_number (answer.Schema fault) = number_of fault.kind
+answer_number (answer.Schema fault) = kind_number fault.kind
 answer_number answer.NoMemory = 0
 
 -- the word for the fault; for want of memory `NoMemory`
 abbrev pub answer_name : SchemaFault → Text
-answer_name (answer.Schema fault) = name_of fault.kind
+answer_name (answer.Schema fault) = kind_name fault.kind
 answer_name answer.NoMemory = codes "NoMemory"

@@ -1,7 +1,7 @@
 //! What may be wrong with the schemas of a workspace.
 
 ghost use Rattle.std.specs.Prelude.{◌≡◌};
-ghost use Rattle.proto_faults.specs.FaultTable.{number_of, name_of, phase_of, answer_number, answer_name};
+ghost use Rattle.proto_faults.specs.FaultTable.{kind_number, kind_name, phase_of, answer_number, answer_name};
 
 use crate::no_memory::NoMemory;
 use std::alloc::{AllocError, AllocFailed};
@@ -147,7 +147,7 @@ impl FaultKind {
 
     /// The number of the fault, from 1 to 38.
     pub fn number(self) -> u32
-        ensures { result ≡ number_of self }
+        ensures { result ≡ kind_number self }
     {
         match self {
             FaultKind::TooLarge => 1,
@@ -193,7 +193,7 @@ impl FaultKind {
 
     /// The name of the fault.
     pub fn name(self) -> &'static str
-        ensures { result.now ≡ name_of self }
+        ensures { result.now ≡ kind_name self }
     {
         match self {
             FaultKind::TooLarge => "TooLarge",
@@ -300,14 +300,14 @@ pub struct Fault {
 impl Fault {
     /// The number of the fault, from 1 to 38.
     pub fn number(&self) -> u32
-        ensures { result ≡ number_of self.now.kind }
+        ensures { result ≡ kind_number self.now.kind }
     {
         self.kind.number()
     }
 
     /// The name of the fault.
     pub fn name(&self) -> &'static str
-        ensures { result.now ≡ name_of self.now.kind }
+        ensures { result.now ≡ kind_name self.now.kind }
     {
         self.kind.name()
     }

@@ -3,7 +3,7 @@ pub use Rattle.proto_files.proofs.FaultOrder.{comes_before_cases}
 pub use Rattle.proto_files.proofs.FilesAreRead.{each_pushed}
 pub use Rattle.proto_files.proofs.OneOrder.{grammar_is_phase_2, one_order, paths_are_phase_0, texts_are_phase_1}
 pub use Rattle.proto_files.proofs.OneReading.{AreWordsAt, IsTreeOf, same_tree, same_words}
-pub use Rattle.proto_files.proofs.PathOrder.{Rises, before_trans, bytes_apart, count_once, never_before_itself, sides}
+pub use Rattle.proto_files.proofs.PathOrder.{PathsRise, before_trans, bytes_apart, count_once, never_before_itself, sides}
 pub use Rattle.proto_files.proofs.ReadOnce.{one_reading, read_once, tokens_at}
 pub use Rattle.proto_files.specs.Faults.{ComesBefore, FaultAt, HasNoFault, IsFilesError, IsLeastFault, fault_at}
 pub use Rattle.proto_files.specs.FileTokens.{AreTokensOf, IsAtToken}

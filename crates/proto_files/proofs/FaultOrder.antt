@@ -1,6 +1,6 @@
 -- The order of faults, and least faults of sets joined (for the crates above).
 use Rattle.std.proofs.Common.{◌≡◌, ℕ, ◌<◌, refl, sym, inl, inr, ⊎_elim, arith, ◌⊎◌, nat_cmp}
-use Rattle.proto_faults.proofs.Common.{Ordering, Less, Equal, Greater, ordering_then, ranked, number_of, phase_of}
+use Rattle.proto_faults.proofs.Common.{Ordering, Less, Equal, Greater, ordering_then, ranked, kind_number, phase_of}
 use Rattle.proto_files.specs.Common.{path_cmp, IsBefore, FaultAt, ComesBefore, IsLeastFault, HasNoFault}
 use Rattle.proto_files.proofs.PathOrder.{same_from_equal}
 
@@ -17,7 +17,7 @@ nat_equal x y h = ranked x y Equal (sym h)
 
 -- in one phase: an earlier path, or in one file an earlier place, or at one place a lower number
 abbrev pub BeforeInPhase : FaultAt → FaultAt → Type 0
-BeforeInPhase x y = IsBefore x.path y.path ⊎ ((x.path ≡ y.path) × ((x.offset < y.offset) ⊎ ((x.offset ≡ y.offset) × (number_of x.kind < number_of y.kind))))
+BeforeInPhase x y = IsBefore x.path y.path ⊎ ((x.path ≡ y.path) × ((x.offset < y.offset) ⊎ ((x.offset ≡ y.offset) × (kind_number x.kind < kind_number y.kind))))
 
 pub comes_before_cases : (x y : FaultAt) → ComesBefore x y → (phase_of x.kind < phase_of y.kind) ⊎ ((phase_of x.kind ≡ phase_of y.kind) × BeforeInPhase x y)
 comes_before_cases x y h =
@@ -25,13 +25,13 @@ comes_before_cases x y h =
     (λ more. inr (nat_equal (phase_of x.kind) (phase_of y.kind) more.0, in_phase more.1))
     (then_less (nat_cmp (phase_of x.kind) (phase_of y.kind)) _ h)
   where
-    at_place : ordering_then (nat_cmp x.offset y.offset) (nat_cmp (number_of x.kind) (number_of y.kind)) ≡ Less → (x.offset < y.offset) ⊎ ((x.offset ≡ y.offset) × (number_of x.kind < number_of y.kind))
+    at_place : ordering_then (nat_cmp x.offset y.offset) (nat_cmp (kind_number x.kind) (kind_number y.kind)) ≡ Less → (x.offset < y.offset) ⊎ ((x.offset ≡ y.offset) × (kind_number x.kind < kind_number y.kind))
     at_place e =
         ⊎_elim (λ less. inl (nat_less x.offset y.offset less))
-        (λ more. inr (nat_equal x.offset y.offset more.0, nat_less (number_of x.kind) (number_of y.kind) more.1))
+        (λ more. inr (nat_equal x.offset y.offset more.0, nat_less (kind_number x.kind) (kind_number y.kind) more.1))
         (then_less (nat_cmp x.offset y.offset) _ e)
 
-    in_phase : ordering_then (path_cmp x.path y.path) (ordering_then (nat_cmp x.offset y.offset) (nat_cmp (number_of x.kind) (number_of y.kind))) ≡ Less → BeforeInPhase x y
+    in_phase : ordering_then (path_cmp x.path y.path) (ordering_then (nat_cmp x.offset y.offset) (nat_cmp (kind_number x.kind) (kind_number y.kind))) ≡ Less → BeforeInPhase x y
     in_phase e =
         ⊎_elim (λ less. inl less)
         (λ more. inr (same_from_equal x.path y.path more.0, at_place more.1))

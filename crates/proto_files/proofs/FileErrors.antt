@@ -8,7 +8,7 @@ use Rattle.proto_text.specs.declared.lexer.Token.{Token}
 use Rattle.proto_text.proofs.Common.{AreTokens, IsFaultAt, IsLexError, one_token_list, no_fault_with_tokens}
 use Rattle.proto_tree.specs.declared.parsing.ParseFault.{ParseFault}
 use Rattle.proto_tree.specs.declared.parsing.ParseFault.TheVariants as grammar
-use Rattle.proto_tree.specs.Reads.{IsFault, is_fault_or_memory, IsSyntaxAt, IsTooDeepAt}
+use Rattle.proto_tree.specs.Reads.{IsParseFault, is_fault_or_memory, IsSyntaxAt, IsTooDeepAt}
 use Rattle.proto_faults.specs.declared.fault.FaultKind.{FaultKind}
 use Rattle.proto_faults.specs.declared.fault.FaultKind.TheVariants as kind
 use Rattle.proto_files.specs.Common.{FileOf, IsText, IsTextFault, IsGrammarFault, lex_kind, text_error, grammar_error, HasNone, IsFileError}
@@ -60,7 +60,7 @@ no_text_fault bytes tokens t are offset _ f = absurd f
 
 -- the parser's fault, if the tokens have one
 abbrev pub IsOnlyParseFault : List ℕ → List Token → ParseFault → Type 0
-IsOnlyParseFault bytes tokens e = (fault : ParseFault) → IsFault bytes tokens fault → (e ≡ fault) ⊎ (e ≡ grammar.NoMemory)
+IsOnlyParseFault bytes tokens e = (fault : ParseFault) → IsParseFault bytes tokens fault → (e ≡ fault) ⊎ (e ≡ grammar.NoMemory)
 
 -- a fault of the grammar is one of the tokens that the text has
 of_tokens : (bytes : List ℕ) (tokens : List Token) → AreTokens bytes tokens → (P : List Token → Type 0) → (found : List Token) × AreTokens bytes found × P found → P tokens
@@ -86,7 +86,7 @@ parse_error path file tokens (grammar.TooDeep offset) at are h o = record { at_f
     only b _ f = absurd f
 
 -- Tokens without a fault of the parser have no fault of the grammar.
-pub no_grammar_fault : (bytes : List ℕ) (tokens : List Token) → AreTokens bytes tokens → ((fault : ParseFault) → IsFault bytes tokens fault → ⊥) → HasNone IsGrammarFault bytes
+pub no_grammar_fault : (bytes : List ℕ) (tokens : List Token) → AreTokens bytes tokens → ((fault : ParseFault) → IsParseFault bytes tokens fault → ⊥) → HasNone IsGrammarFault bytes
 no_grammar_fault bytes tokens are no_fault offset kind.Syntax f = no_fault (grammar.Syntax offset) (of_tokens bytes tokens are (λ ts. IsSyntaxAt bytes ts offset) f)
 no_grammar_fault bytes tokens are no_fault offset kind.TooDeep f = no_fault (grammar.TooDeep offset) (of_tokens bytes tokens are (λ ts. IsTooDeepAt bytes ts offset) f)
 no_grammar_fault bytes tokens are no_fault offset _ f = absurd f

@@ -8,7 +8,7 @@ use Rattle.proto_faults.specs.declared.fault.FaultKind.TheVariants as kind
 use Rattle.proto_faults.specs.declared.fault.SchemaFault.{SchemaFault}
 use Rattle.proto_faults.specs.declared.fault.SchemaFault.TheVariants.{Schema, NoMemory}
 use Rattle.proto_files.specs.Common.{LexedFile, ReadFile, IsBefore, FaultAt, fault_at, ComesBefore, IsLeastFault, HasNoFault, IsFilesError, FileOf, file_at, AreWorkspaceFiles, IsTextFault, IsGrammarFault, FaultsOf, TextFaults, GrammarFaults, ReadFaults, IsFirstFault, IsFirstError, IsLexedFile, IsReadFile, lexed_files, read_file, read_files}
-use Rattle.proto_faults.specs.FaultTable.{number_of, phase_of}
+use Rattle.proto_faults.specs.FaultTable.{kind_number, phase_of}
 use Rattle.proto_files.proofs.Members.{member_from_Contains}
 use Rattle.proto_files.proofs.PathOrder.{never_before_itself, before_trans}
 use Rattle.proto_files.proofs.FaultOrder.{comes_before_cases, least_of_first, least_of_second, none_of_both}
@@ -54,11 +54,11 @@ module _ (says : List ℕ → ℕ → FaultKind → Type 0) (phase : ℕ) (one_p
           let same = h.is_only.only y.offset y.kind (subst (λ (g : FileOf). says g.bytes y.offset y.kind) is f.3) in
           let path : y.path ≡ x.path = f.2 ∙ ap (λ (g : FileOf). g.path) is ∙ sym h.is_only.at_file in
           let offset : y.offset ≡ x.offset = same.0 in
-          let number : number_of y.kind ≡ number_of x.kind = ap number_of same.1 in
+          let number : kind_number y.kind ≡ kind_number x.kind = ap kind_number same.1 in
           let phases : phase_of y.kind ≡ phase_of x.kind = one y f in
           ⊎_elim (λ (lt : phase_of y.kind < phase_of x.kind). omega arith)
           (λ more. ⊎_elim (λ b. never_before_itself x.path (subst (λ (p : List ℕ). IsBefore p x.path) path b))
-          (λ at. ⊎_elim (λ (lt : y.offset < x.offset). omega arith) (λ num. let lt : number_of y.kind < number_of x.kind = num.1 in omega arith) at.1) more.1)
+          (λ at. ⊎_elim (λ (lt : y.offset < x.offset). omega arith) (λ num. let lt : kind_number y.kind < kind_number x.kind = num.1 in omega arith) at.1) more.1)
           (comes_before_cases y x before)
       go y f before (inr (inr lt)) =
           let after = behind y f lt in

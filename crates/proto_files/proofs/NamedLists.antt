@@ -3,7 +3,7 @@ use Rattle.std.proofs.Common.{◌≡◌, ℕ, zero, suc, ◌<◌, ◌≤◌, Boo
 use Rattle.proto_faults.proofs.Common.{Vec, IsStrictWeakOrder, false≢true, nat_list_cmp_total, sorted_far, ranks_by}
 use Rattle.proto_files.specs.Common.{NamedFile, path_cmp, IsBefore, IsInPathOrder, IsWorkspacePath, FileOf, paths_of, file_of, files_of, AreWorkspaceFiles, named_files, named_paths}
 use Rattle.proto_files.proofs.Members.{Member, All-from_members, member_at}
-use Rattle.proto_files.proofs.PathOrder.{Rises}
+use Rattle.proto_files.proofs.PathOrder.{PathsRise}
 use Rattle.proto_files.proofs.PathWalk.{Passed}
 
 pub paths_of-named_files : (files : List NamedFile) → paths_of (named_files files) ≡ named_paths files
@@ -71,7 +71,7 @@ length-paths_of : (files : List FileOf) → length (paths_of files) ≡ length f
 length-paths_of [] = refl
 length-paths_of (f ∷ files) = ap suc (length-paths_of files)
 
-ordered_from_rises : (files : List FileOf) → Rises (paths_of files) → AllPairs (λ f g. IsBefore f.path g.path) files
+ordered_from_rises : (files : List FileOf) → PathsRise (paths_of files) → AllPairs (λ f g. IsBefore f.path g.path) files
 ordered_from_rises [] h i j d lt within = absurd (omega arith)
 ordered_from_rises (f ∷ files) h i zero d lt within = absurd (omega arith)
 ordered_from_rises (f ∷ files) h zero (suc j) d lt within = h.0 (get_or files j d).path (member_path files (get_or files j d) (member_at files j d (omega arith)))

@@ -1,6 +1,6 @@
 -- The order of faults is total, and a set of faults has one least (for the crates above).
 use Rattle.std.proofs.Common.{◌≡◌, ℕ, ◌-◌, List, [], ◌∷◌, get_or, refl, sym, ap, ◌∙◌, nat_cmp}
-use Rattle.proto_faults.proofs.Common.{Ordering, Less, Equal, Greater, IsTotalOrder, ordering_then, ordering_reverse, ranked, nat_cmp_total, nat_list_cmp_total, on_total, then_total, number_of, phase_of}
+use Rattle.proto_faults.proofs.Common.{Ordering, Less, Equal, Greater, IsTotalOrder, ordering_then, ordering_reverse, ranked, nat_cmp_total, nat_list_cmp_total, on_total, then_total, kind_number, phase_of}
 use Rattle.proto_faults.specs.declared.fault.FaultKind.{FaultKind}
 use Rattle.proto_faults.specs.declared.fault.FaultKind.TheVariants.{TooLarge, NotUtf8, BadChar, OpenComment, OpenString, BadEscape, BadNumber, Syntax, TooDeep, UnknownImport, DoubleImport, ImportCycle, DuplicateName, Unresolved, WrongKind, MapEntryRef, NumberRange, DuplicateNumber, ReservedNumber, ReservedName, RangeOverlap, EmptyEnum, FirstNotZero, ClosedEnum, Label, BadMap, BadOption, BadDefault, EmptyOneof, JsonClash, NotInProto3, AliasNotAllowed, BadPath, DoublePath, TooManyFiles, NotExtendable, DuplicateExtension, RequiredExtension}
 use Rattle.proto_files.specs.Common.{path_cmp, FaultAt, ComesBefore, fault_cmp, IsLeastFault}
@@ -13,7 +13,7 @@ kinds = TooLarge ∷ NotUtf8 ∷ BadChar ∷ OpenComment ∷ OpenString ∷ BadE
 abbrev kind_at : ℕ → FaultKind
 kind_at n = get_or kinds (n - 1) TooLarge
 
-kind_at-number_of : (k : FaultKind) → kind_at (number_of k) ≡ k
+kind_at-number_of : (k : FaultKind) → kind_at (kind_number k) ≡ k
 kind_at-number_of TooLarge = refl
 kind_at-number_of NotUtf8 = refl
 kind_at-number_of BadChar = refl
@@ -54,14 +54,14 @@ kind_at-number_of DuplicateExtension = refl
 kind_at-number_of RequiredExtension = refl
 
 -- A number is that of one fault.
-pub kinds_by_number : (j k : FaultKind) → number_of j ≡ number_of k → j ≡ k
+pub kinds_by_number : (j k : FaultKind) → kind_number j ≡ kind_number k → j ≡ k
 kinds_by_number j k e = sym (kind_at-number_of j) ∙ ap kind_at e ∙ kind_at-number_of k
 
 pub fault_cmp_total : IsTotalOrder fault_cmp
 fault_cmp_total =
     then_total (on_total (λ (x : FaultAt). phase_of x.kind) nat_cmp_total)
     (then_total (on_total (λ (x : FaultAt). x.path) nat_list_cmp_total)
-    (then_total (on_total (λ (x : FaultAt). x.offset) nat_cmp_total) (on_total (λ (x : FaultAt). number_of x.kind) nat_cmp_total)))
+    (then_total (on_total (λ (x : FaultAt). x.offset) nat_cmp_total) (on_total (λ (x : FaultAt). kind_number x.kind) nat_cmp_total)))
 
 then_equal : (a b : Ordering) → ordering_then a b ≡ Equal → (a ≡ Equal) × (b ≡ Equal)
 then_equal Less b h = absurd (cc)
@@ -75,7 +75,7 @@ same_place x y h =
     let places = then_equal (nat_cmp x.offset y.offset) _ paths.1 in
     let path = same_from_equal x.path y.path paths.0 in
     let offset : x.offset ≡ y.offset = ranked x.offset y.offset Equal (sym places.0) in
-    let number : number_of x.kind ≡ number_of y.kind = ranked (number_of x.kind) (number_of y.kind) Equal (sym places.1) in
+    let number : kind_number x.kind ≡ kind_number y.kind = ranked (kind_number x.kind) (kind_number y.kind) Equal (sym places.1) in
     let kind = kinds_by_number x.kind y.kind number in
     λ i. record { path = path i; offset = offset i; kind = kind i }
 

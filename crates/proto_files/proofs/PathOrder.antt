@@ -32,9 +32,9 @@ before_at_most p q r a not_back =
     (λ more. ⊎_elim (λ (e : q ≡ r). subst (λ (x : List ℕ). IsBefore p x) e a) (λ h. absurd (not_back h)) more) (sides q r)
 
 -- each path is before those behind it
-abbrev pub Rises : List (List ℕ) → Type 0
-Rises [] = Unit {0}
-Rises (p ∷ ps) = ((q : List ℕ) → Member q ps → IsBefore p q) × Rises ps
+abbrev pub PathsRise : List (List ℕ) → Type 0
+PathsRise [] = Unit {0}
+PathsRise (p ∷ ps) = ((q : List ℕ) → Member q ps → IsBefore p q) × PathsRise ps
 
 -- counts
 pub count-cons : {X : Type 0} (t : X → Bool) (x : X) (xs : List X) → count_by t (x ∷ xs) ≡ cond (t x) 1 0 + count_by t xs
@@ -51,7 +51,7 @@ bytes_apart p q apart = go (bytes_eq p q) refl where
   go false e = refl
 
 -- no path is twice among paths that rise
-pub count_once : (p : List ℕ) (ps : List (List ℕ)) → Rises ps → count_by (bytes_eq p) ps ≤ 1
+pub count_once : (p : List ℕ) (ps : List (List ℕ)) → PathsRise ps → count_by (bytes_eq p) ps ≤ 1
 count_once p [] h = omega arith
 count_once p (q ∷ qs) h = go (count_once p qs h.1) (bytes_eq p q) refl where
   go : count_by (bytes_eq p) qs ≤ 1 → (b : Bool) → bytes_eq p q ≡ b → count_by (bytes_eq p) (q ∷ qs) ≤ 1

@@ -1,25 +1,25 @@
 -- A walk over paths in their order meets the least fault first.
 use Rattle.std.proofs.Common.{◌≡◌, ℕ, ◌+◌, ◌<◌, ◌≤◌, Bool, true, false, cond, List, [], ◌∷◌, ◌++◌, length, get_or, refl, sym, ap, ◌∙◌, subst, inl, inr, ⊎_elim, arith, ◌⊎◌, Option, Some, None, length-append, append_assoc, ◌==◌, IsPermutation, Contains, count_by, bytes_eq, append-nil}
-use Rattle.proto_faults.proofs.Common.{Decides-eqb, false≢true, bytes_eq-Decides, sum_by-append, count_by-le-length, IsPermutation-sym, Contains-permutation, length_permutation, sum_by-IsPermutation, number_of, phase_of}
+use Rattle.proto_faults.proofs.Common.{Decides-eqb, false≢true, bytes_eq-Decides, sum_by-append, count_by-le-length, IsPermutation-sym, Contains-permutation, length_permutation, sum_by-IsPermutation, kind_number, phase_of}
 use Rattle.proto_faults.specs.declared.fault.FaultKind.{FaultKind}
 use Rattle.proto_faults.specs.declared.fault.FaultKind.TheVariants.{BadPath, DoublePath, TooManyFiles}
 use Rattle.proto_files.specs.Common.{IsBefore, IsInPathOrder, IsWorkspacePath, is_workspace_path, IsLeastFault, HasNoFault, IsPathFault, PathFaults, begins_with, fault_before, fault_or, first_fault}
 use Rattle.proto_files.proofs.WorkspacePathTest.{is_path_from_test, test_from_is_path}
 use Rattle.proto_files.proofs.Members.{Member, All-member, member_from_Contains, Contains-from_member, member_append, member_right}
 use Rattle.proto_files.proofs.FaultOrder.{comes_before_cases}
-use Rattle.proto_files.proofs.PathOrder.{never_before_itself, before_from_sides, before_at_most, Rises, count-cons, count_none, bytes_apart, count_once, is_up_to, not_up_to, count_up_to}
+use Rattle.proto_files.proofs.PathOrder.{never_before_itself, before_from_sides, before_at_most, PathsRise, count-cons, count_none, bytes_apart, count_once, is_up_to, not_up_to, count_up_to}
 
 -- what a walk knows when it comes to `rest`
 pub record Passed (limit : ℕ) (done rest : List (List ℕ)) : Type 0 where
   pub named : (q : List ℕ) → Member q done → IsWorkspacePath q
-  pub rises : Rises done
+  pub rises : PathsRise done
   pub below : (d q : List ℕ) → Member d done → Member q rest → IsBefore d q
   pub few : length done ≤ limit
 
 pub passed_none : (limit : ℕ) (paths : List (List ℕ)) → Passed limit [] paths
 passed_none limit paths = record { named = λ q m. absurd m; rises = tt; below = λ d q m. absurd m; few = omega arith }
 
-Rises-push : (ps : List (List ℕ)) (p : List ℕ) → Rises ps → ((q : List ℕ) → Member q ps → IsBefore q p) → Rises (ps ++ p ∷ [])
+Rises-push : (ps : List (List ℕ)) (p : List ℕ) → PathsRise ps → ((q : List ℕ) → Member q ps → IsBefore q p) → PathsRise (ps ++ p ∷ [])
 Rises-push [] p r h = ((λ q m. absurd m), tt)
 Rises-push (x ∷ ps) p r h = (
   (λ q m. ⊎_elim (λ l. r.0 q l) (λ m'. ⊎_elim (λ (e : p ≡ q). subst (λ (y : List ℕ). IsBefore x y) e (h x (inl refl))) (λ f. absurd f) m') (member_append q ps (p ∷ []) m)),
@@ -104,7 +104,7 @@ module _ (limit : ℕ) (given all : List (List ℕ)) (same : IsPermutation given
   passed_apart done ps p h = count_none (bytes_eq p) done (λ d m. bytes_apart p d (λ (is : p ≡ d). never_before_itself d (subst (λ (x : List ℕ). IsBefore d x) is (h.below d p m (inl refl)))))
 
   -- no fault at the path itself has a lower number
-  none_below : (done ps : List (List ℕ)) (p : List ℕ) → all ≡ done ++ p ∷ ps → Passed limit done (p ∷ ps) → IsInPathOrder (p ∷ ps) → (j : FaultKind) → Says (length done) limit p ps (Some j) → (k : FaultKind) → IsPathFault limit given k p → number_of k < number_of j → ⊥
+  none_below : (done ps : List (List ℕ)) (p : List ℕ) → all ≡ done ++ p ∷ ps → Passed limit done (p ∷ ps) → IsInPathOrder (p ∷ ps) → (j : FaultKind) → Says (length done) limit p ps (Some j) → (k : FaultKind) → IsPathFault limit given k p → kind_number k < kind_number j → ⊥
   none_below done ps p e h o BadPath s BadPath f lt = omega arith
   none_below done ps p e h o BadPath s DoublePath f lt = omega arith
   none_below done ps p e h o BadPath s TooManyFiles f lt = omega arith

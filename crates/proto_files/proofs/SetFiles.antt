@@ -7,7 +7,7 @@ use Rattle.proto_text.specs.SourceFacts.{IsSpan}
 use Rattle.proto_text.proofs.Spans.{token_spans}
 use Rattle.proto_tree.specs.declared.parsing.ParseFault.{ParseFault}
 use Rattle.proto_tree.specs.declared.parsing.ParseFault.TheVariants as grammar
-use Rattle.proto_tree.specs.Reads.{IsFault}
+use Rattle.proto_tree.specs.Reads.{IsParseFault}
 use Rattle.proto_tree.proofs.Common.{tree_of_file, Reads, Tree}
 use Rattle.proto_files.specs.Common.{ReadFile, FileOf, file_at, AreWorkspaceFiles, IsWorkspacePath, IsBefore, IsText, IsTextFault, IsGrammarFault, HasNone, IsReadFile, read_file, read_files}
 use Rattle.proto_files.specs.Reading.{AreReadFiles}
@@ -37,7 +37,7 @@ module _ (files : List FileOf) (place : ℕ) (f : FileOf) (within : place < leng
       }
 
 -- tokens with a tree have no fault
-no_fault : (text : List ℕ) (tokens : List Token) (tree : Tree) → Reads text tokens tree → (fault : ParseFault) → IsFault text tokens fault → ⊥
+no_fault : (text : List ℕ) (tokens : List Token) (tree : Tree) → Reads text tokens tree → (fault : ParseFault) → IsParseFault text tokens fault → ⊥
 no_fault text tokens tree reads (grammar.Syntax offset) is = is.no_tree tree reads.spells
 no_fault text tokens tree reads (grammar.TooDeep offset) is =
     let low = reads.shallow (is.at + 1) (omega (arith, is.place.within)) in

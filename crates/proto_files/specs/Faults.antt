@@ -9,7 +9,7 @@ use Rattle.proto_faults.specs.declared.fault.FaultKind.{FaultKind}
 use Rattle.proto_faults.specs.declared.fault.Fault.{Fault}
 use Rattle.proto_faults.specs.declared.fault.SchemaFault.{SchemaFault}
 use Rattle.proto_faults.specs.declared.fault.SchemaFault.TheVariants.{Schema, NoMemory}
-use Rattle.proto_faults.specs.FaultTable.{number_of, phase_of}
+use Rattle.proto_faults.specs.FaultTable.{kind_number, phase_of}
 use Rattle.proto_faults.specs.Texts.{Path}
 use Rattle.proto_files.specs.WorkspacePaths.{path_cmp}
 
@@ -28,7 +28,7 @@ abbrev pub fault_cmp : FaultAt → FaultAt → Ordering
 fault_cmp x y =
     ordering_then (nat_cmp (phase_of x.kind) (phase_of y.kind))
     (ordering_then (path_cmp x.path y.path)
-    (ordering_then (nat_cmp x.offset y.offset) (nat_cmp (number_of x.kind) (number_of y.kind))))
+    (ordering_then (nat_cmp x.offset y.offset) (nat_cmp (kind_number x.kind) (kind_number y.kind))))
 
 -- the first of two faults comes before the second in this order
 abbrev pub ComesBefore : FaultAt → FaultAt → Type 0

@@ -9,7 +9,7 @@ use Rattle.proto_files.specs.WorkspacePaths.{IsWorkspacePath, IsInPathOrder}
 use Rattle.proto_files.specs.Faults.{FaultAt}
 
 -- the path stands at a place, counted from 0, of the paths in their order
-pub record StandsAt (paths : List Path) (place : ℕ) (path : Path) : Type 0 where
+pub record PathStandsAt (paths : List Path) (place : ℕ) (path : Path) : Type 0 where
   pub ordered : List Path
   pub same_paths : IsPermutation paths ordered
   pub in_order : IsInPathOrder ordered
@@ -20,7 +20,7 @@ pub record StandsAt (paths : List Path) (place : ℕ) (path : Path) : Type 0 whe
 abbrev pub IsPathFault : ℕ → List Path → FaultKind → Path → Type 0
 IsPathFault limit paths BadPath path = Contains paths path × (IsWorkspacePath path → ⊥)
 IsPathFault limit paths DoublePath path = 1 < count_by (bytes_eq path) paths
-IsPathFault limit paths TooManyFiles path = StandsAt paths limit path
+IsPathFault limit paths TooManyFiles path = PathStandsAt paths limit path
 IsPathFault limit paths _ path = ⊥
 
 -- the faults of these paths, where a workspace has at most `limit` files: each at offset 0

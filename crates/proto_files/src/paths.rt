@@ -36,7 +36,7 @@ impl Model for Paths {
     ghost invariant = { λ p. AreWorkspaceFiles (named_files p.files.items) };
 }
 
-fn named(alloc: Global, files: Vec<(String, Vec<u8>)>) -> Result<Vec<NamedFile>, AllocError>
+fn name_files(alloc: Global, files: Vec<(String, Vec<u8>)>) -> Result<Vec<NamedFile>, AllocError>
     ensures { IfOk result (λ named. named_files named.items ≡ files_of files.items) }
 {
     files
@@ -122,7 +122,7 @@ impl Paths {
         ensures fault { IfErr result (λ e. IsFilesError
             (PathFaults limit (paths_of (files_of files.items))) e) }
     {
-        let mut files = named(alloc, files)?;
+        let mut files = name_files(alloc, files)?;
         sort_by_path(&mut files);
         match first_fault(&files, limit) {
             None => Ok(Paths { files }),

@@ -7,7 +7,7 @@ use Rattle.proto_tree.specs.declared.tree.Separated.{Separated}
 use Rattle.proto_tree.specs.References.{first_of}
 use Rattle.proto_files.proofs.Common.{FileOf, file_at, ReadOf, AreRead, read_at, tokens_at}
 use Rattle.proto_names.specs.declared.references.Meant.{Meant}
-use Rattle.proto_names.proofs.Common.{IsLinkOf, meant_by_link, LinkOf, row_at, text_at}
+use Rattle.proto_names.proofs.Common.{IsLinkOf, meant_by_link, LinkOf, row_at, name_text}
 use Rattle.proto_findings.specs.Readings.{read_of_file, Reading}
 
 -- ---- what a reference means
@@ -20,7 +20,7 @@ abbrev text_of_first : LinkOf → List Meant → ℕ → List ℕ
 text_of_first l ms token = or_nothing (option_and_then (λ m. m.text) (find (λ m. m.token == token) (map (meant_by_link l) ms)))
 
 abbrev pub text_of_row : LinkOf → Option ℕ → List ℕ
-text_of_row l row = or_nothing (option_and_then (text_at l) row)
+text_of_row l row = or_nothing (option_and_then (name_text l) row)
 
 text_step : (l : LinkOf) (m : Meant) (ms : List Meant) (token : ℕ) (b : Bool) → (m.token == token) ≡ b → text_of_first l ms token ≡ text_of_row l (row_at ms token) → text_of_first l (m ∷ ms) token ≡ text_of_row l (row_at (m ∷ ms) token)
 text_step l m ms token true e rest = simp e

@@ -5,11 +5,11 @@ use Rattle.proto_faults.specs.Texts.{Text}
 use Rattle.proto_meaning.specs.Forest.{under}
 use Rattle.proto_text.specs.Texts.{offset_at}
 use Rattle.proto_rules.specs.declared.rule.Rule.{Rule}
-use Rattle.proto_findings.specs.Readings.{Reading, text}
+use Rattle.proto_findings.specs.Readings.{Reading, word_in}
 use Rattle.proto_rules.specs.Rules.{is_chosen}
 
 -- a name, and the token that it is told of
-pub record Named : Type 0 where
+pub record NamedToken : Type 0 where
   pub token : ℕ
   pub name : Text
 
@@ -20,20 +20,21 @@ pub record Found : Type 0 where
   pub name : Text
 
 -- a name at a token, unless it passes
-abbrev pub unless : Bool → ℕ → Text → List Named
+abbrev pub unless : Bool → ℕ → Text → List NamedToken
 unless true token name = []
 unless false token name = record { token = token; name = name } ∷ []
 
 -- a name right in a scope, at its own token, unless its word passes
-abbrev pub unless_word : Reading → (Text → Bool) → Text → ℕ → List Named
-unless_word r passes scope token = unless (passes (text r token)) token (under scope (text r token))
+abbrev pub unless_word : Reading → (Text → Bool) → Text → ℕ → List NamedToken
+unless_word r passes scope token =
+    unless (passes (word_in r token)) token (under scope (word_in r token))
 
 -- what a rule finds at a name: its finding where the name's token begins
-abbrev pub found_at : Reading → Rule → Named → Found
+abbrev pub found_at : Reading → Rule → NamedToken → Found
 found_at r rule n = record { offset = offset_at r.tokens n.token; rule = rule; name = n.name }
 
 -- what a rule finds at some names, if it is one of those chosen
-abbrev pub found_by : List Bool → Reading → Rule → List Named → List Found
+abbrev pub found_by : List Bool → Reading → Rule → List NamedToken → List Found
 found_by rules r rule names = if is_chosen rules rule then map (found_at r rule) names else []
 
 -- ---- parts of names and paths

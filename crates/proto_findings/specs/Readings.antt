@@ -21,16 +21,17 @@ pub record Reading : Type 0 where
   pub means : List TextMeant
 
 -- the text of a token by its index, and nothing where there is none
-abbrev pub text : Reading → ℕ → Text
-text r token = word_at r.lexemes token
+abbrev pub word_in : Reading → ℕ → Text
+word_in r token = word_at r.lexemes token
 
 -- the full name that the reference with this first token means, and nothing where it means none
-abbrev pub meant : Reading → ℕ → Text
-meant r token = or_nothing (option_and_then (λ m. m.text) (find (λ m. m.token == token) r.means))
+abbrev pub meant_name : Reading → ℕ → Text
+meant_name r token =
+    or_nothing (option_and_then (λ m. m.text) (find (λ m. m.token == token) r.means))
 
 -- the words of a file's package, none without one
 abbrev pub package_words : Reading → Tree → List Text
-package_words r tree = map (text r) (package_of (items_in tree))
+package_words r tree = map (word_in r) (package_of (items_in tree))
 
 -- ---- what is read of the files
 

@@ -31,7 +31,7 @@ impl fmt::Display for Finding {
 }
 
 /// The findings in the order of path, offset, rule and name, each once. Takes no memory.
-pub fn listed(mut found: Vec<Finding>) -> Vec<Finding>
+pub fn sorted_findings(mut found: Vec<Finding>) -> Vec<Finding>
     ensures { IsListingOf (map finding_of found.items) (map finding_of result.items) }
 {
     found.sort_unstable();

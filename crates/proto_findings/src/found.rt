@@ -4,7 +4,7 @@ ghost use Rattle.std.specs.Prelude.{◌≡◌, ◌++◌, map, IfOk, OnErr, OnOk}
 ghost use Rattle.std.specs.String.{string_bytes};
 ghost use Rattle.proto_meaning.specs.Forest.{under};
 ghost use Rattle.proto_findings.specs.Placed.{found_at, unless};
-ghost use Rattle.proto_findings.specs.Readings.{reading_of, text};
+ghost use Rattle.proto_findings.specs.Readings.{reading_of, word_in};
 ghost use Rattle.proto_findings.specs.Views.{found_of};
 
 use crate::reading::Reading;
@@ -67,7 +67,7 @@ pub fn add_below_unless(
 ) -> Result<(), NoMemory>
     ensures added { OnOk result (map found_of found.new.items ≡ map found_of found.old.items ++ map
         (found_at (reading_of reading.now) rule)
-        (unless passes token (under scope.now (text (reading_of reading.now) token)))) }
+        (unless passes token (under scope.now (word_in (reading_of reading.now) token)))) }
     ensures unchanged { OnErr result (found.new.items ≡ found.old.items) }
 {
     if !passes {

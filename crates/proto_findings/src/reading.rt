@@ -5,7 +5,7 @@ ghost use Rattle.proto_text.specs.Texts.{offset_at};
 ghost use Rattle.proto_tree.specs.References.{first_of};
 ghost use Rattle.proto_files.specs.FilesRead.{AreRead, ReadOf};
 ghost use Rattle.proto_names.specs.LinkOfFiles.{IsLinkOf};
-ghost use Rattle.proto_findings.specs.Readings.{read_of_file, meant, reading_of, text};
+ghost use Rattle.proto_findings.specs.Readings.{read_of_file, meant_name, reading_of, word_in};
 
 use proto_files::{Files, Words, offset_of};
 use proto_names::Link;
@@ -51,18 +51,18 @@ impl<'a> Reading<'a> {
 
     /// The text of the token with this index; empty where there is none.
     pub fn text(&self, token: u32) -> &'a str
-        ensures { result.now ≡ text (reading_of self.now) token }
+        ensures { result.now ≡ word_in (reading_of self.now) token }
     {
         self.words.get(token)
     }
 
     /// The full name that the reference means; empty for one that is not the file's.
-    pub fn meant(&self, reference: &Reference) -> &'a str
-        ensures { result.now ≡ meant (reading_of self.now)
+    pub fn meant_name(&self, reference: &Reference) -> &'a str
+        ensures { result.now ≡ meant_name (reading_of self.now)
             (first_of reference.now.dot reference.now.words) }
     {
         let first = reference.dot.unwrap_or(reference.words.first);
-        match self.link.meant(self.file, first) {
+        match self.link.meaning(self.file, first) {
             Some(symbol) => self.link.name_of(symbol).unwrap_or(""),
             None => "",
         }

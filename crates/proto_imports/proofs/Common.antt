@@ -8,8 +8,8 @@ pub use Rattle.proto_imports.proofs.SeenFiles.{imports_within, pushed}
 pub use Rattle.proto_imports.proofs.Turned.{contains_within, take_more}
 pub use Rattle.proto_imports.proofs.Walks.{marked_within}
 pub use Rattle.proto_imports.specs.ImportSteps.{IsFileIndex}
-pub use Rattle.proto_imports.specs.Importing.{AreRising, IsImportError, all_asked, all_imports, asked_by, fault_of, import_from, number_of}
+pub use Rattle.proto_imports.specs.Importing.{TokensAreRising, IsImportError, all_asked, all_imports, asked_by, fault_of, import_from, import_flaw_number}
 pub use Rattle.proto_imports.specs.LinkErrors.{IsLinkError}
-pub use Rattle.proto_imports.specs.Links.{AreListings, IsListing, LinkFaults, StandsAt, all_wanted, asked_as, link_imports, link_skeleton, names_in, names_of_files, of_import, of_name, of_reference, text_of, used_named, uses_of}
+pub use Rattle.proto_imports.specs.Links.{AreListings, IsListing, LinkFaults, FaultStandsAt, all_wanted, asked_as, link_imports, link_skeleton, names_in, names_of_files, of_import, of_name, of_reference, text_of, used_named, uses_of}
 pub use Rattle.proto_imports.specs.Walks.{IsMarked, Walks, goes, stays}
 pub use Rattle.proto_imports.specs.Written.{AreWritten}

@@ -1,8 +1,8 @@
 -- The first import on a cycle, by walks back from each file.
 use Rattle.std.proofs.Common.{◌≡◌, ◌↔◌, ℕ, ◌+◌, ◌<◌, ◌≤◌, Bool, true, false, List, [], length, get_or, map, Option, Some, None, refl, sym, ◌∙◌, ap, subst, inl, inr, arith, string_bytes, Contains, true≢false}
 use Rattle.proto_faults.proofs.Common.{option_map_or, cases_lt, get_or_default, from_map, contains_map}
-use Rattle.proto_meaning.proofs.Common.{Import, Leads, stop, onward, Fault, fault, IsLeast, Asked, file_of, imports_of, at}
-use Rattle.proto_imports.specs.Common.{Walks, stays, goes, IsMarked, asked_by, all_asked, AreRising, AreImporters, CycleFault, cycle, MarkedFault, WrittenImport}
+use Rattle.proto_meaning.proofs.Common.{Import, Leads, stop, onward, Fault, fault, IsLeast, AskedImport, file_with_path, imports_of, at}
+use Rattle.proto_imports.specs.Common.{Walks, stays, goes, IsMarked, asked_by, all_asked, TokensAreRising, AreImporters, CycleFault, cycle, MarkedFault, WrittenImport}
 use Rattle.proto_imports.proofs.Walks.{walk_on}
 use Rattle.proto_imports.proofs.PathFaults.{Stands, least_at}
 use Rattle.proto_imports.proofs.FilesAsked.{asked_in, asked_of, first_here, none_more}
@@ -31,7 +31,7 @@ marked_from marked None h = absurd (true≢false (sym h))
 marked_from marked (Some to) h = (to, refl, h)
 
 -- the first import of a file that names a marked file
-pub marked_least : (look : WrittenImport → Option ℕ) (paths : List (List ℕ)) (marked : List Bool) (file : ℕ) (ws : List WrittenImport) (i : ℕ) (d : WrittenImport) → ((w : WrittenImport) → look w ≡ file_of paths (string_bytes w.path)) → AreRising ws → i < length ws
+pub marked_least : (look : WrittenImport → Option ℕ) (paths : List (List ℕ)) (marked : List Bool) (file : ℕ) (ws : List WrittenImport) (i : ℕ) (d : WrittenImport) → ((w : WrittenImport) → look w ≡ file_with_path paths (string_bytes w.path)) → TokensAreRising ws → i < length ws
     → ((k : ℕ) (e : WrittenImport) → k < i → option_map_or (λ to. get_or marked to false) (look (get_or ws k e)) false ≡ false) → option_map_or (λ to. get_or marked to false) (look (get_or ws i d)) false ≡ true
     → IsLeast (MarkedFault paths marked file ws) (fault (at file (get_or ws i d).token) 12)
 marked_least look paths marked file ws i d same rising l before here =
@@ -56,8 +56,8 @@ marked_least look paths marked file ws i d same rising l before here =
         ]
 
 -- an import on a cycle names a file from which its own is reached
-marked_here : (paths : List (List ℕ)) (marked : List Bool) (k to : ℕ) (ws : List WrittenImport) (a : Asked) (w : WrittenImport) → Contains ws w → asked_by k w ≡ a → file_of paths a.path ≡ Some to → IsMarked marked to → MarkedFault paths marked k ws (fault a.place 12)
-marked_here paths marked k to ws a w c e n m = (w, c, (to, ap (λ x. file_of paths x.path) e ∙ n, m), ap (λ x. fault x.place 12) (sym e))
+marked_here : (paths : List (List ℕ)) (marked : List Bool) (k to : ℕ) (ws : List WrittenImport) (a : AskedImport) (w : WrittenImport) → Contains ws w → asked_by k w ≡ a → file_with_path paths a.path ≡ Some to → IsMarked marked to → MarkedFault paths marked k ws (fault a.place 12)
+marked_here paths marked k to ws a w c e n m = (w, c, (to, ap (λ x. file_with_path paths x.path) e ∙ n, m), ap (λ x. fault x.place 12) (sym e))
 
 cycle_here : (paths : List (List ℕ)) (fs : List (List WrittenImport)) (marked : List Bool) (k : ℕ) → ((to : ℕ) → Leads (imports_of paths (all_asked 0 fs)) to k → IsMarked marked to) → {g : Fault} → CycleFault paths (all_asked 0 fs) g → g.place.file ≡ k → MarkedFault paths marked k (get_or fs k []) g
 cycle_here paths fs marked k marks (cycle a to c n l) e =

@@ -1,12 +1,12 @@
 -- Faults of files stand at tokens that are there, and are of one phase each (for the crates above).
 use Rattle.std.proofs.Common.{◌≡◌, ℕ, suc, ◌+◌, ◌<◌, List, [], ◌∷◌, length, map, refl, sym, ap, subst, ◌∙◌, inl, inr, arith, Contains}
-use Rattle.proto_faults.proofs.Common.{Contains-append_cases, number_of, phase_of, from_map}
+use Rattle.proto_faults.proofs.Common.{Contains-append_cases, kind_number, phase_of, from_map}
 use Rattle.proto_faults.specs.declared.fault.FaultKind.{FaultKind}
 use Rattle.proto_faults.specs.declared.fault.FaultKind.TheVariants as kinds
 use Rattle.proto_files.proofs.Common.{FileOf, file_at, paths_of, ReadOf, read_at, AreRead}
 use Rattle.proto_files.proofs.OneLeast.{kinds_by_number}
 use Rattle.proto_case.specs.Camel.{entry_name}
-use Rattle.proto_meaning.proofs.Common.{Fault, Asked, ImportFault, unknown, double, cycle, NameFault, earlier, of_package, ReferenceFault, unresolved, wrong_kind, of_entry, place_from, place_of, At, at, declared_of, file_declared, used_in, file_used, all_declared, all_used, Source, Token, EntryOf, Given, Declared, Used, name_of, shifted_source, shifted_declared, Placed, file_placed, follows_after, follows_second}
+use Rattle.proto_meaning.proofs.Common.{Fault, AskedImport, ImportFault, unknown, double, cycle, NameFault, earlier, of_package, ReferenceFault, unresolved, wrong_kind, of_entry, place_from, place_of, At, at, declared_of, file_declared, used_in, file_used, all_declared, all_used, Source, Token, EntryOf, Given, Declared, Used, name_of, shifted_source, shifted_declared, Placed, file_placed, follows_after, follows_second}
 use Rattle.proto_listing.proofs.Common.{Wanted, imports_in, items_in, file_names, whole, import_here, use_here, name_here}
 use Rattle.proto_imports.specs.Links.{text_of, asked_as, all_wanted, names_in, link_skeleton}
 
@@ -14,9 +14,9 @@ use Rattle.proto_imports.specs.Links.{text_of, asked_as, all_wanted, names_in, l
 
 -- the faults with this number are of the phase
 abbrev pub IsOfPhase : ℕ → ℕ → Type 0
-IsOfPhase phase number = (k : FaultKind) → number_of k ≡ number → phase_of k ≡ phase
+IsOfPhase phase number = (k : FaultKind) → kind_number k ≡ number → phase_of k ≡ phase
 
-phase_by : (kind : FaultKind) → IsOfPhase (phase_of kind) (number_of kind)
+phase_by : (kind : FaultKind) → IsOfPhase (phase_of kind) (kind_number kind)
 phase_by kind k e = ap phase_of (kinds_by_number k kind e)
 
 -- ---- lists of all files
@@ -34,10 +34,10 @@ in_later P n r rs h = let e : suc n + h.0 ≡ n + suc h.0 = omega arith in (suc 
 abbrev Imports : At → ℕ → ReadOf → Type 0
 Imports a file r = (w : Wanted) × Contains (imports_in r.tree) w × (at file w.path ≡ a)
 
-imports_from : (text : At → List ℕ) (n : ℕ) (rs : List ReadOf) (a : Asked) → Contains (all_wanted text n rs) a → InFile (Imports a.place) n rs
+imports_from : (text : At → List ℕ) (n : ℕ) (rs : List ReadOf) (a : AskedImport) → Contains (all_wanted text n rs) a → InFile (Imports a.place) n rs
 imports_from text n [] a c = absurd (omega (arith, c.1))
 imports_from text n (r ∷ rs) a c = elim (Contains-append_cases (map (asked_as text n) (imports_in r.tree)) (all_wanted text (suc n) rs) a c) [
-  | inl d ↦ let w = from_map (asked_as text n) (imports_in r.tree) a d in in_first (Imports a.place) n r rs (w.0, w.1, ap (λ (z : Asked). z.place) w.2)
+  | inl d ↦ let w = from_map (asked_as text n) (imports_in r.tree) a d in in_first (Imports a.place) n r rs (w.0, w.1, ap (λ (z : AskedImport). z.place) w.2)
   | inr d ↦ in_later (Imports a.place) n r rs (imports_from text (suc n) rs a d)
 ]
 
@@ -79,7 +79,7 @@ module _ (files : List FileOf) (reads : List ReadOf) (are_read : AreRead files r
   in_files : (P : ℕ → ReadOf → Type 0) (a : At) → ((k : ℕ) → k < length files → P k (read_at reads k) → IsThere a) → InFile P 0 reads → IsThere a
   in_files P a there h = let e : 0 + h.0 ≡ h.0 = omega arith in there h.0 (omega (arith, h.1, are_read.same)) (subst (λ (k : ℕ). P k (read_at reads h.0)) e h.2)
 
-  import_there : (text : At → List ℕ) (a : Asked) → Contains (all_wanted text 0 reads) a → IsThere a.place
+  import_there : (text : At → List ℕ) (a : AskedImport) → Contains (all_wanted text 0 reads) a → IsThere a.place
   import_there text a c =
       in_files (Imports a.place) a.place
       (λ k l h. subst IsThere h.2 (l, import_here (file_at files k).bytes (read_at reads k).tokens (read_at reads k).tree (are_read.trees k l) h.0 h.1)) (imports_from text 0 reads a c)
@@ -103,7 +103,7 @@ module _ (files : List FileOf) (reads : List ReadOf) (are_read : AreRead files r
   import_found f (unknown a c missing) = record { there = import_there (text_of files reads) a c; in_phase = phase_by kinds.UnknownImport }
   import_found f (double a h) =
       let asked = all_wanted (text_of files reads) 0 reads in
-      let r = follows_after (λ (x y : Asked). (x.place.file ≡ y.place.file) × (x.path ≡ y.path)) asked a h in
+      let r = follows_after (λ (x y : AskedImport). (x.place.file ≡ y.place.file) × (x.path ≡ y.path)) asked a h in
       record { there = import_there (text_of files reads) a (follows_second asked r.0 a r.1); in_phase = phase_by kinds.DoubleImport }
   import_found f (cycle a to c e l) = record { there = import_there (text_of files reads) a c; in_phase = phase_by kinds.ImportCycle }
 

@@ -3,18 +3,18 @@ use Rattle.std.proofs.Common.{◌≡◌, ◌⊎◌, ℕ, zero, suc, ◌+◌, ◌
 use Rattle.proto_faults.proofs.Common.{cases_lt, cases_eq, get_or_default, Contains-append_left, Contains-append_right, Contains-append_cases, from_map}
 use Rattle.std.proofs.Math.ListN.{get_or-append}
 use Rattle.std.proofs.Math.Seq.{get_or-append_right}
-use Rattle.proto_meaning.specs.Faults.{Fault, IsLeast, AfterEarlier, Asked}
+use Rattle.proto_meaning.specs.Faults.{Fault, IsLeast, AfterEarlier, AskedImport}
 use Rattle.proto_imports.specs.Common.{asked_by, all_asked, PathFault, unknown, double, WrittenImport}
 
 -- the same file, and more of them
-abbrev SameFile : (Asked → Asked → Type 0) → Asked → Asked → Type 0
+abbrev SameFile : (AskedImport → AskedImport → Type 0) → AskedImport → AskedImport → Type 0
 SameFile R x y = (x.place.file ≡ y.place.file) × R x y
 
-file_in : (file : ℕ) (ws : List WrittenImport) (a : Asked) → Contains (map (asked_by file) ws) a → a.place.file ≡ file
+file_in : (file : ℕ) (ws : List WrittenImport) (a : AskedImport) → Contains (map (asked_by file) ws) a → a.place.file ≡ file
 file_in file ws a c = let r = from_map (asked_by file) ws a c in sym (ap (λ z. z.place.file) r.2)
 
 -- an import stands in its file
-pub asked_in : (n : ℕ) (fs : List (List WrittenImport)) (a : Asked) → Contains (all_asked n fs) a → (k : ℕ) × (k < length fs) × (a.place.file ≡ n + k) × Contains (map (asked_by (n + k)) (get_or fs k [])) a
+pub asked_in : (n : ℕ) (fs : List (List WrittenImport)) (a : AskedImport) → Contains (all_asked n fs) a → (k : ℕ) × (k < length fs) × (a.place.file ≡ n + k) × Contains (map (asked_by (n + k)) (get_or fs k [])) a
 asked_in n [] a c = absurd (omega (arith, c.1))
 asked_in n (ws ∷ fs) a c = elim (Contains-append_cases (map (asked_by n) ws) (all_asked (suc n) fs) a c) [
   | inl h ↦ let z : n ≡ n + 0 = omega arith in (0, omega arith, file_in n ws a h ∙ z, subst (λ m. Contains (map (asked_by m) ws) a) z h)
@@ -24,7 +24,7 @@ asked_in n (ws ∷ fs) a c = elim (Contains-append_cases (map (asked_by n) ws) (
       (suc r.0, omega (arith, r.1), r.2 ∙ z, subst (λ m. Contains (map (asked_by m) (get_or fs r.0 [])) a) z r.3)
 ]
 
-pub asked_of : (n k : ℕ) (fs : List (List WrittenImport)) (a : Asked) → k < length fs → Contains (map (asked_by (n + k)) (get_or fs k [])) a → Contains (all_asked n fs) a
+pub asked_of : (n k : ℕ) (fs : List (List WrittenImport)) (a : AskedImport) → k < length fs → Contains (map (asked_by (n + k)) (get_or fs k [])) a → Contains (all_asked n fs) a
 asked_of n k [] a l c = absurd (omega (arith, l))
 asked_of n zero (ws ∷ fs) a l c = let z : n + 0 ≡ n = omega arith in Contains-append_left (map (asked_by n) ws) (all_asked (suc n) fs) a (subst (λ m. Contains (map (asked_by m) ws) a) z c)
 asked_of n (suc k) (ws ∷ fs) a l c =
@@ -72,7 +72,7 @@ after_contains : {A : Type 0} (R : A → A → Type 0) (xs : List A) (y : A) →
 after_contains R xs y c = (c.1, c.4, get_or_default xs c.1 y c.2 c.4 ∙ c.5)
 
 -- an earlier import of the same file stands in that file
-pub after_in : (R : Asked → Asked → Type 0) (n : ℕ) (fs : List (List WrittenImport)) (a : Asked) → AfterEarlier (SameFile R) (all_asked n fs) a → (k : ℕ) × (k < length fs) × (a.place.file ≡ n + k) × AfterEarlier (SameFile R) (map (asked_by (n + k)) (get_or fs k [])) a
+pub after_in : (R : AskedImport → AskedImport → Type 0) (n : ℕ) (fs : List (List WrittenImport)) (a : AskedImport) → AfterEarlier (SameFile R) (all_asked n fs) a → (k : ℕ) × (k < length fs) × (a.place.file ≡ n + k) × AfterEarlier (SameFile R) (map (asked_by (n + k)) (get_or fs k [])) a
 after_in R n [] a c = absurd (omega (arith, c.4))
 after_in R n (ws ∷ fs) a c = elim (after_cases (SameFile R) (map (asked_by n) ws) (all_asked (suc n) fs) a c) [
   | inl same ↦ elim same [
@@ -88,7 +88,7 @@ after_in R n (ws ∷ fs) a c = elim (after_cases (SameFile R) (map (asked_by n) 
       absurd (omega (arith, low, high, apart.3.0))
 ]
 
-pub after_of : (R : Asked → Asked → Type 0) (n k : ℕ) (fs : List (List WrittenImport)) (a : Asked) → k < length fs → AfterEarlier R (map (asked_by (n + k)) (get_or fs k [])) a → AfterEarlier R (all_asked n fs) a
+pub after_of : (R : AskedImport → AskedImport → Type 0) (n k : ℕ) (fs : List (List WrittenImport)) (a : AskedImport) → k < length fs → AfterEarlier R (map (asked_by (n + k)) (get_or fs k [])) a → AfterEarlier R (all_asked n fs) a
 after_of R n k [] a l c = absurd (omega (arith, l))
 after_of R n zero (ws ∷ fs) a l c = let z : n + 0 ≡ n = omega arith in after_left R (map (asked_by n) ws) (all_asked (suc n) fs) a (subst (λ m. AfterEarlier R (map (asked_by m) ws) a) z c)
 after_of R n (suc k) (ws ∷ fs) a l c =

@@ -1,7 +1,7 @@
 -- The imports of files as lists of files, file by file (for the crates above).
 use Rattle.std.proofs.Common.{◌≡◌, ◌↔◌, ℕ, zero, suc, ◌+◌, ◌<◌, ◌≤◌, List, [], ◌∷◌, length, get_or, map, Option, None, Some, option_map, refl, sym, ◌∙◌, ap, subst, inl, inr, arith, All, Contains, filter_map, bytes_eq}
 use Rattle.proto_faults.proofs.Common.{cons_option, get_or-map, get_or_default, length-map, Contains-append_left, Contains-append_right, Contains-append_cases, none-some, same_Some, position-Some, from_map, contains_map, contains_cases, contains_head, contains_later}
-use Rattle.proto_meaning.proofs.Common.{Import, Leads, stop, onward, Fault, Asked, file_of, import_at, imports_of}
+use Rattle.proto_meaning.proofs.Common.{Import, Leads, stop, onward, Fault, AskedImport, file_with_path, import_from_asked, imports_of}
 use Rattle.proto_imports.specs.Common.{import_from, all_imports, AreTurned, AreImporters, CycleFault, cycle, FileImport}
 use Rattle.proto_imports.proofs.Turned.{contains_within}
 
@@ -73,12 +73,12 @@ contains_filtered {Y = Y} h (z ∷ xs) x y c e = elim (contains_cases z x xs c) 
     go None ys k = k
     go (Some v) ys k = contains_later v y ys k
 
-import_contained : (paths : List (List ℕ)) (asked : List Asked) (a : Asked) (to : ℕ) → Contains asked a → file_of paths a.path ≡ Some to → (i : Import) × Contains (imports_of paths asked) i × (i.from ≡ a.place.file) × (i.to ≡ to)
+import_contained : (paths : List (List ℕ)) (asked : List AskedImport) (a : AskedImport) (to : ℕ) → Contains asked a → file_with_path paths a.path ≡ Some to → (i : Import) × Contains (imports_of paths asked) i × (i.from ≡ a.place.file) × (i.to ≡ to)
 import_contained paths asked a to c h =
     let i : Import = record { from = a.place.file; to = to; is_public = a.is_public } in
-    (i, contains_filtered (import_at paths) asked a i c (ap (option_map (λ t. let j : Import = record { from = a.place.file; to = t; is_public = a.is_public } in j)) h), refl, refl)
+    (i, contains_filtered (import_from_asked paths) asked a i c (ap (option_map (λ t. let j : Import = record { from = a.place.file; to = t; is_public = a.is_public } in j)) h), refl, refl)
 
-pub no_cycle : (rank : ℕ → ℕ) (next : List (List ℕ)) (paths : List (List ℕ)) (asked : List Asked) → IsGraph next (imports_of paths asked) → ((a b : ℕ) → Contains (get_or next a []) b → rank b < rank a) → {f : Fault} → CycleFault paths asked f → ⊥
+pub no_cycle : (rank : ℕ → ℕ) (next : List (List ℕ)) (paths : List (List ℕ)) (asked : List AskedImport) → IsGraph next (imports_of paths asked) → ((a b : ℕ) → Contains (get_or next a []) b → rank b < rank a) → {f : Fault} → CycleFault paths asked f → ⊥
 no_cycle rank next paths asked g falls (cycle a to c n l) =
     let i = import_contained paths asked a to c n in
     let edge = λ (j : Import) (d : Contains (imports_of paths asked) j). falls j.from j.to ((g j.from j.to).1 (j, d, refl, refl)) in
@@ -114,10 +114,10 @@ from_filtered {X = X} {Y = Y} h (x ∷ xs) y c = go (h x) refl c (from_filtered 
     go None e d later = later d
     go (Some v) e d later = elim (contains_cases v y (filter_map h xs) d) [ inl same ↦ (x, e ∙ ap Some same) | inr rest ↦ later rest ]
 
-import_within : (paths : List (List ℕ)) (asked : List Asked) (i : Import) → Contains (imports_of paths asked) i → i.to < length paths
-import_within paths asked i c = let r = from_filtered (import_at paths) asked i c in go r.0 (file_of paths r.0.path) refl r.1
+import_within : (paths : List (List ℕ)) (asked : List AskedImport) (i : Import) → Contains (imports_of paths asked) i → i.to < length paths
+import_within paths asked i c = let r = from_filtered (import_from_asked paths) asked i c in go r.0 (file_with_path paths r.0.path) refl r.1
   where
-    go : (a : Asked) (o : Option ℕ) → file_of paths a.path ≡ o → import_at paths a ≡ Some i → i.to < length paths
+    go : (a : AskedImport) (o : Option ℕ) → file_with_path paths a.path ≡ o → import_from_asked paths a ≡ Some i → i.to < length paths
     go a None e h = absurd (none-some i (sym (ap (option_map (λ t. let j : Import = record { from = a.place.file; to = t; is_public = a.is_public } in j)) e) ∙ h))
     go a (Some t) e h =
         let j : Import = record { from = a.place.file; to = t; is_public = a.is_public } in
@@ -125,7 +125,7 @@ import_within paths asked i c = let r = from_filtered (import_at paths) asked i 
         let l = (position-Some (bytes_eq a.path) paths t [] e).0 in
         subst (λ z. z < length paths) (ap (λ z. z.to) s) l
 
-pub resolved_within : {X : Type 0} (f : X → List FileImport) (xs : List X) (paths : List (List ℕ)) (asked : List Asked) (n : ℕ) → length paths ≡ n → all_imports 0 (map f xs) ≡ imports_of paths asked → All (λ v. All (λ i. i.to < n) (f v)) xs
+pub resolved_within : {X : Type 0} (f : X → List FileImport) (xs : List X) (paths : List (List ℕ)) (asked : List AskedImport) (n : ℕ) → length paths ≡ n → all_imports 0 (map f xs) ≡ imports_of paths asked → All (λ v. All (λ i. i.to < n) (f v)) xs
 resolved_within f xs paths asked n len same = λ k d l j e m.
     (let x = get_or (f (get_or xs k d)) j e in
     let c = import_of_file 0 k (map f xs) x (subst (λ z. Contains z x) (sym (get_or-map f xs k d [] l)) (j, m, get_or_default (f (get_or xs k d)) j x e m)) in

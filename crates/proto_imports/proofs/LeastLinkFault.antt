@@ -1,15 +1,15 @@
 -- The least fault by file, token and number is the least by phase, path, offset and number (for the crates above).
 use Rattle.std.proofs.Common.{◌≡◌, ℕ, suc, ◌<◌, List, [], length, sym, ap, subst, ◌∙◌, inl, inr, ◌⊎◌, arith}
-use Rattle.proto_faults.proofs.Common.{cases_order, number_of, phase_of}
+use Rattle.proto_faults.proofs.Common.{cases_order, kind_number, phase_of}
 use Rattle.proto_text.specs.declared.lexer.Token.{Token}
 use Rattle.proto_text.proofs.Common.{offset_at, AreTokens, tokens_are_in_order}
 use Rattle.proto_faults.specs.declared.fault.FaultKind.{FaultKind}
 use Rattle.proto_files.proofs.Common.{FaultAt, fault_at, ComesBefore, IsLeastFault, HasNoFault, FileOf, file_at, paths_of, AreWorkspaceFiles, IsBefore as PathIsBefore, comes_before_cases, never_before_itself, before_trans, ReadOf, read_at, AreRead, IsAtToken, read_once}
 use Rattle.proto_faults.specs.declared.fault.SchemaFault.{SchemaFault}
 use Rattle.proto_faults.specs.declared.fault.SchemaFault.TheVariants.{Schema, NoMemory}
-use Rattle.proto_meaning.proofs.Common.{Fault, fault, IsBefore, IsLeast, ImportFault, NameFault, ReferenceFault, at}
+use Rattle.proto_meaning.proofs.Common.{Fault, fault, FaultIsBefore, IsLeast, ImportFault, NameFault, ReferenceFault, at}
 use Rattle.proto_imports.specs.LinkErrors.{IsLinkError}
-use Rattle.proto_imports.specs.Links.{text_of, all_wanted, link_skeleton, StandsAt, LinkFaults, of_import, of_name, of_reference}
+use Rattle.proto_imports.specs.Links.{text_of, all_wanted, link_skeleton, FaultStandsAt, LinkFaults, of_import, of_name, of_reference}
 use Rattle.proto_imports.proofs.FaultPlaces.{IsFoundIn, import_found, name_found, reference_found}
 
 offset_rises : (text : List ℕ) (tokens : List Token) (i j : ℕ) → AreTokens text tokens → i < j → j < length tokens → offset_at tokens i < offset_at tokens j
@@ -52,7 +52,7 @@ module _ (files : List FileOf) (are_files : AreWorkspaceFiles files) where
 
   module _ (reads : List ReadOf) (are_read : AreRead files reads) where
     abbrev Stands : Fault → FaultAt → Type 0
-    Stands = StandsAt files reads
+    Stands = FaultStandsAt files reads
 
     abbrev Found : ℕ → Fault → Type 0
     Found = IsFoundIn files reads are_read
@@ -73,7 +73,7 @@ module _ (files : List FileOf) (are_files : AreWorkspaceFiles files) where
 
     -- in one file
     by_token : (f g : Fault) (x y : FaultAt) (n : ℕ) → Found n f → Found n g → Stands f x → Stands g y → g.place.file ≡ f.place.file
-        → (y.offset < x.offset) ⊎ ((y.offset ≡ x.offset) × (number_of y.kind < number_of x.kind)) → (g.place.token < f.place.token) ⊎ ((g.place.token ≡ f.place.token) × (g.number < f.number))
+        → (y.offset < x.offset) ⊎ ((y.offset ≡ x.offset) × (kind_number y.kind < kind_number x.kind)) → (g.place.token < f.place.token) ⊎ ((g.place.token ≡ f.place.token) × (g.number < f.number))
     by_token f g x y n ff fg s t file h =
         let tokens = (read_at reads f.place.file).tokens in
         let lexed = are_read.tokens f.place.file ff.there.0 in
@@ -85,7 +85,7 @@ module _ (files : List FileOf) (are_files : AreWorkspaceFiles files) where
           | inr more ↦ inr (one_token bytes tokens g.place.token f.place.token lexed within ff.there.1 (sym offset ∙ more.0 ∙ s.offset), omega (arith, more.1, s.number, t.number))
         ]
 
-    before_from : (f g : Fault) (x y : FaultAt) (n : ℕ) → Found n f → Found n g → Stands f x → Stands g y → ComesBefore y x → IsBefore g f
+    before_from : (f g : Fault) (x y : FaultAt) (n : ℕ) → Found n f → Found n g → Stands f x → Stands g y → ComesBefore y x → FaultIsBefore g f
     before_from f g x y n ff fg s t before = elim (comes_before_cases y x before) [
       | inl lt ↦ absurd (omega (arith, lt, phase_is n f x ff s, phase_is n g y fg t))
       | inr more ↦ elim more.1 [
@@ -112,13 +112,13 @@ module _ (files : List FileOf) (are_files : AreWorkspaceFiles files) where
     said : (y : FaultAt) → LinkFaults files y → (g : Fault) × Stands g y × (Imports g ⊎ (Names g ⊎ References g))
     said y (of_import rs g z r s h) =
         let e = read_once files rs reads r are_read in
-        (g, subst (λ (q : List ReadOf). StandsAt files q g y) e s, inl (subst (λ (q : List ReadOf). ImportFault (paths_of files) (all_wanted (text_of files q) 0 q) g) e h))
+        (g, subst (λ (q : List ReadOf). FaultStandsAt files q g y) e s, inl (subst (λ (q : List ReadOf). ImportFault (paths_of files) (all_wanted (text_of files q) 0 q) g) e h))
     said y (of_name rs g z r s h) =
         let e = read_once files rs reads r are_read in
-        (g, subst (λ (q : List ReadOf). StandsAt files q g y) e s, inr (inl (subst (λ (q : List ReadOf). NameFault (text_of files q) (link_skeleton files q).declared g) e h)))
+        (g, subst (λ (q : List ReadOf). FaultStandsAt files q g y) e s, inr (inl (subst (λ (q : List ReadOf). NameFault (text_of files q) (link_skeleton files q).declared g) e h)))
     said y (of_reference rs g z r s h) =
         let e = read_once files rs reads r are_read in
-        (g, subst (λ (q : List ReadOf). StandsAt files q g y) e s, inr (inr (subst (λ (q : List ReadOf). ReferenceFault (text_of files q) (link_skeleton files q) g) e h)))
+        (g, subst (λ (q : List ReadOf). FaultStandsAt files q g y) e s, inr (inr (subst (λ (q : List ReadOf). ReferenceFault (text_of files q) (link_skeleton files q) g) e h)))
 
     pub least_import : (f : Fault) (x : FaultAt) → IsLeast Imports f → Stands f x → IsLeastFault (LinkFaults files) x
     least_import f x least s = record { is_fault = of_import reads f x are_read s least.holds; is_least = least_here }
@@ -161,7 +161,7 @@ module _ (files : List FileOf) (are_files : AreWorkspaceFiles files) where
 
     -- a fault at a token that is the least one where it stands
     pub link_error : (file token : ℕ) (kind : FaultKind) (e : SchemaFault) → file < length files → IsAtToken files file token kind e
-        → ((x : FaultAt) → Stands (fault (at file token) (number_of kind)) x → IsLeastFault (LinkFaults files) x) → IsLinkError files e
+        → ((x : FaultAt) → Stands (fault (at file token) (kind_number kind)) x → IsLeastFault (LinkFaults files) x) → IsLinkError files e
     link_error file token kind (Schema f) l h least =
-        least (fault_at f) (record { path = h.path; offset = h.offset (read_at reads file).tokens (are_read.tokens file l); number = ap number_of h.kind_is })
+        least (fault_at f) (record { path = h.path; offset = h.offset (read_at reads file).tokens (are_read.tokens file l); number = ap kind_number h.kind_is })
     link_error file token kind NoMemory l h least = tt

@@ -2,7 +2,7 @@
 use Rattle.std.proofs.Common.{◌≡◌, ℕ, suc, ◌+◌, ◌<◌, Bool, true, false, List, [], ◌∷◌, ◌++◌, length, get_or, map, take, drop, option_map, Option, Some, None, refl, sym, ◌∙◌, ap, inl, inr, arith, string_bytes, cond, not, nat_lt, append_assoc, position, bytes_eq, length-take-le, append-nil}
 use Rattle.proto_faults.proofs.Common.{cons_option, position_or_len, cases_Bool, cases_lt, cond-true, cond-false, false_from_ne_true, both_ways, nat_tests, map-append, filter_map-append, word_from_same, same_from_word}
 use Rattle.std.proofs.Math.Seq.{drop-cons}
-use Rattle.proto_meaning.proofs.Common.{Import, file_of, import_at, imports_of}
+use Rattle.proto_meaning.proofs.Common.{Import, file_with_path, import_from_asked, imports_of}
 use Rattle.proto_imports.specs.Common.{asked_by, all_asked, import_from, all_imports, WrittenImport, FileImport}
 use Rattle.proto_imports.proofs.Turned.{take_more}
 
@@ -28,7 +28,7 @@ later_file f None = refl
 later_file f (Some k) = ap Some (omega arith)
 
 -- one path more, before the others
-pub index_step : (ps : List (List ℕ)) (f : ℕ) (path key : List ℕ) (old new : Option ℕ) → f < length ps → key ≡ get_or ps f [] → old ≡ option_map (λ k. k + (f + 1)) (file_of (drop (f + 1) ps) path) → new ≡ cond (bytes_eq key path) (Some f) old → new ≡ option_map (λ k. k + f) (file_of (drop f ps) path)
+pub index_step : (ps : List (List ℕ)) (f : ℕ) (path key : List ℕ) (old new : Option ℕ) → f < length ps → key ≡ get_or ps f [] → old ≡ option_map (λ k. k + (f + 1)) (file_with_path (drop (f + 1) ps) path) → new ≡ cond (bytes_eq key path) (Some f) old → new ≡ option_map (λ k. k + f) (file_with_path (drop f ps) path)
 index_step ps f path key old new l here was is =
     let d : drop f ps ≡ key ∷ drop (f + 1) ps =
     let z : suc f ≡ f + 1 = omega arith in
@@ -37,14 +37,14 @@ index_step ps f path key old new l here was is =
       | inl same ↦
           let z : f ≡ 0 + f = omega arith in
           is ∙ cond-true (bytes_eq key path) (Some f) old (same_from_word key path (sym (word_from_same path key same))) ∙ ap Some z
-          ∙ sym (ap (λ xs. option_map (λ k. k + f) (file_of xs path)) d ∙ ap (option_map (λ k. k + f)) (position_cons (bytes_eq path) key (drop (f + 1) ps) ∙ cond-true (bytes_eq path key) (Some 0) _ same))
+          ∙ sym (ap (λ xs. option_map (λ k. k + f) (file_with_path xs path)) d ∙ ap (option_map (λ k. k + f)) (position_cons (bytes_eq path) key (drop (f + 1) ps) ∙ cond-true (bytes_eq path key) (Some 0) _ same))
       | inr apart ↦
           is ∙ cond-false (bytes_eq key path) (Some f) old (false_from_ne_true (bytes_eq key path) (λ h. both_ways (bytes_eq path key) apart (same_from_word path key (sym (word_from_same key path h)))))
-          ∙ was ∙ later_file f (file_of (drop (f + 1) ps) path)
-          ∙ sym (ap (λ xs. option_map (λ k. k + f) (file_of xs path)) d ∙ ap (option_map (λ k. k + f)) (position_cons (bytes_eq path) key (drop (f + 1) ps) ∙ cond-false (bytes_eq path key) (Some 0) _ apart))
+          ∙ was ∙ later_file f (file_with_path (drop (f + 1) ps) path)
+          ∙ sym (ap (λ xs. option_map (λ k. k + f) (file_with_path xs path)) d ∙ ap (option_map (λ k. k + f)) (position_cons (bytes_eq path) key (drop (f + 1) ps) ∙ cond-false (bytes_eq path key) (Some 0) _ apart))
     ]
 
-import_is : (paths : List (List ℕ)) (file to : ℕ) (w : WrittenImport) (r : FileImport) → file_of paths (string_bytes w.path) ≡ Some to → r.to ≡ to → r.is_public ≡ w.is_public → import_at paths (asked_by file w) ≡ Some (import_from file r)
+import_is : (paths : List (List ℕ)) (file to : ℕ) (w : WrittenImport) (r : FileImport) → file_with_path paths (string_bytes w.path) ≡ Some to → r.to ≡ to → r.is_public ≡ w.is_public → import_from_asked paths (asked_by file w) ≡ Some (import_from file r)
 import_is paths file to w r h t p =
     ap (option_map (λ to. let i : Import = record { from = file; to = to; is_public = w.is_public } in i)) h
     ∙ ap (λ z. let i : Import = record { from = file; to = z; is_public = w.is_public } in Some i) (sym t)
@@ -54,11 +54,11 @@ asked_more : (paths : List (List ℕ)) (file : ℕ) (ws : List WrittenImport) (i
 asked_more paths file ws i w l e =
     ap (λ z. imports_of paths (map (asked_by file) z)) (take_more ws i w l ∙ ap (λ y. take i ws ++ y ∷ []) (sym e))
     ∙ ap (imports_of paths) (map-append (asked_by file) (take i ws) (w ∷ []))
-    ∙ filter_map-append (import_at paths) (map (asked_by file) (take i ws)) (asked_by file w ∷ [])
+    ∙ filter_map-append (import_from_asked paths) (map (asked_by file) (take i ws)) (asked_by file w ∷ [])
 
 -- one import more, of a file
 pub resolve_some : (paths : List (List ℕ)) (file : ℕ) (ws : List WrittenImport) (i to : ℕ) (w : WrittenImport) (is : List FileImport) (r : FileImport) → i < length ws → w ≡ get_or ws i w → map (import_from file) is ≡ imports_of paths (map (asked_by file) (take i ws))
-    → file_of paths (string_bytes w.path) ≡ Some to → r.to ≡ to → r.is_public ≡ w.is_public → map (import_from file) (is ++ r ∷ []) ≡ imports_of paths (map (asked_by file) (take (i + 1) ws))
+    → file_with_path paths (string_bytes w.path) ≡ Some to → r.to ≡ to → r.is_public ≡ w.is_public → map (import_from file) (is ++ r ∷ []) ≡ imports_of paths (map (asked_by file) (take (i + 1) ws))
 resolve_some paths file ws i to w is r l e inv h t p =
     map-append (import_from file) is (r ∷ []) ∙ ap (λ z. z ++ import_from file r ∷ []) inv
     ∙ ap (λ z. imports_of paths (map (asked_by file) (take i ws)) ++ cons_option z []) (sym (import_is paths file to w r h t p))
@@ -66,7 +66,7 @@ resolve_some paths file ws i to w is r l e inv h t p =
 
 -- one import more, of no file
 pub resolve_none : (paths : List (List ℕ)) (file : ℕ) (ws : List WrittenImport) (i : ℕ) (w : WrittenImport) (is : List FileImport) → i < length ws → w ≡ get_or ws i w → map (import_from file) is ≡ imports_of paths (map (asked_by file) (take i ws))
-    → file_of paths (string_bytes w.path) ≡ None → map (import_from file) is ≡ imports_of paths (map (asked_by file) (take (i + 1) ws))
+    → file_with_path paths (string_bytes w.path) ≡ None → map (import_from file) is ≡ imports_of paths (map (asked_by file) (take (i + 1) ws))
 resolve_none paths file ws i w is l e inv h =
     inv ∙ sym (append-nil (imports_of paths (map (asked_by file) (take i ws))))
     ∙ ap (λ z. imports_of paths (map (asked_by file) (take i ws)) ++ cons_option z []) (sym (ap (option_map (λ to. let i : Import = record { from = file; to = to; is_public = w.is_public } in i)) h))
@@ -95,6 +95,6 @@ resolve_file paths fs is k new n l inv h =
     all_imports_more 0 is new
     ∙ ap (λ z. z ++ map (import_from (0 + length is)) new) inv
     ∙ ap (λ z. imports_of paths (all_asked 0 (take k fs)) ++ z) (h (0 + length is) ∙ ap (λ z. imports_of paths (map (asked_by z) (get_or fs k []))) m)
-    ∙ sym (filter_map-append (import_at paths) (all_asked 0 (take k fs)) (map (asked_by (0 + length (take k fs))) (get_or fs k [])))
+    ∙ sym (filter_map-append (import_from_asked paths) (all_asked 0 (take k fs)) (map (asked_by (0 + length (take k fs))) (get_or fs k [])))
     ∙ ap (imports_of paths) (sym (all_asked_more 0 (take k fs) (get_or fs k [])))
     ∙ ap (λ z. imports_of paths (all_asked 0 z)) (sym t)

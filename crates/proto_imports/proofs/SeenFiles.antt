@@ -3,7 +3,7 @@ use Rattle.std.proofs.Common.{◌≡◌, ◌≢◌, ◌⊎◌, ◌↔◌, ℕ, z
 use Rattle.proto_faults.proofs.Common.{cases_eq, both_ways, get_or-map, length-map, from_map, contains_map, contains_filter, from_filter}
 use Rattle.std.proofs.Math.ListN.{get_or-append}
 use Rattle.std.proofs.Math.Seq.{get_or-append_seam}
-use Rattle.proto_meaning.proofs.Common.{Import, Workspace, Reaches, here, along, Sees, itself, by_import, sees, AreFiles, MarksSeen, sees_is}
+use Rattle.proto_meaning.proofs.Common.{Import, Workspace, Reaches, here, along, Sees, itself, by_import, sees, ImportsAreOfFiles, MarksSeen, sees_is}
 use Rattle.proto_imports.specs.Common.{Walks, stays, goes, IsMarked, import_from, all_imports, FileImport}
 use Rattle.proto_imports.proofs.Turned.{contains_within}
 use Rattle.proto_imports.proofs.ImportGraph.{import_in, import_of_file, graph_of, targets_twice, within_map}
@@ -82,7 +82,7 @@ pub marks_seen : (is : List (List FileImport)) (w : Workspace) (f : ℕ) (seen :
     → ((g : ℕ) → IsMarked seen g ↔ Walks (steps_from is f) f g) → MarksSeen w f seen
 marks_seen is w f seen n same within l marks g = go (get_or seen g false) (sees w f g) refl refl
   where
-    files : AreFiles w
+    files : ImportsAreOfFiles w
     files i c =
         let d = subst (λ z. Contains z i) same c in
         let r = import_in 0 is i d in

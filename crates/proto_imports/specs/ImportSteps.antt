@@ -7,7 +7,7 @@ use Rattle.indexmap.specs.IndexMap.{IndexMap, get_by_text}
 use Rattle.proto_faults.specs.Texts.{Path}
 use Rattle.proto_meaning.specs.Names.{Import}
 use Rattle.proto_meaning.specs.Cycles.{Leads}
-use Rattle.proto_meaning.specs.Faults.{Fault, fault, IsLeast, AfterEarlier, Asked, file_of, imports_of}
+use Rattle.proto_meaning.specs.Faults.{Fault, fault, IsLeast, AfterEarlier, AskedImport, file_with_path, imports_of}
 use Rattle.proto_meaning.specs.Grown.{at}
 use Rattle.proto_imports.specs.Walks.{IsMarked}
 use Rattle.proto_imports.specs.declared.import.WrittenImport.{WrittenImport}
@@ -18,26 +18,26 @@ IsFirst Says None = (f : Fault) → Says f → ⊥
 IsFirst Says (Some f) = IsLeast Says f
 
 -- an import whose path no file has, or an earlier import of its file
-pub data PathFault (paths : List Path) (asked : List Asked) : Fault → Type 0 where
-  unknown : (a : Asked) → Contains asked a → file_of paths a.path ≡ None
+pub data PathFault (paths : List Path) (asked : List AskedImport) : Fault → Type 0 where
+  unknown : (a : AskedImport) → Contains asked a → file_with_path paths a.path ≡ None
       → PathFault paths asked (fault a.place 10)
-  double : (a : Asked)
+  double : (a : AskedImport)
       → AfterEarlier (λ x y. (x.place.file ≡ y.place.file) × (x.path ≡ y.path)) asked a
       → PathFault paths asked (fault a.place 11)
 
 -- an import on a cycle
-pub data CycleFault (paths : List Path) (asked : List Asked) : Fault → Type 0 where
-  cycle : (a : Asked) (to : ℕ) → Contains asked a → file_of paths a.path ≡ Some to
+pub data CycleFault (paths : List Path) (asked : List AskedImport) : Fault → Type 0 where
+  cycle : (a : AskedImport) (to : ℕ) → Contains asked a → file_with_path paths a.path ≡ Some to
       → Leads (imports_of paths asked) to a.place.file → CycleFault paths asked (fault a.place 12)
 
 -- the map gives the file with a path
 abbrev pub IsFileIndex : {S : Type 0} → IndexMap (String Global) ℕ S → List Path → Type 0
-IsFileIndex index paths = (path : Path) → get_by_text index path ≡ file_of paths path
+IsFileIndex index paths = (path : Path) → get_by_text index path ≡ file_with_path paths path
 
 -- the import names a marked file
 abbrev pub NamesMarked : List Path → List Bool → WrittenImport → Type 0
 NamesMarked paths marked w =
-    (to : ℕ) × (file_of paths (string_bytes w.path) ≡ Some to) × IsMarked marked to
+    (to : ℕ) × (file_with_path paths (string_bytes w.path) ≡ Some to) × IsMarked marked to
 
 -- an import of this file that names a marked file, as an import on a cycle
 abbrev pub MarkedFault : List Path → List Bool → ℕ → List WrittenImport → Fault → Type 0

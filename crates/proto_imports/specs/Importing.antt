@@ -4,7 +4,7 @@ use Rattle.std.specs.List.{AllPairs}
 use Rattle.proto_faults.specs.declared.or_no_memory.OrNoMemory.{OrNoMemory}
 use Rattle.proto_faults.specs.declared.or_no_memory.OrNoMemory.TheVariants as or
 use Rattle.proto_meaning.specs.Names.{Import}
-use Rattle.proto_meaning.specs.Faults.{Fault, fault, IsLeast, Asked}
+use Rattle.proto_meaning.specs.Faults.{Fault, fault, IsLeast, AskedImport}
 use Rattle.proto_meaning.specs.Grown.{at}
 use Rattle.proto_imports.specs.declared.import.WrittenImport.{WrittenImport}
 use Rattle.proto_imports.specs.declared.import.FileImport.{FileImport}
@@ -13,7 +13,7 @@ use Rattle.proto_imports.specs.declared.import.ImportFlaw.{ImportFlaw}
 use Rattle.proto_imports.specs.declared.import.ImportFlaw.TheVariants.{Unknown, Double, Cycle}
 
 -- an import as it is written in a file
-abbrev pub asked_by : ℕ → WrittenImport → Asked
+abbrev pub asked_by : ℕ → WrittenImport → AskedImport
 asked_by file w = record {
   place = at file w.token;
   path = string_bytes w.path;
@@ -21,7 +21,7 @@ asked_by file w = record {
 }
 
 -- the imports of all files from this number on, file after file
-abbrev pub all_asked : ℕ → List (List WrittenImport) → List Asked
+abbrev pub all_asked : ℕ → List (List WrittenImport) → List AskedImport
 all_asked file [] = []
 all_asked file (ws ∷ rest) = map (asked_by file) ws ++ all_asked (suc file) rest
 
@@ -35,18 +35,18 @@ all_imports file [] = []
 all_imports file (is ∷ rest) = map (import_from file) is ++ all_imports (suc file) rest
 
 -- the tokens of a file's imports are in order
-abbrev pub AreRising : List WrittenImport → Type 0
-AreRising ws = AllPairs (λ a b. a.token < b.token) ws
+abbrev pub TokensAreRising : List WrittenImport → Type 0
+TokensAreRising ws = AllPairs (λ a b. a.token < b.token) ws
 
 -- the number of the fault that an import has
-abbrev pub number_of : ImportFlaw → ℕ
-number_of Unknown = 10
-number_of Double = 11
-number_of Cycle = 12
+abbrev pub import_flaw_number : ImportFlaw → ℕ
+import_flaw_number Unknown = 10
+import_flaw_number Double = 11
+import_flaw_number Cycle = 12
 
 -- a faulty import as a fault: at the token of its path, with its number
 abbrev pub fault_of : BadImport → Fault
-fault_of b = fault (at b.file b.token) (number_of b.flaw)
+fault_of b = fault (at b.file b.token) (import_flaw_number b.flaw)
 
 -- the error is the least fault, or want of memory
 abbrev pub IsImportError : (Fault → Type 0) → OrNoMemory BadImport → Type 0

@@ -4,12 +4,12 @@ use Rattle.std.specs.Prelude.{◌≡◌, ℕ, suc, List, [], ◌∷◌, ◌++◌
 use Rattle.proto_text.specs.Values.{value_of}
 use Rattle.proto_text.specs.Texts.{words, offset_at}
 use Rattle.proto_files.specs.Faults.{FaultAt}
-use Rattle.proto_faults.specs.FaultTable.{number_of}
+use Rattle.proto_faults.specs.FaultTable.{kind_number}
 use Rattle.proto_faults.specs.Texts.{Text, or_nothing}
 use Rattle.proto_files.specs.FilesRead.{Each, ReadOf, read_at, AreRead}
 use Rattle.proto_files.specs.GivenFiles.{FileOf, file_at, paths_of}
 use Rattle.proto_case.specs.Camel.{entry_name}
-use Rattle.proto_meaning.specs.Faults.{Fault, Asked, imports_of, ImportFault, NameFault, ReferenceFault}
+use Rattle.proto_meaning.specs.Faults.{Fault, AskedImport, imports_of, ImportFault, NameFault, ReferenceFault}
 use Rattle.proto_listing.specs.FromTree.{Wanted, imports_in, items_in, file_names}
 pub use Rattle.proto_listing.specs.Listing.{used_named}
 use Rattle.proto_listing.specs.Listing.{IsSound, package_first, read, uses_in}
@@ -25,7 +25,7 @@ text_of files reads a = words (file_at files a.file).bytes (read_at reads a.file
 -- ---- imports
 
 -- an import that a tree asks for: where it stands, and the path that its string spells
-abbrev pub asked_as : (At → Text) → ℕ → Wanted → Asked
+abbrev pub asked_as : (At → Text) → ℕ → Wanted → AskedImport
 asked_as text file w = record {
   place = at file w.path;
   path = or_nothing (value_of (text (at file w.path)));
@@ -33,7 +33,7 @@ asked_as text file w = record {
 }
 
 -- the imports of all files from this number on, file after file
-abbrev pub all_wanted : (At → Text) → ℕ → List ReadOf → List Asked
+abbrev pub all_wanted : (At → Text) → ℕ → List ReadOf → List AskedImport
 all_wanted text file [] = []
 all_wanted text file (r ∷ rs) =
     map (asked_as text file) (imports_in r.tree) ++ all_wanted text (suc file) rs
@@ -62,24 +62,24 @@ names_of_files files reads =
 -- ---- faults
 
 -- a fault at a token, as a fault of the file at an offset
-pub record StandsAt (files : List FileOf) (reads : List ReadOf) (f : Fault) (x : FaultAt)
+pub record FaultStandsAt (files : List FileOf) (reads : List ReadOf) (f : Fault) (x : FaultAt)
     : Type 0 where
   pub path : x.path ≡ (file_at files f.place.file).path
   pub offset : x.offset ≡ offset_at (read_at reads f.place.file).tokens f.place.token
-  pub number : number_of x.kind ≡ f.number
+  pub number : kind_number x.kind ≡ f.number
 
 -- the faults of imports, names and references (a later phase counts only where no earlier one has
 -- a fault: the least fault is by phase first)
 pub data LinkFaults (files : List FileOf) : FaultAt → Type 0 where
   of_import : (reads : List ReadOf) (f : Fault) (x : FaultAt)
-      → AreRead files reads → StandsAt files reads f x
+      → AreRead files reads → FaultStandsAt files reads f x
       → ImportFault (paths_of files) (all_wanted (text_of files reads) 0 reads) f
       → LinkFaults files x
   of_name : (reads : List ReadOf) (f : Fault) (x : FaultAt)
-      → AreRead files reads → StandsAt files reads f x
+      → AreRead files reads → FaultStandsAt files reads f x
       → NameFault (text_of files reads) (link_skeleton files reads).declared f → LinkFaults files x
   of_reference : (reads : List ReadOf) (f : Fault) (x : FaultAt)
-      → AreRead files reads → StandsAt files reads f x
+      → AreRead files reads → FaultStandsAt files reads f x
       → ReferenceFault (text_of files reads) (link_skeleton files reads) f → LinkFaults files x
 
 -- ---- what is said of each file

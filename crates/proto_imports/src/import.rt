@@ -2,13 +2,13 @@
 
 ghost use Rattle.std.specs.Prelude.{◌≡◌, ◌⊎◌, ◌↔◌, ℕ, ◌<◌, ◌≤◌, ◌^◌, List, length, map, option_map, Some, IsTrue, IfOk, IfErr};
 ghost use Rattle.std.specs.List.{All};
-ghost use Rattle.proto_meaning.specs.Faults.{Fault, ImportFault, IsBefore, imports_of};
-ghost use Rattle.proto_imports.specs.Importing.{AreRising, all_asked, all_imports, fault_of, number_of, IsImportError};
+ghost use Rattle.proto_meaning.specs.Faults.{Fault, ImportFault, FaultIsBefore, imports_of};
+ghost use Rattle.proto_imports.specs.Importing.{TokensAreRising, all_asked, all_imports, fault_of, import_flaw_number, IsImportError};
 ghost use Rattle.proto_imports.specs.ImportSteps.{IsFileIndex, IsFirst};
 
 use crate::first_places::first_places;
 use crate::import_cycles::first_on_cycle;
-use crate::import_paths::{first_path_fault, resolved};
+use crate::import_paths::{first_path_fault, resolved_imports};
 use indexmap::IndexMap;
 use proto_faults::{NoMemory, OrNoMemory};
 use std::alloc::Global;
@@ -47,7 +47,7 @@ pub enum ImportFlaw {
 impl ImportFlaw {
     /// The number of the fault.
     fn number(self) -> u32
-        ensures { result ≡ number_of self }
+        ensures { result ≡ import_flaw_number self }
     {
         match self {
             ImportFlaw::Unknown => 10,
@@ -71,7 +71,7 @@ pub struct BadImport {
 impl BadImport {
     /// Whether it comes before another, by file, token and number.
     fn is_before(&self, other: &BadImport) -> bool
-        ensures { IsTrue result ↔ IsBefore (fault_of self.now) (fault_of other.now) }
+        ensures { IsTrue result ↔ FaultIsBefore (fault_of self.now) (fault_of other.now) }
     {
         if self.file != other.file {
             return self.file < other.file;
@@ -96,7 +96,7 @@ pub fn resolve_imports(
 ) -> Result<Vec<Vec<FileImport>>, ImportError>
     requires count { length paths.now ≤ 2 ^ 32 }
     requires paired { length files.now ≡ length paths.now }
-    requires rising { All (λ v. AreRising v.items) files.now }
+    requires rising { All (λ v. TokensAreRising v.items) files.now }
     ensures clean { IfOk result (λ _. (f : Fault) → ImportFault
         (map (λ p. p.now) paths.now) (all_asked 0 (map (λ v. v.items) files.now)) f → ⊥) }
     ensures len { IfOk result (λ imports. length imports.items ≡ length files.now) }
@@ -120,7 +120,7 @@ fn imports_by_index(
     requires count { length files.now ≤ 2 ^ 32 }
     requires index { (paths : List (List ℕ))
         × IsFileIndex index.now paths × (length paths ≡ length files.now) }
-    requires rising { All (λ v. AreRising v.items) files.now }
+    requires rising { All (λ v. TokensAreRising v.items) files.now }
     ensures clean { IfOk result (λ _. (paths : List (List ℕ)) → IsFileIndex index.now paths
         → (f : Fault) → ImportFault paths (all_asked 0 (map (λ v. v.items) files.now)) f → ⊥) }
     ensures len { IfOk result (λ imports. length imports.items ≡ length files.now) }
@@ -132,7 +132,7 @@ fn imports_by_index(
     ensures fault { IfErr result (λ e. (paths : List (List ℕ)) → IsFileIndex index.now paths
         → IsImportError (ImportFault paths (all_asked 0 (map (λ v. v.items) files.now))) e) }
 {
-    let imports = resolved(alloc, index, files)?;
+    let imports = resolved_imports(alloc, index, files)?;
     let path_fault = first_path_fault(alloc, index, files)?;
     let cycle_fault = first_on_cycle(alloc, index, files, &imports)?;
     match first(path_fault, cycle_fault) {

@@ -5,12 +5,12 @@ ghost use Rattle.std.specs.List.{All, Contains};
 ghost use Rattle.std.specs.Option.{option_map_or};
 ghost use Rattle.indexmap.specs.IndexMap.{get_by_text};
 ghost use Rattle.proto_meaning.specs.Faults.{imports_of};
-ghost use Rattle.proto_imports.specs.Importing.{AreRising, all_asked, all_imports, fault_of};
+ghost use Rattle.proto_imports.specs.Importing.{TokensAreRising, all_asked, all_imports, fault_of};
 ghost use Rattle.proto_imports.specs.ImportSteps.{AreTurned, AreImporters, IsFileIndex, IsFirst, CycleFault, MarkedFault};
 
 use crate::first_places::place_of;
 use crate::import::{BadImport, FileImport, ImportFlaw, WrittenImport, all_targets};
-use crate::walk::reached;
+use crate::walk::reached_files;
 use indexmap::IndexMap;
 use proto_faults::NoMemory;
 use proto_meaning::marks::is_marked;
@@ -24,7 +24,7 @@ pub(crate) fn first_on_cycle(
     imports: &[Vec<FileImport>],
 ) -> Result<Option<BadImport>, NoMemory>
     requires count { length files.now ≤ 2 ^ 32 }
-    requires rising { All (λ v. AreRising v.items) files.now }
+    requires rising { All (λ v. TokensAreRising v.items) files.now }
     requires paired { length imports.now ≡ length files.now }
     requires within { All (λ v. All (λ i. i.to < length files.now) v.items) imports.now }
     ensures { IfOk result (λ o. (paths : List (List ℕ)) → IsFileIndex index.now paths
@@ -33,7 +33,7 @@ pub(crate) fn first_on_cycle(
         (CycleFault paths (all_asked 0 (map (λ v. v.items) files.now))) (option_map fault_of o)) }
 {
     let next = all_targets(alloc, imports)?;
-    let importers = turned(alloc, &next)?;
+    let importers = importers_of_each(alloc, &next)?;
     let ranks = ranks(alloc, &next, &importers)?;
     if falls(&next, &ranks) {
         return Ok(None);
@@ -42,7 +42,7 @@ pub(crate) fn first_on_cycle(
 }
 
 /// For each file, the files whose lists have it.
-fn turned(alloc: Global, next: &[Vec<u32>]) -> Result<Vec<Vec<u32>>, NoMemory>
+fn importers_of_each(alloc: Global, next: &[Vec<u32>]) -> Result<Vec<Vec<u32>>, NoMemory>
     requires count { length next.now ≤ 2 ^ 32 }
     requires within { All (λ v. All (λ g. g < length next.now) v.items) next.now }
     ensures len { IfOk result (λ back. length back.items ≡ length next.now) }
@@ -198,7 +198,7 @@ fn first_back(
     importers: &[Vec<u32>],
 ) -> Result<Option<BadImport>, NoMemory>
     requires count { length files.now ≤ 2 ^ 32 }
-    requires rising { All (λ v. AreRising v.items) files.now }
+    requires rising { All (λ v. TokensAreRising v.items) files.now }
     requires paired { length importers.now ≡ length files.now }
     requires within { All (λ v. All (λ g. g < length importers.now) v.items) importers.now }
     ensures { IfOk result (λ o. (paths : List (List ℕ)) → IsFileIndex index.now paths → AreImporters
@@ -207,7 +207,7 @@ fn first_back(
         (CycleFault paths (all_asked 0 (map (λ v. v.items) files.now))) (option_map fault_of o)) }
 {
     for file in 0..files.len() {
-        let marked = reached(alloc, importers, file as u32)?;
+        let marked = reached_files(alloc, importers, file as u32)?;
         if let Some(bad) = first_to_marked(index, file as u32, &files[file], &marked) {
             return Ok(Some(bad));
         }
@@ -222,7 +222,7 @@ fn first_to_marked(
     written: &[WrittenImport],
     marked: &[bool],
 ) -> Option<BadImport>
-    requires { AreRising written.now }
+    requires { TokensAreRising written.now }
     ensures { (paths : List (List ℕ)) → IsFileIndex index.now paths
         → IsFirst (MarkedFault paths marked.now file written.now) (option_map fault_of result) }
 {

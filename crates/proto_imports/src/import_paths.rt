@@ -4,7 +4,7 @@
 ghost use Rattle.std.specs.Prelude.{◌≡◌, ℕ, ◌≤◌, ◌^◌, List, length, map, option_map, IfOk};
 ghost use Rattle.std.specs.List.{All};
 ghost use Rattle.proto_meaning.specs.Faults.{imports_of};
-ghost use Rattle.proto_imports.specs.Importing.{AreRising, all_asked, all_imports, asked_by, import_from, fault_of};
+ghost use Rattle.proto_imports.specs.Importing.{TokensAreRising, all_asked, all_imports, asked_by, import_from, fault_of};
 ghost use Rattle.proto_imports.specs.ImportSteps.{IsFileIndex, IsFirst, PathFault};
 
 use crate::first_places::place_of;
@@ -15,7 +15,7 @@ use std::alloc::Global;
 use std::collections::HashSet;
 
 /// The imports of each file that name a file.
-pub(crate) fn resolved(
+pub(crate) fn resolved_imports(
     alloc: Global,
     index: &IndexMap<String, u32>,
     files: &[Vec<WrittenImport>],
@@ -61,7 +61,7 @@ pub(crate) fn first_path_fault(
     files: &[Vec<WrittenImport>],
 ) -> Result<Option<BadImport>, NoMemory>
     requires count { length files.now ≤ 2 ^ 32 }
-    requires rising { All (λ v. AreRising v.items) files.now }
+    requires rising { All (λ v. TokensAreRising v.items) files.now }
     ensures { IfOk result (λ o. (paths : List (List ℕ)) → IsFileIndex index.now paths → IsFirst
         (PathFault paths (all_asked 0 (map (λ v. v.items) files.now))) (option_map fault_of o)) }
 {
@@ -80,7 +80,7 @@ fn path_fault_in(
     file: u32,
     written: &[WrittenImport],
 ) -> Result<Option<BadImport>, NoMemory>
-    requires { AreRising written.now }
+    requires { TokensAreRising written.now }
     ensures { IfOk result (λ o. (paths : List (List ℕ)) → IsFileIndex index.now paths
         → IsFirst (PathFault paths (map (asked_by file) written.now)) (option_map fault_of o)) }
 {

@@ -8,7 +8,7 @@ ghost use Rattle.proto_imports.specs.Importing.{all_imports};
 ghost use Rattle.proto_imports.specs.Walks.{IsMarked, Walks};
 
 use crate::import::{FileImport, targets};
-use crate::walk::reached;
+use crate::walk::reached_files;
 use proto_faults::NoMemory;
 use std::alloc::Global;
 use std::mem;
@@ -76,7 +76,7 @@ fn seen_from(
 {
     let steps = targets(alloc, own)?;
     let before = mem::replace(&mut public[file as usize], steps);
-    let seen = reached(alloc, public, file)?;
+    let seen = reached_files(alloc, public, file)?;
     public[file as usize] = before;
     Ok(seen)
 }

@@ -9,7 +9,7 @@ use std::alloc::Global;
 
 /// Marks the files that are reached from this one by steps along the lists, itself among them.
 /// Refused for want of memory alone.
-pub fn reached(alloc: Global, next: &[Vec<u32>], start: u32) -> Result<Vec<bool>, NoMemory>
+pub fn reached_files(alloc: Global, next: &[Vec<u32>], start: u32) -> Result<Vec<bool>, NoMemory>
     requires start { start < length next.now }
     requires files { All (λ v. All (λ g. g < length next.now) v.items) next.now }
     ensures len { IfOk result (λ seen. length seen.items ≡ length next.now) }
@@ -17,7 +17,7 @@ pub fn reached(alloc: Global, next: &[Vec<u32>], start: u32) -> Result<Vec<bool>
         → IsMarked seen.items g ↔ Walks (map (λ v. v.items) next.now) start g) }
 {
     let count = next.len();
-    let mut seen = unmarked(alloc, count)?;
+    let mut seen = unset_marks(alloc, count)?;
     seen[start as usize] = true;
     let mut todo = vec![in alloc; start]?;
     while let Some(file) = todo.pop() {
@@ -55,7 +55,7 @@ fn mark(file: u32, seen: &mut Vec<bool>, todo: &mut Vec<u32>) -> Result<(), NoMe
 }
 
 /// As many marks, none of them set. Only want of memory is refused.
-pub fn unmarked(alloc: Global, count: usize) -> Result<Vec<bool>, NoMemory>
+pub fn unset_marks(alloc: Global, count: usize) -> Result<Vec<bool>, NoMemory>
     ensures { IfOk result (λ marks. marks.items ≡ replicate count false) }
 {
     let marks = vec![in alloc; false; count]?;

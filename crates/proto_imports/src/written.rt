@@ -15,7 +15,7 @@ use std::alloc::Global;
 
 /// The imports of a file, each with the token and the value of its path. Refused for want of memory
 /// alone.
-pub fn written(
+pub fn written_imports(
     alloc: Global,
     words: &Words,
     wanted: &[Wanted],

@@ -9,7 +9,7 @@ use Rattle.proto_records.specs.declared.fault.JournalFault.{JournalFault}
 use Rattle.proto_records.specs.declared.fault.JournalFault.TheVariants as fault
 use Rattle.proto_records.specs.declared.record.Version.{Version}
 use Rattle.proto_records.specs.declared.record.Version.TheVariants.{Second}
-use Rattle.proto_records.proofs.Common.{fault_of, record_text, done, journal_limit, opened, journal_text, IsReady, IsReadyWith, CountsFault, Over, OverBoth, IsBetween, Keeps, RecordOf, IsJournalIn}
+use Rattle.proto_records.proofs.Common.{fault_of_refusal, record_text, done, journal_limit, opened, journal_text, IsReady, IsReadyWith, CountsFault, Over, OverBoth, IsBetween, Keeps, RecordOf, IsJournalIn}
 use Rattle.proto_store.specs.Stores.{Held}
 use Rattle.proto_journal.specs.Common.{IsCommitted, IsCommitCut, CommitOutcome, Stays, IsUnready, AddsTo, IsUnprepared, IsUnwritten, Passes, held, IsTornByCommit, IsReadyText}
 use Rattle.proto_journal.proofs.Recorded.{text_more}
@@ -29,7 +29,7 @@ not_ready e from old new fault.NoMemory same r = stays from old new same
 not_ready e from old new (fault.Refused x) same r = absurd r
 
 -- a refusal, as the journal tells it
-pub refused : (from : List FileOf) (e : Asked) (journal : List ℕ) (r : Refusal) → IsRefusal from e r → IsUnprepared from e journal (fault_of r)
+pub refused : (from : List FileOf) (e : Asked) (journal : List ℕ) (r : Refusal) → IsRefusal from e r → IsUnprepared from e journal (fault_of_refusal r)
 refused from e journal refusal.NoMemory is = tt
 refused from e journal r is = is
 

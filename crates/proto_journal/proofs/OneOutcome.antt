@@ -5,8 +5,8 @@ use Rattle.proto_files.specs.GivenFiles.{FileOf}
 use Rattle.proto_entries.specs.Entries.{ChangeOf}
 use Rattle.proto_entries.specs.declared.refusal.Refusal.{Refusal}
 use Rattle.proto_entries.specs.declared.refusal.Refusal.TheVariants as refusal
-use Rattle.proto_entries.specs.RefusalTable.{number_of}
-use Rattle.proto_edit.proofs.Common.{AreCompiled, Asked, IsLeastCase, IsMappedStep, IsPlaceOf, IsUndo, undo_once}
+use Rattle.proto_entries.specs.RefusalTable.{refusal_number}
+use Rattle.proto_edit.proofs.Common.{AreCompiled, Asked, IsLeastCase, IsMappedStep, IsCaseAt, IsUndo, undo_once}
 use Rattle.proto_edit.specs.Laws.{RefusedOnce, StepsOnce}
 use Rattle.proto_edit.proofs.OneAnswer.{least_once}
 use Rattle.proto_records.specs.declared.fault.JournalFault.{JournalFault}
@@ -41,15 +41,15 @@ plain n =
 
 -- a refusal has no place, and its number tells it; or it has the place that the edit is refused with
 data IsTold (from : List FileOf) (e : Asked) : Refusal → Type 0 where
-  by_number : (r : Refusal) → plain (number_of r) ≡ r → (number_of r == 7) ≡ false → (number_of r == 15) ≡ false → IsTold from e r
-  captured : (path : String Global) (offset : ℕ) → IsPlaceOf from e (string_bytes path) offset → IsTold from e (refusal.Captured path offset)
-  needed : (path : String Global) (offset : ℕ) → IsPlaceOf from e (string_bytes path) offset → IsTold from e (refusal.Needed path offset)
+  by_number : (r : Refusal) → plain (refusal_number r) ≡ r → (refusal_number r == 7) ≡ false → (refusal_number r == 15) ≡ false → IsTold from e r
+  captured : (path : String Global) (offset : ℕ) → IsCaseAt from e (string_bytes path) offset → IsTold from e (refusal.Captured path offset)
+  needed : (path : String Global) (offset : ℕ) → IsCaseAt from e (string_bytes path) offset → IsTold from e (refusal.Needed path offset)
 
 -- a refused edit: the store was ready, and the refusal is the least case
 record IsRefused (e : Asked) (from to : List FileOf) (old : Held) (new : Option Held) (r : Refusal) : Type 0 where
   stay : Stays from to (Some old) new
   ready : IsReady old
-  least : IsLeastCase from e (number_of r)
+  least : IsLeastCase from e (refusal_number r)
   is : IsTold from e r
 
 is_refused : (e : Asked) (from to : List FileOf) (old : Held) (new : Option Held) (r : Refusal) → CommitOutcome e from to (Some old) new (Err (fault.Refused r)) → IsRefused e from to old new r
@@ -69,14 +69,14 @@ numbered : {P : Type 0} (m n : ℕ) → m ≡ n → (n == n) ≡ true → (m == 
 numbered m n same itself differs = let e : true ≡ false = sym itself ∙ ap (λ (k : ℕ). k == n) (sym same) ∙ differs in cc
 
 -- one number and one place, one refusal
-told_alike : RefusedOnce → (from : List FileOf) (e : Asked) (r s : Refusal) → AreCompiled from → number_of r ≡ number_of s → IsTold from e r → IsTold from e s → IsSameRefusal r s
+told_alike : RefusedOnce → (from : List FileOf) (e : Asked) (r s : Refusal) → AreCompiled from → refusal_number r ≡ refusal_number s → IsTold from e r → IsTold from e s → IsSameRefusal r s
 told_alike refused_once from e r s has same (by_number x p a b) (by_number y q c d) = subst (λ (z : Refusal). IsSameRefusal r z) (sym p ∙ ap plain same ∙ q) (same_itself r)
-told_alike refused_once from e r s has same (by_number x p a b) (captured path offset there) = numbered (number_of r) 7 same refl a
-told_alike refused_once from e r s has same (by_number x p a b) (needed path offset there) = numbered (number_of r) 15 same refl b
-told_alike refused_once from e r s has same (captured path offset there) (by_number y q c d) = numbered (number_of s) 7 (sym same) refl c
+told_alike refused_once from e r s has same (by_number x p a b) (captured path offset there) = numbered (refusal_number r) 7 same refl a
+told_alike refused_once from e r s has same (by_number x p a b) (needed path offset there) = numbered (refusal_number r) 15 same refl b
+told_alike refused_once from e r s has same (captured path offset there) (by_number y q c d) = numbered (refusal_number s) 7 (sym same) refl c
 told_alike refused_once from e r s has same (captured path offset x) (captured file other y) = (refused_once from e has).1 (string_bytes path) (string_bytes file) offset other x y
 told_alike refused_once from e r s has same (captured path offset x) (needed file other y) = numbered 7 15 same refl refl
-told_alike refused_once from e r s has same (needed path offset there) (by_number y q c d) = numbered (number_of s) 15 (sym same) refl d
+told_alike refused_once from e r s has same (needed path offset there) (by_number y q c d) = numbered (refusal_number s) 15 (sym same) refl d
 told_alike refused_once from e r s has same (needed path offset x) (captured file other y) = numbered 15 7 same refl refl
 told_alike refused_once from e r s has same (needed path offset x) (needed file other y) = (refused_once from e has).1 (string_bytes path) (string_bytes file) offset other x y
 
@@ -179,7 +179,7 @@ module _ (one_way : IsReadInOneWay) (steps_once : StepsOnce) (refused_once : Ref
       absurd (omega arith)
 
   not_refused : {P : Type 0} (e : Asked) (x : List ChangeOf) (from made to : List FileOf) (old : Held) (new : Option Held) (r : Refusal) → IsMappedStep from e x made → IsRefused e from to old new r → P
-  not_refused e x from made to old new r s i = absurd (s.step.admissible (number_of r) i.least.is)
+  not_refused e x from made to old new r s i = absurd (s.step.admissible (refusal_number r) i.least.is)
 
   module _ (e : Asked) (from to other : List FileOf) (old : Held) (new now : Option Held) (has : AreCompiled from) where
     abbrev Same : Result (List ChangeOf) JournalFault → Result (List ChangeOf) JournalFault → Type 0
@@ -239,7 +239,7 @@ module _ (one_way : IsReadInOneWay) (steps_once : StepsOnce) (refused_once : Ref
     of_refused a (Err (fault.Refused r)) s p q =
         let i : IsRefused e from other old now r = is_refused e from other old now r q in
         let x = stays_once from to other old new now p.stay i.stay in
-        (told_alike refused_once from e a r has (least_once from e (number_of a) (number_of r) p.least i.least) p.is i.is, x.0, x.1)
+        (told_alike refused_once from e a r has (least_once from e (refusal_number a) (refusal_number r) p.least i.least) p.is i.is, x.0, x.1)
 
   pub commits_are_one : CommitsAreOne
   commits_are_one e from to other old new now (Ok x) b has s t p q = of_committed e from to other old new now has x b t p q

@@ -9,7 +9,7 @@ use Rattle.proto_edit.specs.Workspaces.{IsUndo}
 use Rattle.proto_records.specs.declared.fault.JournalFault.{JournalFault}
 use Rattle.proto_records.specs.declared.fault.JournalFault.TheVariants as fault
 use Rattle.proto_records.specs.declared.record.Version.{Version}
-use Rattle.proto_records.proofs.Common.{fault_of, done, opened, CountsFault, Over, OverBoth, IsBetween, Keeps, RecordOf, IsJournalIn}
+use Rattle.proto_records.proofs.Common.{fault_of_refusal, done, opened, CountsFault, Over, OverBoth, IsBetween, Keeps, RecordOf, IsJournalIn}
 use Rattle.proto_store.specs.Stores.{Held, HoldsJournal}
 use Rattle.proto_journal.specs.Common.{EndsIn, IsTornByUndo, IsUndone, IsUndoCut, UndoOutcome, LastOutcome, Passes, Reopens, Shortens, held}
 use Rattle.proto_journal.proofs.Committed.{stays}
@@ -35,7 +35,7 @@ no_entry from old new journal fault.NoMemory same there l = stays from old new s
 no_entry from old new journal (fault.Refused r) same there l = absurd l
 
 pub stale : (from : List FileOf) (old new : Option Held) (journal : List ℕ) (version : Version) (last : RecordOf) (r : Refusal) → new ≡ old → HoldsJournal old journal → LastOutcome journal (Ok (version, last))
-    → (entry : List ChangeOf) → entry ≡ last.entry → IsUndoRefusal from entry r → UndoOutcome from from old new (Err (fault_of r))
+    → (entry : List ChangeOf) → entry ≡ last.entry → IsUndoRefusal from entry r → UndoOutcome from from old new (Err (fault_of_refusal r))
 stale from old new journal version last refusal.Stale same there l entry is u =
     (stays from old new same, (last.entry, subst (λ (e : List ChangeOf). IsUndoRefusal from e refusal.Stale) is u, ends_there old journal version last there l))
 stale from old new journal version last refusal.NoMemory same there l entry is u = stays from old new same
@@ -50,7 +50,7 @@ counts_no_entry before after journal fault.JournalFull same l = same
 counts_no_entry before after journal fault.NoMemory same l = same
 counts_no_entry before after journal (fault.Refused r) same l = same
 
-pub counts_stale : (before after : ℕ) (r : Refusal) → after ≡ before → CountsFault before after (fault_of r)
+pub counts_stale : (before after : ℕ) (r : Refusal) → after ≡ before → CountsFault before after (fault_of_refusal r)
 counts_stale before after refusal.NoMemory same = same
 counts_stale before after r same = same
 

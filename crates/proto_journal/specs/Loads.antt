@@ -1,6 +1,6 @@
 -- What is read of a store.
 use Rattle.std.specs.Prelude.{◌≡◌, ℕ, ◌+◌, List, codes, Option, Result, Ok, Err}
-use Rattle.proto_faults.specs.FaultTable.{number_of, name_of}
+use Rattle.proto_faults.specs.FaultTable.{kind_number, kind_name}
 use Rattle.proto_faults.specs.Texts.{Path, Text}
 use Rattle.proto_faults.specs.declared.fault.SchemaFault.{SchemaFault}
 use Rattle.proto_faults.specs.declared.fault.SchemaFault.TheVariants as schemas
@@ -73,13 +73,13 @@ CountsLoad before after (Err (load.Schema f)) = after ≡ before
 CountsLoad before after (Ok value) = after ≡ before
 
 -- the number of a schemas' fault in the table of faults, and 0 of what is no fault of theirs
-abbrev pub fault_number : LoadFault → ℕ
-fault_number (load.Schema f) = number_of f.kind
-fault_number load.Store = 0
-fault_number load.NoMemory = 0
+abbrev pub load_fault_number : LoadFault → ℕ
+load_fault_number (load.Schema f) = kind_number f.kind
+load_fault_number load.Store = 0
+load_fault_number load.NoMemory = 0
 
 -- the name of a schemas' fault in the table of faults, and of what else may go wrong in loading
-abbrev pub fault_name : LoadFault → Text
-fault_name (load.Schema f) = name_of f.kind
-fault_name load.Store = codes "Store"
-fault_name load.NoMemory = codes "NoMemory"
+abbrev pub load_fault_name : LoadFault → Text
+load_fault_name (load.Schema f) = kind_name f.kind
+load_fault_name load.Store = codes "Store"
+load_fault_name load.NoMemory = codes "NoMemory"

@@ -24,8 +24,8 @@ abbrev pub held : List FileOf → Text → Held
 held files journal = record { files = files; journal = journal }
 
 -- a store with these files in place of its own; the journal stays
-abbrev pub with_files : List FileOf → Held → Held
-with_files files h = record h { files = files }
+abbrev pub with_these_files : List FileOf → Held → Held
+with_these_files files h = record h { files = files }
 
 -- files that differ at the paths of changes alone, where both are gone through together
 abbrev pub DifferBy : List ChangeOf → List FileOf → List FileOf → Type 0
@@ -39,10 +39,10 @@ DifferBy (c ∷ cs) (f ∷ fs) (g ∷ gs) =
 
 -- a file gets its bytes of afterwards where the first of the changes is of its path, and the others
 -- are left; else nothing is written, and all of them are left
-abbrev pub IsReplaced : FileOf → FileOf → List ChangeOf → List ChangeOf
+abbrev pub IsFileReplaced : FileOf → FileOf → List ChangeOf → List ChangeOf
     → Option Held → Option Held → Type 0
-IsReplaced from to [] rest old new = (rest ≡ []) × (new ≡ old)
-IsReplaced from to (c ∷ cs) rest old new =
+IsFileReplaced from to [] rest old new = (rest ≡ []) × (new ≡ old)
+IsFileReplaced from to (c ∷ cs) rest old new =
     ((c.path ≡ from.path) × (rest ≡ cs) × (new ≡ option_map (with_file to.path to.bytes) old))
     ⊎ ((c.path ≢ from.path) × (rest ≡ c ∷ cs) × (new ≡ old))
 

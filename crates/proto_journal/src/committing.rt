@@ -4,7 +4,7 @@ ghost use Rattle.std.specs.Prelude.{◌-◌, ◌^◌, ◌<◌, IfErr, IfOk, Some
 ghost use Rattle.proto_edit.specs.Answers.{asked};
 ghost use Rattle.proto_edit.specs.Workspaces.{IsMappedStep};
 ghost use Rattle.proto_journal.specs.Commits.{CommitOutcome};
-ghost use Rattle.proto_records.specs.Known.{CountsStore};
+ghost use Rattle.proto_records.specs.Known.{CountsJournal};
 ghost use Rattle.proto_journal.specs.Written.{AddsTo, IsUnprepared, IsUnwritten};
 ghost use Rattle.proto_entries.specs.EditsAsked.{IsNotable};
 ghost use Rattle.proto_records.specs.Records.{done, opened};
@@ -111,7 +111,7 @@ pub fn commit<S: Store>(
     requires loaded { HoldsFiles (S.holds store.old) workspace.old }
     ensures outcome { CommitOutcome (asked edit) workspace.old workspace.new
         (S.holds store.old) (S.holds store.new) result }
-    ensures count { CountsStore (S.failure_count store.old) (S.failure_count store.new) result }
+    ensures count { CountsJournal (S.failure_count store.old) (S.failure_count store.new) result }
 {
     let journal = ready_text(alloc, store)?;
     let made = prepare(alloc, journal.as_slice(), workspace, &edit)?;

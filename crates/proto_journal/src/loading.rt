@@ -1,7 +1,7 @@
 //! Files and workspaces, as a store has them.
 
 ghost use Rattle.std.specs.Prelude.{◌≡◌, ◌-◌, ◌^◌, ◌<◌};
-ghost use Rattle.proto_journal.specs.Loads.{CountsLoad, LoadOutcome, fault_name, fault_number};
+ghost use Rattle.proto_journal.specs.Loads.{CountsLoad, LoadOutcome, load_fault_name, load_fault_number};
 
 use crate::gathering::sound_files;
 use proto_edit::Workspace;
@@ -27,7 +27,7 @@ pub enum LoadFault {
 impl LoadFault {
     /// The number of the schema fault, from 1 to 38, or 0 for another fault.
     pub fn number(&self) -> u32
-        ensures { result ≡ fault_number self.now }
+        ensures { result ≡ load_fault_number self.now }
     {
         match self {
             LoadFault::Schema(fault) => fault.number(),
@@ -38,7 +38,7 @@ impl LoadFault {
 
     /// The name of the fault.
     pub fn name(&self) -> &'static str
-        ensures { result.now ≡ fault_name self.now }
+        ensures { result.now ≡ load_fault_name self.now }
     {
         match self {
             LoadFault::Schema(fault) => fault.name(),

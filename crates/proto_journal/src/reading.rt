@@ -1,7 +1,7 @@
 //! What a journal says before it is written.
 
 ghost use Rattle.std.specs.Prelude.{◌≡◌, ◌-◌, ◌^◌, ◌<◌, IfOk};
-ghost use Rattle.proto_records.specs.Known.{CountsStore, Over};
+ghost use Rattle.proto_records.specs.Known.{CountsJournal, Over};
 ghost use Rattle.proto_records.specs.ReadJournals.{IsReadyWith};
 ghost use Rattle.proto_journal.specs.Loads.{ReadyOutcome};
 ghost use Rattle.proto_journal.specs.Written.{IsReadyText};
@@ -25,7 +25,7 @@ pub fn ready<S: Store>(alloc: Global, store: &mut S) -> Result<(), JournalFault>
     requires { S.failure_count store.old < 2 ^ 64 - 1 }
     ensures outcome { ReadyOutcome (S.holds store.old) result }
     ensures same { S.holds store.new ≡ S.holds store.old }
-    ensures count { CountsStore (S.failure_count store.old) (S.failure_count store.new) result }
+    ensures count { CountsJournal (S.failure_count store.old) (S.failure_count store.new) result }
 {
     ready_journal(alloc, store)?;
     Ok(())
@@ -38,7 +38,7 @@ fn ready_journal<S: Store>(alloc: Global, store: &mut S) -> Result<ReadyJournal,
         IsReadyWith j.version j.records.items held × (j.bytes.items ≡ held.journal))) }
     ensures outcome { ReadyOutcome (S.holds store.old) result }
     ensures same { S.holds store.new ≡ S.holds store.old }
-    ensures count { CountsStore (S.failure_count store.old) (S.failure_count store.new) result }
+    ensures count { CountsJournal (S.failure_count store.old) (S.failure_count store.new) result }
 {
     let bytes = match store.read_journal() {
         Ok(bytes) => bytes,
@@ -62,7 +62,7 @@ pub(crate) fn ready_text<S: Store>(alloc: Global, store: &mut S) -> Result<Vec<u
     ensures text { IfOk result (λ text. Over (S.holds store.old) (IsReadyText text.items)) }
     ensures outcome { ReadyOutcome (S.holds store.old) result }
     ensures same { S.holds store.new ≡ S.holds store.old }
-    ensures count { CountsStore (S.failure_count store.old) (S.failure_count store.new) result }
+    ensures count { CountsJournal (S.failure_count store.old) (S.failure_count store.new) result }
 {
     let journal = ready_journal(alloc, store)?;
     match journal.version {

@@ -2,7 +2,7 @@
 
 ghost use Rattle.std.specs.Prelude.{◌-◌, ◌^◌, ◌<◌, IfOk};
 ghost use Rattle.proto_records.specs.Journals.{IsTold};
-ghost use Rattle.proto_records.specs.Known.{CountsStore};
+ghost use Rattle.proto_records.specs.Known.{CountsJournal};
 ghost use Rattle.proto_journal.specs.Undoing.{UndoOutcome};
 ghost use Rattle.proto_journal.specs.Written.{LastOutcome, Reopens, Shortens};
 ghost use Rattle.proto_store.specs.Stores.{HoldsFiles};
@@ -34,7 +34,7 @@ fn last_record(alloc: Global, journal: &[u8]) -> Result<(Version, Record), Journ
 }
 
 // The journal without its last record.
-fn shortened(journal: &[u8]) -> &[u8]
+fn shortened_journal(journal: &[u8]) -> &[u8]
     ensures { Shortens journal.now result.now }
 {
     journals_grow_and_shrink();
@@ -42,7 +42,7 @@ fn shortened(journal: &[u8]) -> &[u8]
 }
 
 // The journal with its last entry, which was done, open; its version and its edit stay.
-fn reopened(
+fn reopened_journal(
     alloc: Global,
     version: Version,
     journal: &[u8],
@@ -52,7 +52,7 @@ fn reopened(
     ensures { IfOk result
         (λ text. Reopens version journal.now last.now.edit last.now.entry text.items) }
 {
-    let before = shortened(journal);
+    let before = shortened_journal(journal);
     // It is a journal: the text of an entry is as long while it is open.
     records_have_one_text();
     journals_grow_and_shrink();
@@ -84,7 +84,7 @@ pub fn undo_last<S: Store>(
     requires loaded { HoldsFiles (S.holds store.old) workspace.old }
     ensures outcome { UndoOutcome workspace.old workspace.new
         (S.holds store.old) (S.holds store.new) result }
-    ensures count { CountsStore (S.failure_count store.old) (S.failure_count store.new) result }
+    ensures count { CountsJournal (S.failure_count store.old) (S.failure_count store.new) result }
 {
     let journal = match store.read_journal() {
         Ok(journal) => journal,
@@ -93,9 +93,9 @@ pub fn undo_last<S: Store>(
     let text = journal.as_slice();
     let found = last_record(alloc, text)?;
     let (version, undone) = found;
-    let first = reopened(alloc, version, text, &undone)?;
+    let first = reopened_journal(alloc, version, text, &undone)?;
     let next = workspace.without_entry(alloc, undone.entry())?;
-    let last = shortened(text);
+    let last = shortened_journal(text);
     match write_through(
         store,
         first.as_slice(),

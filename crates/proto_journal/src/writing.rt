@@ -4,7 +4,7 @@ ghost use Rattle.std.specs.Prelude.{◌≡◌, ◌-◌, ◌^◌, ◌<◌, IfOk, 
 ghost use Rattle.proto_entries.specs.Entries.{change_of};
 ghost use Rattle.proto_files.specs.GivenFiles.{file_at};
 ghost use Rattle.proto_store.specs.Stores.{Counts, HoldsFiles, IsListed, with_file};
-ghost use Rattle.proto_journal.specs.Written.{AreBetween, DifferBy, IsHalfReplaced, IsReplaced, Passes, held, with_files};
+ghost use Rattle.proto_journal.specs.Written.{AreBetween, DifferBy, IsHalfReplaced, IsFileReplaced, Passes, held, with_these_files};
 
 use proto_edit::Change;
 use proto_files::Files;
@@ -37,7 +37,7 @@ fn replace_file<'a, S: Store>(
     requires was { place < length before.now }
     requires is { place < length after.now }
     requires listed { IsListed (S.holds store.old) (file_at after.now place).path }
-    ensures ok { IfOk result (λ rest. IsReplaced
+    ensures ok { IfOk result (λ rest. IsFileReplaced
         (file_at before.now place) (file_at after.now place)
         (map change_of left.now) (map change_of rest.now) (S.holds store.old) (S.holds store.new)) }
     ensures err { OnErr result (IsHalfReplaced (file_at after.now place)
@@ -66,7 +66,7 @@ fn replace_files<S: Store>(
     requires differ { DifferBy (map change_of changes.now) before.now after.now }
     requires files { HoldsFiles (S.holds store.old) before.now }
     ensures ok { OnOk result (S.holds store.new
-        ≡ option_map (with_files after.now) (S.holds store.old)) }
+        ≡ option_map (with_these_files after.now) (S.holds store.old)) }
     ensures err { OnErr result (AreBetween before.now after.now
         (S.holds store.old) (S.holds store.new)) }
     ensures count { Counts (S.failure_count store.old) (S.failure_count store.new) result }

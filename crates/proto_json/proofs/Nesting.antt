@@ -6,7 +6,7 @@ use Rattle.proto_json.specs.MessageText.{tree_text, level_text, before_nested, a
 use Rattle.proto_json.proofs.Sending.{value_more, any_sent, object_sent, both, more}
 use Rattle.serde.specs.Event.{Log, Logs, seq_begins, seq_ends, map_begins, map_ends, field_key}
 use Rattle.serde.specs.declared.name.Case.TheVariants.{AsIs}
-use Rattle.proto_descriptors.specs.Views.{MessageTree, messages_of, message_step, message_tree, messages_desc}
+use Rattle.proto_descriptors.specs.Views.{MessageTree, messages_of, message_step, descriptor_tree, messages_desc}
 use Rattle.proto_descriptors.specs.declared.message.MessageDescriptor.{MessageDescriptor, out-MessageDescriptor}
 use Rattle.proto_descriptors.specs.declared.message.MessageDescriptor.TheFolds.{fold_out-MessageDescriptor}
 
@@ -19,27 +19,27 @@ map-push f [] x = refl
 map-push f (y ∷ xs) x = ap (λ ys. f y ∷ ys) (map-push f xs x)
 
 -- one message more, behind the others
-pub message_texts-push : (ms : List MessageDescriptor) (m : MessageDescriptor) → message_texts (messages_desc (ms ++ m ∷ [])) ≡ message_texts (messages_desc ms) ++ tree_text (message_tree m) ∷ []
+pub message_texts-push : (ms : List MessageDescriptor) (m : MessageDescriptor) → message_texts (messages_desc (ms ++ m ∷ [])) ≡ message_texts (messages_desc ms) ++ tree_text (descriptor_tree m) ∷ []
 message_texts-push ms m =
-    message_texts-of (map message_tree (ms ++ m ∷ []))
-    ∙ ap (map tree_text) (map-push message_tree ms m)
-    ∙ map-push tree_text (map message_tree ms) (message_tree m)
-    ∙ ap (λ (texts : List (List ℕ)). texts ++ tree_text (message_tree m) ∷ []) (sym (message_texts-of (map message_tree ms)))
+    message_texts-of (map descriptor_tree (ms ++ m ∷ []))
+    ∙ ap (map tree_text) (map-push descriptor_tree ms m)
+    ∙ map-push tree_text (map descriptor_tree ms) (descriptor_tree m)
+    ∙ ap (λ (texts : List (List ℕ)). texts ++ tree_text (descriptor_tree m) ∷ []) (sym (message_texts-of (map descriptor_tree ms)))
 
 -- a message's text is that of its own level, round those nested in it
-pub tree_text-level : (m : MessageDescriptor) → tree_text (message_tree m) ≡ level_text m (message_texts (messages_desc (out-MessageDescriptor m).nested_type.items))
+pub tree_text-level : (m : MessageDescriptor) → tree_text (descriptor_tree m) ≡ level_text m (message_texts (messages_desc (out-MessageDescriptor m).nested_type.items))
 tree_text-level m = ap tree_text (fold_out-MessageDescriptor MessageTree message_step m)
 
 -- a message, its members before and behind those nested in it
 pub level_sent : (m : MessageDescriptor) {old first mid later last new : Log} → Logs old first (map_begins None) → PutsMembers (before_nested m) first mid
     → PutsMember (codes "nestedType", array_if_any (message_texts (messages_desc (out-MessageDescriptor m).nested_type.items))) mid later → PutsMembers (after_nested m) later last
-    → Logs last new map_ends → PutsValue (tree_text (message_tree m)) old new
+    → Logs last new map_ends → PutsValue (tree_text (descriptor_tree m)) old new
 level_sent m {old} {first} {mid} {later} {last} {new} begins before nested after ends =
     subst (λ text. PutsValue text old new) (sym (tree_text-level m)) (object_sent _ begins (both before (more nested after)) ends)
 
 -- one message more in a list
 pub message_more : (all : List MessageDescriptor) (i : ℕ) (m : MessageDescriptor) {old mid new : Log} → i < length all → m ≡ get_or all i m
-    → PutsValues (message_texts (messages_desc (take i all))) old mid → PutsValue (tree_text (message_tree m)) mid new → PutsValues (message_texts (messages_desc (take (i + 1) all))) old new
+    → PutsValues (message_texts (messages_desc (take i all))) old mid → PutsValue (tree_text (descriptor_tree m)) mid new → PutsValues (message_texts (messages_desc (take (i + 1) all))) old new
 message_more all i m {old} {mid} {new} lt is before one =
     let next : take i all ++ m ∷ [] ≡ take (i + 1) all = ap (λ (x : MessageDescriptor). take i all ++ x ∷ []) is ∙ sym (take_more all i m lt) in
     subst (λ (texts : List (List ℕ)). PutsValues texts old new) (sym (message_texts-push (take i all) m) ∙ ap (λ (ms : List MessageDescriptor). message_texts (messages_desc ms)) next) (value_more before one)

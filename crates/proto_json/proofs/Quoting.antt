@@ -2,7 +2,7 @@
 use Rattle.std.proofs.Common.{◌≡◌, ℕ, Bool, true, false, List, [], ◌∷◌, ◌++◌, refl, sym, ap, ◌∙◌, subst, eqb-true, ◌==◌, flat_map}
 use Rattle.json.specs.Print.{escape_byte}
 use Rattle.json.specs.Print as json
-use Rattle.proto_json.specs.JsonText.{escaped, quoted}
+use Rattle.proto_json.specs.JsonText.{escaped, json_string}
 
 at_number : (n b : ℕ) → escape_byte n ≡ escaped n → (b == n) ≡ true → escape_byte b ≡ escaped b
 at_number n b at h = subst (λ x. escape_byte x ≡ escaped x) (sym (eqb-true b n h)) at
@@ -39,8 +39,8 @@ escape_byte-is b = at_34 (b == 34) refl where
   at_34 true e = at_number 34 b refl e
   at_34 false e = at_92 (b == 92) refl e
 
-pub quoted-is : (text : List ℕ) → json.quoted text ≡ quoted text
-unfolding quoted
+pub quoted-is : (text : List ℕ) → json.quoted text ≡ json_string text
+unfolding json_string
 quoted-is text = ap (λ t. 34 ∷ (t ++ 34 ∷ [])) (each text) where
   each : (text : List ℕ) → json.escape text ≡ flat_map escaped text
   each [] = refl

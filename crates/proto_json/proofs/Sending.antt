@@ -4,7 +4,7 @@ use Rattle.proto_faults.proofs.Common.{taken_more, signed_decimal}
 use Rattle.json.specs.Token.{Token, begin_object, end_object, begin_array, end_array, key, string, number}
 use Rattle.json.specs.Token as json
 use Rattle.json.specs.Print.{quoted as quoted_there}
-use Rattle.proto_json.specs.Common.{Slot, quoted, boolean_text, separated, member_texts, array_text, object_text, array_if_any, object_if_any, mark, Written, nothing_written, token_of, token_put, events_put, written_by, Leads, comma, value_put, key_put, slot_put, slots_put, options_put, options_slot, PutsValue, PutsMember, PutsMembers, PutsValues, EndsOptions, Opens, PutsOption, values_put}
+use Rattle.proto_json.specs.Common.{Slot, json_string, boolean_text, comma_separated, member_texts, array_text, object_text, array_if_any, object_if_any, mark_if_true, Written, nothing_written, event_token, token_put, events_put, written_by, ChangesWritten, comma_behind, value_put, key_put, slot_put, slots_put, options_put, options_slot, PutsValue, PutsMember, PutsMembers, PutsValues, EndsOptions, Opens, PutsOption, values_put}
 use Rattle.proto_json.proofs.Quoting.{quoted-is}
 use Rattle.serde.specs.Event.{Event, Log, Logs, boolean, signed, unsigned, text, seq_begins, seq_ends, map_begins, map_ends, field_key}
 use Rattle.serde.specs.declared.name.Case.TheVariants.{AsIs}
@@ -13,40 +13,40 @@ use Rattle.serde.proofs.Spellings.{spelled-AsIs}
 
 -- ---- one event
 
-pub events_put-push : (es : List Event) (e : Event) (w : Written) → events_put w (es ++ e ∷ []) ≡ option_and_then (λ v. option_map (λ t. token_put t v) (token_of e)) (events_put w es)
+pub events_put-push : (es : List Event) (e : Event) (w : Written) → events_put w (es ++ e ∷ []) ≡ option_and_then (λ v. option_map (λ t. token_put t v) (event_token e)) (events_put w es)
 unfolding events_put
-events_put-push [] e w = by (token_of e) where
+events_put-push [] e w = by (event_token e) where
   by : (o : Option Token) → option_and_then (λ t. Some (token_put t w)) o ≡ option_map (λ t. token_put t w) o
   by None = refl
   by (Some t) = refl
-events_put-push (x ∷ es) e w = by (token_of x) (λ t. events_put-push es e (token_put t w)) where
-  by : (o : Option Token) → ((t : Token) → events_put (token_put t w) (es ++ e ∷ []) ≡ option_and_then (λ v. option_map (λ u. token_put u v) (token_of e)) (events_put (token_put t w) es))
-      → option_and_then (λ t. events_put (token_put t w) (es ++ e ∷ [])) o ≡ option_and_then (λ v. option_map (λ u. token_put u v) (token_of e)) (option_and_then (λ t. events_put (token_put t w) es) o)
+events_put-push (x ∷ es) e w = by (event_token x) (λ t. events_put-push es e (token_put t w)) where
+  by : (o : Option Token) → ((t : Token) → events_put (token_put t w) (es ++ e ∷ []) ≡ option_and_then (λ v. option_map (λ u. token_put u v) (event_token e)) (events_put (token_put t w) es))
+      → option_and_then (λ t. events_put (token_put t w) (es ++ e ∷ [])) o ≡ option_and_then (λ v. option_map (λ u. token_put u v) (event_token e)) (option_and_then (λ t. events_put (token_put t w) es) o)
   by None each = refl
   by (Some t) each = each t
 
 none_is_no_some : {A : Type 0} {x : A} → None ≡ Some x → ⊥
 none_is_no_some h = cc
 
-pub event_put : (old new : Log) (e : Event) (t : Token) → token_of e ≡ Some t → Logs old new e → Leads (token_put t) old new
+pub event_put : (old new : Log) (e : Event) (t : Token) → event_token e ≡ Some t → Logs old new e → ChangesWritten (token_put t) old new
 unfolding written_by
 event_put None new e t is sent = record { leads = λ w known. absurd (none_is_no_some known) }
 event_put (Some es) new e t is sent = record {
   leads = λ w known.
       ap written_by sent ∙ events_put-push es e nothing_written
-      ∙ ap (option_and_then (λ v. option_map (λ u. token_put u v) (token_of e))) known
+      ∙ ap (option_and_then (λ v. option_map (λ u. token_put u v) (event_token e))) known
       ∙ ap (option_map (λ u. token_put u w)) is;
 }
 
 -- ---- one after another
 
-pub followed : {f g : Written → Written} {old mid new : Log} → Leads f old mid → Leads g mid new → Leads (λ w. g (f w)) old new
+pub followed : {f g : Written → Written} {old mid new : Log} → ChangesWritten f old mid → ChangesWritten g mid new → ChangesWritten (λ w. g (f w)) old new
 followed {f} {g} first second = record { leads = λ w known. second.leads (f w) (first.leads w known) }
 
-pub same : {f g : Written → Written} {old new : Log} → ((w : Written) → f w ≡ g w) → Leads f old new → Leads g old new
+pub same : {f g : Written → Written} {old new : Log} → ((w : Written) → f w ≡ g w) → ChangesWritten f old new → ChangesWritten g old new
 same {f} {g} is leads = record { leads = λ w known. leads.leads w known ∙ ap Some (is w) }
 
-pub none : {old new : Log} → new ≡ old → Leads (λ w. w) old new
+pub none : {old new : Log} → new ≡ old → ChangesWritten (λ w. w) old new
 none is = record { leads = λ w known. ap written_by is ∙ known }
 
 -- ---- values
@@ -58,11 +58,11 @@ comma-is : (b : Bool) → cond {A = List ℕ} (b && true) (44 ∷ []) [] ≡ (if
 comma-is true = refl
 comma-is false = refl
 
-pub text_put : (s : List ℕ) (w : Written) → token_put (string s) w ≡ value_put (quoted s) w
+pub text_put : (s : List ℕ) (w : Written) → token_put (string s) w ≡ value_put (json_string s) w
 unfolding value_put
 text_put s w =
     ap (λ c. at (w.bytes ++ (c ++ quoted_there s)) true) (comma-is w.has_ended)
-    ∙ ap (λ q. at (w.bytes ++ (comma w ++ q)) true) (quoted-is s)
+    ∙ ap (λ q. at (w.bytes ++ (comma_behind w ++ q)) true) (quoted-is s)
 
 pub number_put : (s : List ℕ) (w : Written) → token_put (number s) w ≡ value_put s w
 unfolding value_put
@@ -77,14 +77,14 @@ key_put-is : (k : List ℕ) (w : Written) → token_put (key k) w ≡ key_put k 
 unfolding key_put
 key_put-is k w =
     ap (λ c. at (w.bytes ++ (c ++ (quoted_there k ++ 58 ∷ []))) false) (comma-is w.has_ended)
-    ∙ ap (λ q. at (w.bytes ++ (comma w ++ (q ++ 58 ∷ []))) false) (quoted-is k)
+    ∙ ap (λ q. at (w.bytes ++ (comma_behind w ++ (q ++ 58 ∷ []))) false) (quoted-is k)
 
-pub text_sent : (s : List ℕ) {old new : Log} → Logs old new (text s) → PutsValue (quoted s) old new
+pub text_sent : (s : List ℕ) {old new : Log} → Logs old new (text s) → PutsValue (json_string s) old new
 text_sent s {old} {new} sent = record { puts = same (text_put s) (event_put old new (text s) (string s) refl sent) }
 
 -- a text that is known by another name
-pub name_sent : {s t : List ℕ} {old new : Log} → s ≡ t → Logs old new (text s) → PutsValue (quoted t) old new
-name_sent {s} {t} {old} {new} is sent = subst (λ (u : List ℕ). PutsValue (quoted u) old new) is (text_sent s sent)
+pub name_sent : {s t : List ℕ} {old new : Log} → s ≡ t → Logs old new (text s) → PutsValue (json_string t) old new
+name_sent {s} {t} {old} {new} is sent = subst (λ (u : List ℕ). PutsValue (json_string u) old new) is (text_sent s sent)
 
 pub unsigned_sent : (n : ℕ) {old new : Log} → Logs old new (unsigned n) → PutsValue (decimal n) old new
 unsigned_sent n {old} {new} sent = record { puts = same (number_put (decimal n)) (event_put old new (unsigned n) (number (decimal n)) refl sent) }
@@ -95,7 +95,7 @@ signed_sent z {old} {new} sent = record { puts = same (number_put (signed_decima
 pub truth_sent : (b : Bool) {old new : Log} → Logs old new (boolean b) → PutsValue (boolean_text b) old new
 truth_sent b {old} {new} sent = record { puts = same (truth_put b) (event_put old new (boolean b) (json.boolean b) refl sent) }
 
-pub key_sent : (k : List ℕ) {old new : Log} → Logs old new (field_key k AsIs) → Leads (key_put k) old new
+pub key_sent : (k : List ℕ) {old new : Log} → Logs old new (field_key k AsIs) → ChangesWritten (key_put k) old new
 key_sent k {old} {new} sent =
     same (key_put-is k) (event_put old new (field_key k AsIs) (key k) (ap (λ s. Some (key s)) (spelled-AsIs Field k)) sent)
 
@@ -112,18 +112,18 @@ unfolding slots_put slot_put value_put key_put
 after_members [] t = ap (λ x. at x true) (sym (append-nil t))
 after_members ((k, None) ∷ slots) t = after_members slots t
 after_members ((k, Some v) ∷ slots) t =
-    ap (λ x. slots_put slots (at x true)) (member_at t (44 ∷ []) (quoted k) v)
-    ∙ after_members slots (t ++ 44 ∷ (quoted k ++ 58 ∷ v))
-    ∙ ap (λ x. at x true) (append_assoc t (44 ∷ (quoted k ++ 58 ∷ v)) (flat_map (λ u. 44 ∷ u) (member_texts slots)))
+    ap (λ x. slots_put slots (at x true)) (member_at t (44 ∷ []) (json_string k) v)
+    ∙ after_members slots (t ++ 44 ∷ (json_string k ++ 58 ∷ v))
+    ∙ ap (λ x. at x true) (append_assoc t (44 ∷ (json_string k ++ 58 ∷ v)) (flat_map (λ u. 44 ∷ u) (member_texts slots)))
 
-first_members : (slots : List Slot) (t : List ℕ) → token_put end_object (slots_put slots (at t false)) ≡ at (t ++ (separated (member_texts slots) ++ 125 ∷ [])) true
+first_members : (slots : List Slot) (t : List ℕ) → token_put end_object (slots_put slots (at t false)) ≡ at (t ++ (comma_separated (member_texts slots) ++ 125 ∷ [])) true
 unfolding slots_put slot_put value_put key_put
 first_members [] t = refl
 first_members ((k, None) ∷ slots) t = first_members slots t
 first_members ((k, Some v) ∷ slots) t =
-    let m = quoted k ++ 58 ∷ v in
+    let m = json_string k ++ 58 ∷ v in
     let rest = flat_map (λ u. 44 ∷ u) (member_texts slots) in
-    ap (λ x. token_put end_object (slots_put slots (at x true))) (member_at t [] (quoted k) v)
+    ap (λ x. token_put end_object (slots_put slots (at x true))) (member_at t [] (json_string k) v)
     ∙ ap (token_put end_object) (after_members slots (t ++ m))
     ∙ ap (λ x. at x true) (append_assoc (t ++ m) rest (125 ∷ []) ∙ append_assoc t m (rest ++ 125 ∷ []) ∙ ap (λ x. t ++ x) (sym (append_assoc m rest (125 ∷ []))))
 
@@ -134,10 +134,10 @@ begun_at t c b rest = append_assoc t (c ++ b ∷ []) rest ∙ ap (λ x. t ++ x) 
 pub object_put : (slots : List Slot) (w : Written) → token_put end_object (slots_put slots (token_put begin_object w)) ≡ value_put (object_text slots) w
 unfolding value_put object_text
 object_put slots w =
-    let inside = separated (member_texts slots) ++ 125 ∷ [] in
+    let inside = comma_separated (member_texts slots) ++ 125 ∷ [] in
     ap (λ c. token_put end_object (slots_put slots (at (w.bytes ++ (c ++ 123 ∷ [])) false))) (comma-is w.has_ended)
-    ∙ first_members slots (w.bytes ++ (comma w ++ 123 ∷ []))
-    ∙ ap (λ x. at x true) (begun_at w.bytes (comma w) 123 inside)
+    ∙ first_members slots (w.bytes ++ (comma_behind w ++ 123 ∷ []))
+    ∙ ap (λ x. at x true) (begun_at w.bytes (comma_behind w) 123 inside)
 
 pub object_sent : (slots : List Slot) {old first last new : Log} → Logs old first (map_begins None) → PutsMembers slots first last → Logs last new map_ends → PutsValue (object_text slots) old new
 object_sent slots {old} {first} {last} {new} begins members ends = record {
@@ -167,7 +167,7 @@ unfolding values_put value_put
 after_values [] t = ap (λ x. at x true) (sym (append-nil t))
 after_values (v ∷ ts) t = after_values ts (t ++ 44 ∷ v) ∙ ap (λ x. at x true) (append_assoc t (44 ∷ v) (flat_map (λ u. 44 ∷ u) ts))
 
-first_values : (ts : List (List ℕ)) (t : List ℕ) → token_put end_array (values_put ts (at t false)) ≡ at (t ++ (separated ts ++ 93 ∷ [])) true
+first_values : (ts : List (List ℕ)) (t : List ℕ) → token_put end_array (values_put ts (at t false)) ≡ at (t ++ (comma_separated ts ++ 93 ∷ [])) true
 unfolding values_put value_put
 first_values [] t = refl
 first_values (v ∷ ts) t =
@@ -179,10 +179,10 @@ first_values (v ∷ ts) t =
 pub array_put : (ts : List (List ℕ)) (w : Written) → token_put end_array (values_put ts (token_put begin_array w)) ≡ value_put (array_text ts) w
 unfolding value_put array_text
 array_put ts w =
-    let inside = separated ts ++ 93 ∷ [] in
+    let inside = comma_separated ts ++ 93 ∷ [] in
     ap (λ c. token_put end_array (values_put ts (at (w.bytes ++ (c ++ 91 ∷ [])) false))) (comma-is w.has_ended)
-    ∙ first_values ts (w.bytes ++ (comma w ++ 91 ∷ []))
-    ∙ ap (λ x. at x true) (begun_at w.bytes (comma w) 91 inside)
+    ∙ first_values ts (w.bytes ++ (comma_behind w ++ 91 ∷ []))
+    ∙ ap (λ x. at x true) (begun_at w.bytes (comma_behind w) 91 inside)
 
 pub array_sent : (ts : List (List ℕ)) (len : Option ℕ) {old first last new : Log} → Logs old first (seq_begins len) → PutsValues ts first last → Logs last new seq_ends → PutsValue (array_text ts) old new
 array_sent ts len {old} {first} {last} {new} begins values ends = record {
@@ -220,11 +220,11 @@ pub absent : (k : List ℕ) {old new : Log} → new ≡ old → PutsMember (k, N
 unfolding slot_put
 absent k is = record { puts = none is }
 
-pub mark_absent : (k : List ℕ) {b : Bool} {old new : Log} → b ≡ false → new ≡ old → PutsMember (k, mark b) old new
-mark_absent k {b} {old} {new} off is = subst (λ (a : Bool). PutsMember (k, mark a) old new) (sym off) (absent k is)
+pub mark_absent : (k : List ℕ) {b : Bool} {old new : Log} → b ≡ false → new ≡ old → PutsMember (k, mark_if_true b) old new
+mark_absent k {b} {old} {new} off is = subst (λ (a : Bool). PutsMember (k, mark_if_true a) old new) (sym off) (absent k is)
 
-pub mark_put : (k : List ℕ) {b : Bool} {old new : Log} → b ≡ true → PutsMember (k, Some (boolean_text true)) old new → PutsMember (k, mark b) old new
-mark_put k {b} {old} {new} on puts = subst (λ (a : Bool). PutsMember (k, mark a) old new) (sym on) puts
+pub mark_put : (k : List ℕ) {b : Bool} {old new : Log} → b ≡ true → PutsMember (k, Some (boolean_text true)) old new → PutsMember (k, mark_if_true b) old new
+mark_put k {b} {old} {new} on puts = subst (λ (a : Bool). PutsMember (k, mark_if_true a) old new) (sym on) puts
 
 pub list_absent : (k : List ℕ) {old new : Log} → new ≡ old → PutsMember (k, array_if_any []) old new
 unfolding array_if_any
@@ -282,11 +282,11 @@ unfolding options_put
 options_all ends = record { puts = ends.puts }
 
 pub option_absent : (b : Bool) (k : List ℕ) (old new : Log) → new ≡ old → PutsOption b (k, None) b old new
-option_absent b k old new is = λ slots last ends. record { puts = same (rest-none b k slots) (subst (λ (l : Log). Leads (options_put b slots) l last) is ends.puts) }
+option_absent b k old new is = λ slots last ends. record { puts = same (rest-none b k slots) (subst (λ (l : Log). ChangesWritten (options_put b slots) l last) is ends.puts) }
 
 pub option_put : (b : Bool) (k t : List ℕ) (old first new : Log) → Opens b old first → PutsMember (k, Some t) first new → PutsOption b (k, Some t) true old new
 option_put true k t old first new opens one = λ slots last ends.
-    record { puts = same (rest-open k t slots) (followed (subst (λ (l : Log). Leads (slot_put (k, Some t)) l new) opens one.puts) ends.puts) }
+    record { puts = same (rest-open k t slots) (followed (subst (λ (l : Log). ChangesWritten (slot_put (k, Some t)) l new) opens one.puts) ends.puts) }
 option_put false k t old first new opens one = λ slots last ends.
     let begun = followed (key_sent (codes "options") opens.1) (event_put opens.0 first (map_begins None) begin_object refl opens.2) in
     record { puts = same (rest-some k t slots) (followed (followed begun one.puts) ends.puts) }

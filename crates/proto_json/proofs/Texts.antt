@@ -7,7 +7,7 @@ use Rattle.json.specs.Lex.{tokens}
 use Rattle.json.specs.Print.{print, print_from, separator, token_text, ends}
 use Rattle.json.specs.Token as json
 use Rattle.json.specs.Token.{Token}
-use Rattle.proto_json.specs.Written.{Written, nothing_written, token_of, token_put, events_put, written_by, value_put, PutsValue}
+use Rattle.proto_json.specs.Written.{Written, nothing_written, event_token, token_put, events_put, written_by, value_put, PutsValue}
 use Rattle.serde.specs.Event.{Event, Log, boolean, signed, unsigned, text, seq_begins, seq_ends, map_begins, map_ends, field_key}
 use Rattle.serde_json.specs.Sent.{State, start, with, Takes, TakesAll, IsTextOf, bool_token, number_token, text_token}
 use Rattle.serde_json.proofs.FreeTexts.{tokens_by}
@@ -35,7 +35,7 @@ map_ended s m plain step = elim step [
   | inr braced ↦ grind (arith, common_steps, braced.1)
 ]
 
-one_added : (e : Event) (s m : State) → IsPlain s → Takes s e m → Added s (token_of e) m
+one_added : (e : Event) (s m : State) → IsPlain s → Takes s e m → Added s (event_token e) m
 one_added (boolean b) s m plain step = added s m (json.boolean b) _ plain step.1 (ap (λ k. bool_token k b) plain.0)
 one_added (signed z) s m plain step = added s m (json.number (signed_decimal z)) _ plain step.1.1 (ap (λ k. number_token k (signed_decimal z)) plain.0)
 one_added (unsigned n) s m plain step = added s m (json.number (decimal n)) _ plain step.1.1 (ap (λ k. number_token k (decimal n)) plain.0)
@@ -53,7 +53,7 @@ with_token (Some t) ts = t ∷ ts
 
 abbrev tokens_from : List Event → List Token
 tokens_from [] = []
-tokens_from (e ∷ es) = with_token (token_of e) (tokens_from es)
+tokens_from (e ∷ es) = with_token (event_token e) (tokens_from es)
 
 none_is_no_some : {A : Type 0} {x : A} → None ≡ Some x → ⊥
 none_is_no_some h = cc
@@ -67,7 +67,7 @@ tokens_are : (es : List Event) (w v : Written) (s last : State) → events_put w
 unfolding events_put
 tokens_are [] w v s last put plain run = ap (λ x. x.tokens) run ∙ sym (append-nil s.tokens)
 tokens_are (e ∷ es) w v s last put plain run =
-    lead_on (token_of e) (λ t. events_put (token_put t w) es) v s run.0 last (tokens_from es) put (one_added e s run.0 plain run.1)
+    lead_on (event_token e) (λ t. events_put (token_put t w) es) v s run.0 last (tokens_from es) put (one_added e s run.0 plain run.1)
     (λ t put plain. tokens_are es (token_put t w) v run.0 last put plain run.2)
 
 print_on : (o : Option Token) (f : Token → Option Written) (w v : Written) (rest : List Token) → option_and_then f o ≡ Some v
@@ -85,7 +85,7 @@ some_is w v h = cc
 print_is : (es : List Event) (w v : Written) → events_put w es ≡ Some v → w.bytes ++ print_from w.has_ended (tokens_from es) ≡ v.bytes
 unfolding events_put print_from
 print_is [] w v put = append-nil w.bytes ∙ ap (λ x. x.bytes) (some_is w v put)
-print_is (e ∷ es) w v put = print_on (token_of e) (λ t. events_put (token_put t w) es) w v (tokens_from es) put (λ t put. print_is es (token_put t w) v put)
+print_is (e ∷ es) w v put = print_on (event_token e) (λ t. events_put (token_put t w) es) w v (tokens_from es) put (λ t put. print_is es (token_put t w) v put)
 
 known_text : (log : Log) (v : Written) (bytes : List ℕ) → written_by log ≡ Some v → IsTextOf log bytes → bytes ≡ v.bytes
 unfolding written_by

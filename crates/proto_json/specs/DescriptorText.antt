@@ -4,7 +4,7 @@ use Rattle.std.specs.Prelude.{List, [], ◌∷◌, Option, Some, None, option_ma
 use Rattle.std.specs.Fmt.{signed_decimal}
 use Rattle.proto_faults.specs.Texts.{Text}
 use Rattle.proto_descriptors.specs.Descriptors.{FieldDesc, EnumValueDesc, EnumDesc, MessageDesc, Messages, NoMessages, Message, MethodDesc, ServiceDesc, FileOptionsDesc, FileDesc}
-use Rattle.proto_json.specs.JsonText.{Slot, quoted, boolean_text, object_text, array_if_any, object_if_any, mark}
+use Rattle.proto_json.specs.JsonText.{Slot, json_string, boolean_text, object_text, array_if_any, object_if_any, mark_if_true}
 use Rattle.proto_descriptors.specs.declared.enumeration.EnumOptions.{EnumOptions}
 use Rattle.proto_descriptors.specs.declared.enumeration.EnumReservedRange.{EnumReservedRange}
 use Rattle.proto_descriptors.specs.declared.enumeration.EnumValueOptions.{EnumValueOptions}
@@ -15,7 +15,7 @@ use Rattle.proto_descriptors.specs.declared.message.MessageOptions.{MessageOptio
 use Rattle.proto_descriptors.specs.declared.message.NumberRange.{NumberRange}
 use Rattle.proto_descriptors.specs.declared.service.MethodOptions.{MethodOptions}
 use Rattle.proto_descriptors.specs.declared.service.ServiceOptions.{ServiceOptions}
-pub use Rattle.proto_descriptors.specs.Names.{label_name, field_type_name, optimize_mode_name, idempotency_level_name}
+pub use Rattle.proto_descriptors.specs.Names.{label_name, type_word, optimize_mode_name, idempotency_level_name}
 
 -- ---- names
 
@@ -35,17 +35,17 @@ field_options_slots o =
 -- a field: label, name, number and type always stand, any other key only where it says something
 abbrev pub field_slots : FieldDesc → List Slot
 field_slots f =
-    (codes "defaultValue", option_map quoted f.default_value)
-    ∷ (codes "extendee", option_map quoted f.extendee)
-    ∷ (codes "jsonName", option_map quoted f.json_name)
-    ∷ (codes "label", Some (quoted (label_name f.label)))
-    ∷ (codes "name", Some (quoted f.name))
+    (codes "defaultValue", option_map json_string f.default_value)
+    ∷ (codes "extendee", option_map json_string f.extendee)
+    ∷ (codes "jsonName", option_map json_string f.json_name)
+    ∷ (codes "label", Some (json_string (label_name f.label)))
+    ∷ (codes "name", Some (json_string f.name))
     ∷ (codes "number", Some (decimal f.number))
     ∷ (codes "oneofIndex", option_map decimal f.oneof_index)
     ∷ (codes "options", object_if_any (field_options_slots f.options))
-    ∷ (codes "proto3Optional", mark f.proto3_optional)
-    ∷ (codes "type", Some (quoted (field_type_name f.field_type)))
-    ∷ (codes "typeName", option_map quoted f.type_name) ∷ []
+    ∷ (codes "proto3Optional", mark_if_true f.proto3_optional)
+    ∷ (codes "type", Some (json_string (type_word f.field_type)))
+    ∷ (codes "typeName", option_map json_string f.type_name) ∷ []
 
 -- the object of a field
 abbrev pub field_text : FieldDesc → Text
@@ -60,7 +60,7 @@ enum_value_options_slots o = (codes "deprecated", option_map boolean_text o.depr
 -- a value of an enum: name and number always stand, options only where one is written
 abbrev pub enum_value_slots : EnumValueDesc → List Slot
 enum_value_slots v =
-    (codes "name", Some (quoted v.name))
+    (codes "name", Some (json_string v.name))
     ∷ (codes "number", Some (signed_decimal v.number))
     ∷ (codes "options", object_if_any (enum_value_options_slots v.options)) ∷ []
 
@@ -87,9 +87,9 @@ enum_options_slots o =
 -- an enum: its name always stands, its options and its lists only where they are not empty
 abbrev pub enum_slots : EnumDesc → List Slot
 enum_slots e =
-    (codes "name", Some (quoted e.name))
+    (codes "name", Some (json_string e.name))
     ∷ (codes "options", object_if_any (enum_options_slots e.options))
-    ∷ (codes "reservedName", array_if_any (map quoted e.reserved_name))
+    ∷ (codes "reservedName", array_if_any (map json_string e.reserved_name))
     ∷ (codes "reservedRange", array_if_any (map enum_range_text e.reserved_range))
     ∷ (codes "value", array_if_any (map enum_value_text e.value)) ∷ []
 
@@ -109,7 +109,7 @@ range_text r = object_text (range_slots r)
 
 -- a oneof, of which the name is written alone: each field says in which oneof it stands
 abbrev pub oneof_slots : Text → List Slot
-oneof_slots name = (codes "name", Some (quoted name)) ∷ []
+oneof_slots name = (codes "name", Some (json_string name)) ∷ []
 
 -- the object of a oneof with this name
 abbrev pub oneof_text : Text → Text
@@ -119,7 +119,7 @@ oneof_text name = object_text (oneof_slots name)
 abbrev pub message_options_slots : MessageOptions → List Slot
 message_options_slots o =
     (codes "deprecated", option_map boolean_text o.deprecated)
-    ∷ (codes "mapEntry", mark o.map_entry) ∷ []
+    ∷ (codes "mapEntry", mark_if_true o.map_entry) ∷ []
 
 -- a message, with the texts of those nested in it
 abbrev pub message_slots : MessageDesc → List Text → List Slot
@@ -128,11 +128,11 @@ message_slots m nested =
     ∷ (codes "extension", array_if_any (map field_text m.extension))
     ∷ (codes "extensionRange", array_if_any (map range_text m.extension_range))
     ∷ (codes "field", array_if_any (map field_text m.field))
-    ∷ (codes "name", Some (quoted m.name))
+    ∷ (codes "name", Some (json_string m.name))
     ∷ (codes "nestedType", array_if_any nested)
     ∷ (codes "oneofDecl", array_if_any (map oneof_text m.oneof_decl))
     ∷ (codes "options", object_if_any (message_options_slots m.options))
-    ∷ (codes "reservedName", array_if_any (map quoted m.reserved_name))
+    ∷ (codes "reservedName", array_if_any (map json_string m.reserved_name))
     ∷ (codes "reservedRange", array_if_any (map range_text m.reserved_range)) ∷ []
 
 -- the object of a message, with the texts of those nested in it
@@ -152,18 +152,18 @@ method_options_slots o =
     (codes "deprecated", option_map boolean_text o.deprecated)
     ∷ (
       codes "idempotencyLevel",
-      option_map (λ level. quoted (idempotency_level_name level)) o.idempotency_level,
+      option_map (λ level. json_string (idempotency_level_name level)) o.idempotency_level,
     ) ∷ []
 
 -- a method: its name and its types always stand, a mark of a stream only where there is one
 abbrev pub method_slots : MethodDesc → List Slot
 method_slots m =
-    (codes "clientStreaming", mark m.client_streaming)
-    ∷ (codes "inputType", Some (quoted m.input_type))
-    ∷ (codes "name", Some (quoted m.name))
+    (codes "clientStreaming", mark_if_true m.client_streaming)
+    ∷ (codes "inputType", Some (json_string m.input_type))
+    ∷ (codes "name", Some (json_string m.name))
     ∷ (codes "options", object_if_any (method_options_slots m.options))
-    ∷ (codes "outputType", Some (quoted m.output_type))
-    ∷ (codes "serverStreaming", mark m.server_streaming) ∷ []
+    ∷ (codes "outputType", Some (json_string m.output_type))
+    ∷ (codes "serverStreaming", mark_if_true m.server_streaming) ∷ []
 
 -- the object of a method
 abbrev pub method_text : MethodDesc → Text
@@ -177,7 +177,7 @@ service_options_slots o = (codes "deprecated", option_map boolean_text o.depreca
 abbrev pub service_slots : ServiceDesc → List Slot
 service_slots s =
     (codes "method", array_if_any (map method_text s.method))
-    ∷ (codes "name", Some (quoted s.name))
+    ∷ (codes "name", Some (json_string s.name))
     ∷ (codes "options", object_if_any (service_options_slots s.options)) ∷ []
 
 -- the object of a service
@@ -190,29 +190,33 @@ service_text s = object_text (service_slots s)
 abbrev pub file_options_slots : FileOptionsDesc → List Slot
 file_options_slots o =
     (codes "ccEnableArenas", option_map boolean_text o.cc_enable_arenas)
-    ∷ (codes "csharpNamespace", option_map quoted o.csharp_namespace)
+    ∷ (codes "csharpNamespace", option_map json_string o.csharp_namespace)
     ∷ (codes "deprecated", option_map boolean_text o.deprecated)
-    ∷ (codes "goPackage", option_map quoted o.go_package)
+    ∷ (codes "goPackage", option_map json_string o.go_package)
     ∷ (codes "javaMultipleFiles", option_map boolean_text o.java_multiple_files)
-    ∷ (codes "javaOuterClassname", option_map quoted o.java_outer_classname)
-    ∷ (codes "javaPackage", option_map quoted o.java_package)
-    ∷ (codes "objcClassPrefix", option_map quoted o.objc_class_prefix)
-    ∷ (codes "optimizeFor", option_map (λ mode. quoted (optimize_mode_name mode)) o.optimize_for)
-    ∷ (codes "phpNamespace", option_map quoted o.php_namespace) ∷ []
+    ∷ (codes "javaOuterClassname", option_map json_string o.java_outer_classname)
+    ∷ (codes "javaPackage", option_map json_string o.java_package)
+    ∷ (codes "objcClassPrefix", option_map json_string o.objc_class_prefix)
+    ∷ (
+      codes "optimizeFor",
+      option_map (λ mode. json_string (optimize_mode_name mode))
+          o.optimize_for,
+    )
+    ∷ (codes "phpNamespace", option_map json_string o.php_namespace) ∷ []
 
 -- a file: its path always stands, any other key only where it says something
 abbrev pub file_slots : FileDesc → List Slot
 file_slots f =
-    (codes "dependency", array_if_any (map quoted f.dependency))
+    (codes "dependency", array_if_any (map json_string f.dependency))
     ∷ (codes "enumType", array_if_any (map enum_text f.enum_type))
     ∷ (codes "extension", array_if_any (map field_text f.extension))
     ∷ (codes "messageType", array_if_any (message_texts f.message_type))
-    ∷ (codes "name", Some (quoted f.name))
+    ∷ (codes "name", Some (json_string f.name))
     ∷ (codes "options", object_if_any (file_options_slots f.options))
-    ∷ (codes "package", option_map quoted f.package)
+    ∷ (codes "package", option_map json_string f.package)
     ∷ (codes "publicDependency", array_if_any (map decimal f.public_dependency))
     ∷ (codes "service", array_if_any (map service_text f.service))
-    ∷ (codes "syntax", option_map quoted (syntax_name f.syntax)) ∷ []
+    ∷ (codes "syntax", option_map json_string (syntax_name f.syntax)) ∷ []
 
 -- the object of a file
 abbrev pub file_text : FileDesc → Text

@@ -21,8 +21,8 @@ escaped b =
     else b ∷ [])))))))
 
 -- a text between quotes
-unfoldable pub quoted : Text → Text
-quoted text = ascii.quote ∷ (flat_map escaped text ++ ascii.quote ∷ [])
+unfoldable pub json_string : Text → Text
+json_string text = ascii.quote ∷ (flat_map escaped text ++ ascii.quote ∷ [])
 
 -- the literal of a truth value
 abbrev pub boolean_text : Bool → Text
@@ -30,13 +30,13 @@ boolean_text true = codes "true"
 boolean_text false = codes "false"
 
 -- texts with a comma between two
-abbrev pub separated : List Text → Text
-separated [] = []
-separated (t ∷ ts) = t ++ flat_map (λ u. ascii.comma ∷ u) ts
+abbrev pub comma_separated : List Text → Text
+comma_separated [] = []
+comma_separated (t ∷ ts) = t ++ flat_map (λ u. ascii.comma ∷ u) ts
 
 -- the values of an array between brackets, with a comma between two
 unfoldable pub array_text : List Text → Text
-array_text texts = ascii.open_bracket ∷ (separated texts ++ ascii.close_bracket ∷ [])
+array_text texts = ascii.open_bracket ∷ (comma_separated texts ++ ascii.close_bracket ∷ [])
 
 -- a key of an object and, where it is there, the text of its value
 abbrev pub Slot : Type 0
@@ -47,11 +47,12 @@ abbrev pub member_texts : List Slot → List Text
 member_texts [] = []
 member_texts ((key, None) ∷ slots) = member_texts slots
 member_texts ((key, Some text) ∷ slots) =
-    (quoted key ++ ascii.colon ∷ text) ∷ member_texts slots
+    (json_string key ++ ascii.colon ∷ text) ∷ member_texts slots
 
 -- the members that are there, in the order of the slots
 unfoldable pub object_text : List Slot → Text
-object_text slots = ascii.open_brace ∷ (separated (member_texts slots) ++ ascii.close_brace ∷ [])
+object_text slots =
+    ascii.open_brace ∷ (comma_separated (member_texts slots) ++ ascii.close_brace ∷ [])
 
 -- an array that is left out where it has no items
 unfoldable pub array_if_any : List Text → Option Text
@@ -65,9 +66,9 @@ object_if_any ((key, None) ∷ slots) = object_if_any slots
 object_if_any ((key, Some text) ∷ slots) = Some (object_text ((key, Some text) ∷ slots))
 
 -- a mark that is left out where it is false
-abbrev pub mark : Bool → Option Text
-mark true = Some (codes "true")
-mark false = None
+abbrev pub mark_if_true : Bool → Option Text
+mark_if_true true = Some (codes "true")
+mark_if_true false = None
 
 -- each key is below all later ones, byte by byte
 abbrev pub are_rising : List Text → Bool

@@ -6,7 +6,7 @@ use Rattle.json.specs.Token.{Token}
 use Rattle.json.specs.Token as json
 use Rattle.proto_faults.specs.Ascii as ascii
 use Rattle.proto_faults.specs.Texts.{Text}
-use Rattle.proto_json.specs.JsonText.{Slot, quoted, object_if_any}
+use Rattle.proto_json.specs.JsonText.{Slot, json_string, object_if_any}
 use Rattle.serde.specs.Event.{Event, Log, Logs, boolean, signed, unsigned, single, double, character, text, octets, nothing, unit_variant, seq_begins, seq_ends, map_begins, map_ends, field_key, variant_key, key_begins, key_ends, flattens}
 use Rattle.serde.specs.Spelling.{spelled}
 use Rattle.serde.specs.declared.name.Case.TheVariants.{AsIs}
@@ -22,26 +22,26 @@ abbrev pub nothing_written : Written
 nothing_written = record { bytes = []; has_ended = false }
 
 -- the token that an event is written as; descriptors send no event that has none here
-abbrev pub token_of : Event → Option Token
-token_of (boolean b) = Some (json.boolean b)
-token_of (signed z) = Some (json.number (signed_decimal z))
-token_of (unsigned n) = Some (json.number (decimal n))
-token_of (single x) = None
-token_of (double x) = None
-token_of (character c) = None
-token_of (text s) = Some (json.string s)
-token_of (octets b) = None
-token_of nothing = None
-token_of (unit_variant name case) = None
-token_of (seq_begins len) = Some json.begin_array
-token_of seq_ends = Some json.end_array
-token_of (map_begins len) = Some json.begin_object
-token_of map_ends = Some json.end_object
-token_of (field_key name case) = Some (json.key (spelled case Field name))
-token_of (variant_key name case) = None
-token_of key_begins = None
-token_of key_ends = None
-token_of flattens = None
+abbrev pub event_token : Event → Option Token
+event_token (boolean b) = Some (json.boolean b)
+event_token (signed z) = Some (json.number (signed_decimal z))
+event_token (unsigned n) = Some (json.number (decimal n))
+event_token (single x) = None
+event_token (double x) = None
+event_token (character c) = None
+event_token (text s) = Some (json.string s)
+event_token (octets b) = None
+event_token nothing = None
+event_token (unit_variant name case) = None
+event_token (seq_begins len) = Some json.begin_array
+event_token seq_ends = Some json.end_array
+event_token (map_begins len) = Some json.begin_object
+event_token map_ends = Some json.end_object
+event_token (field_key name case) = Some (json.key (spelled case Field name))
+event_token (variant_key name case) = None
+event_token key_begins = None
+event_token key_ends = None
+event_token flattens = None
 
 -- a token behind what is written
 abbrev pub token_put : Token → Written → Written
@@ -53,28 +53,32 @@ token_put t w = record {
 -- these events behind what is written, where each of them is a token
 unfoldable pub events_put : Written → List Event → Option Written
 events_put w [] = Some w
-events_put w (e ∷ es) = option_and_then (λ t. events_put (token_put t w) es) (token_of e)
+events_put w (e ∷ es) = option_and_then (λ t. events_put (token_put t w) es) (event_token e)
 
 -- what a writer has written, where its events are known and each is a token
 unfoldable pub written_by : Log → Option Written
 written_by log = option_and_then (events_put nothing_written) log
 
 -- what is written, if that is known, is changed by this
-pub record Leads (change : Written → Written) (old new : Log) : Type 0 where
+pub record ChangesWritten (change : Written → Written) (old new : Log) : Type 0 where
   pub leads : (w : Written) → written_by old ≡ Some w → written_by new ≡ Some (change w)
 
 -- the comma that stands behind a value
-abbrev pub comma : Written → Text
-comma w = if w.has_ended then ascii.comma ∷ [] else []
+abbrev pub comma_behind : Written → Text
+comma_behind w = if w.has_ended then ascii.comma ∷ [] else []
 
 -- a value behind what is written
 unfoldable pub value_put : Text → Written → Written
-value_put t w = record { bytes = w.bytes ++ (comma w ++ t); has_ended = true }
+value_put t w = record { bytes = w.bytes ++ (comma_behind w ++ t); has_ended = true }
 
 -- a key of an object and its colon behind what is written
 unfoldable pub key_put : Text → Written → Written
 key_put k w =
-    record { bytes = w.bytes ++ (comma w ++ (quoted k ++ ascii.colon ∷ [])); has_ended = false }
+    record {
+      bytes = w.bytes ++ (comma_behind w
+          ++ (json_string k ++ ascii.colon ∷ []));
+      has_ended = false;
+    }
 
 -- a member of an object behind what is written, if it is there
 unfoldable pub slot_put : Slot → Written → Written
@@ -102,23 +106,23 @@ values_put (t ∷ ts) w = values_put ts (value_put t w)
 
 -- a value of this text is written
 pub record PutsValue (t : Text) (old new : Log) : Type 0 where
-  pub puts : Leads (value_put t) old new
+  pub puts : ChangesWritten (value_put t) old new
 
 -- values of these texts are written, one after the other
 pub record PutsValues (ts : List Text) (old new : Log) : Type 0 where
-  pub puts : Leads (values_put ts) old new
+  pub puts : ChangesWritten (values_put ts) old new
 
 -- this member is written, if it is there
 pub record PutsMember (slot : Slot) (old new : Log) : Type 0 where
-  pub puts : Leads (slot_put slot) old new
+  pub puts : ChangesWritten (slot_put slot) old new
 
 -- these members are written, as far as they are there
 pub record PutsMembers (slots : List Slot) (old new : Log) : Type 0 where
-  pub puts : Leads (slots_put slots) old new
+  pub puts : ChangesWritten (slots_put slots) old new
 
 -- the options that are left are written, and the object of options ends, if it has begun
 pub record EndsOptions (is_open : Bool) (slots : List Slot) (old new : Log) : Type 0 where
-  pub puts : Leads (options_put is_open slots) old new
+  pub puts : ChangesWritten (options_put is_open slots) old new
 
 -- the object of options begins, if it has not begun
 abbrev pub Opens : Bool → Log → Log → Type 0

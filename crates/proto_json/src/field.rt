@@ -1,8 +1,8 @@
 //! The text of fields of messages.
 
 ghost use Rattle.std.specs.Prelude.{[], ◌∷◌, OnOk, take, drop, codes, option_map};
-ghost use Rattle.proto_json.specs.DescriptorText.{label_name, field_type_name, field_slots, field_text, field_options_slots};
-ghost use Rattle.proto_json.specs.JsonText.{quoted};
+ghost use Rattle.proto_json.specs.DescriptorText.{label_name, type_word, field_slots, field_text, field_options_slots};
+ghost use Rattle.proto_json.specs.JsonText.{json_string};
 ghost use Rattle.proto_json.specs.Written.{PutsMember, PutsMembers, options_slot};
 ghost use Rattle.proto_descriptors.specs.Views.{field_desc, role_extendee, role_json_name};
 
@@ -13,7 +13,7 @@ use proto_descriptors::{FieldDescriptor, FieldOptions, FieldRole, FieldType, Lab
 use serde::Serializer;
 
 impl ToJson for Label {
-    ghost text = { λ l. quoted (label_name l) };
+    ghost text = { λ l. json_string (label_name l) };
 
     fn send<S: Serializer>(&self, out: &mut S) -> Result<(), S::Error> {
         out.str(self.name())
@@ -21,7 +21,7 @@ impl ToJson for Label {
 }
 
 impl ToJson for FieldType {
-    ghost text = { λ t. quoted (field_type_name t) };
+    ghost text = { λ t. json_string (type_word t) };
 
     fn send<S: Serializer>(&self, out: &mut S) -> Result<(), S::Error> {
         out.str(self.name())
@@ -54,8 +54,8 @@ fn put_first<S: Serializer>(out: &mut S, field: &FieldDescriptor) -> Result<(), 
 /// The extendee of an extension, or the JSON name of a regular field.
 fn put_role<S: Serializer>(out: &mut S, role: &FieldRole) -> Result<(), S::Error>
     ensures { OnOk result (PutsMembers (
-        (codes "extendee", option_map quoted (role_extendee role.now))
-        ∷ (codes "jsonName", option_map quoted (role_json_name role.now)) ∷ [])
+        (codes "extendee", option_map json_string (role_extendee role.now))
+        ∷ (codes "jsonName", option_map json_string (role_json_name role.now)) ∷ [])
         (S.written out.old) (S.written out.new)) }
 {
     match role {

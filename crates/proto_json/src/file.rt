@@ -3,7 +3,7 @@
 ghost use Rattle.std.specs.Prelude.{◌≡◌, IfOk, OnOk, map, take, drop, string_bytes, option_map, codes};
 ghost use Rattle.serde.specs.Event.{Log};
 ghost use Rattle.proto_json.specs.DescriptorText.{optimize_mode_name, syntax_name, file_slots, file_text, file_options_slots, text_of_files};
-ghost use Rattle.proto_json.specs.JsonText.{quoted};
+ghost use Rattle.proto_json.specs.JsonText.{json_string};
 ghost use Rattle.proto_json.specs.Written.{PutsValue, PutsMember, PutsMembers, EndsOptions, options_slot};
 ghost use Rattle.proto_descriptors.specs.Views.{file_desc, file_options_desc};
 
@@ -52,7 +52,7 @@ impl Serialize for FileList<'_> {
 }
 
 impl ToJson for OptimizeMode {
-    ghost text = { λ m. quoted (optimize_mode_name m) };
+    ghost text = { λ m. json_string (optimize_mode_name m) };
 
     fn send<S: Serializer>(&self, out: &mut S) -> Result<(), S::Error> {
         out.str(self.name())
@@ -96,7 +96,7 @@ fn put_rest<S: Serializer>(out: &mut S, file: &FileDescriptor) -> Result<(), S::
 
 /// The name of the version, left out for proto2: a file without one is proto2.
 fn put_syntax<S: Serializer>(out: &mut S, syntax: Syntax) -> Result<(), S::Error>
-    ensures { OnOk result (PutsMember (codes "syntax", option_map quoted (syntax_name syntax))
+    ensures { OnOk result (PutsMember (codes "syntax", option_map json_string (syntax_name syntax))
         (S.written out.old) (S.written out.new)) }
 {
     match syntax {

@@ -1,7 +1,7 @@
 //! The members of an object, sent one behind the other in the order of their keys.
 
 ghost use Rattle.std.specs.Prelude.{◌≡◌, OnOk, Some, map, option_map};
-ghost use Rattle.proto_json.specs.JsonText.{array_if_any, boolean_text, mark};
+ghost use Rattle.proto_json.specs.JsonText.{array_if_any, boolean_text, mark_if_true};
 ghost use Rattle.proto_json.specs.Written.{PutsMember};
 
 use crate::values::{ToJson, send_each};
@@ -59,7 +59,7 @@ pub(crate) fn put_mark<S: Serializer>(
     key: &'static str,
     is_set: bool,
 ) -> Result<(), S::Error>
-    ensures { OnOk result (PutsMember (key.now, mark is_set)
+    ensures { OnOk result (PutsMember (key.now, mark_if_true is_set)
         (S.written out.old) (S.written out.new)) }
 {
     put_optional(out, key, &mark_of(is_set))
@@ -67,7 +67,7 @@ pub(crate) fn put_mark<S: Serializer>(
 
 /// The truth value that a mark is written as, none where it is left out.
 pub(crate) fn mark_of(is_set: bool) -> Option<bool>
-    ensures { option_map boolean_text result ≡ mark is_set }
+    ensures { option_map boolean_text result ≡ mark_if_true is_set }
 {
     if is_set { Some(true) } else { None }
 }

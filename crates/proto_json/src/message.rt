@@ -5,7 +5,7 @@ ghost use Rattle.proto_json.specs.DescriptorText.{message_texts, range_text, one
 ghost use Rattle.proto_json.specs.JsonText.{array_if_any};
 ghost use Rattle.proto_json.specs.MessageText.{tree_text, before_nested, after_nested};
 ghost use Rattle.proto_json.specs.Written.{PutsValue, PutsMember, PutsMembers, options_slot};
-ghost use Rattle.proto_descriptors.specs.Views.{oneof_desc, message_tree, messages_desc};
+ghost use Rattle.proto_descriptors.specs.Views.{oneof_desc, descriptor_tree, messages_desc};
 
 use crate::members::{mark_of, put, put_list};
 use crate::options::{close, put_option};
@@ -38,7 +38,7 @@ pub(crate) fn put_messages<S: Serializer>(
 /// A message with those nested in it.
 #[cycle(messages)]
 fn put_message<S: Serializer>(out: &mut S, message: &MessageDescriptor) -> Result<(), S::Error>
-    ensures { OnOk result (PutsValue (tree_text (message_tree message.now))
+    ensures { OnOk result (PutsValue (tree_text (descriptor_tree message.now))
         (S.written out.old) (S.written out.new)) }
 {
     out.begin_map(None)?;

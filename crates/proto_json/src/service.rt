@@ -2,7 +2,7 @@
 
 ghost use Rattle.std.specs.Prelude.{OnOk};
 ghost use Rattle.proto_json.specs.DescriptorText.{idempotency_level_name, service_text, method_slots, method_text, service_options_slots, method_options_slots};
-ghost use Rattle.proto_json.specs.JsonText.{quoted};
+ghost use Rattle.proto_json.specs.JsonText.{json_string};
 ghost use Rattle.proto_json.specs.Written.{PutsMember, PutsMembers, options_slot};
 ghost use Rattle.proto_descriptors.specs.Views.{service_desc, method_desc};
 
@@ -15,7 +15,7 @@ use proto_descriptors::{
 use serde::Serializer;
 
 impl ToJson for IdempotencyLevel {
-    ghost text = { λ l. quoted (idempotency_level_name l) };
+    ghost text = { λ l. json_string (idempotency_level_name l) };
 
     fn send<S: Serializer>(&self, out: &mut S) -> Result<(), S::Error> {
         out.str(self.name())

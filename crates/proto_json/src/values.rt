@@ -3,7 +3,7 @@
 ghost use Rattle.std.specs.Prelude.{OnOk, map, string_bytes, decimal};
 ghost use Rattle.std.specs.Fmt.{signed_decimal};
 ghost use Rattle.proto_faults.specs.Texts.{Text};
-ghost use Rattle.proto_json.specs.JsonText.{quoted, boolean_text};
+ghost use Rattle.proto_json.specs.JsonText.{json_string, boolean_text};
 ghost use Rattle.proto_json.specs.Written.{PutsValue, PutsValues};
 
 use serde::{Serialize, Serializer};
@@ -17,7 +17,7 @@ pub(crate) trait ToJson {
 }
 
 impl ToJson for String {
-    ghost text = { λ s. quoted (string_bytes s) };
+    ghost text = { λ s. json_string (string_bytes s) };
 
     fn send<S: Serializer>(&self, out: &mut S) -> Result<(), S::Error> {
         self.serialize(out)

@@ -5,7 +5,7 @@ use Rattle.proto_text.specs.declared.lexer.Token.{Token}
 use Rattle.proto_text.proofs.Common.{AreTokens, lexeme_at, one_token_list}
 use Rattle.proto_tree.specs.Tree.{Tree}
 use Rattle.proto_files.proofs.Common.{FileOf, file_at, ReadOf, AreRead, read_at, IsTreeOf, same_tree}
-use Rattle.proto_meaning.specs.Faults.{file_of}
+use Rattle.proto_meaning.specs.Faults.{file_with_path}
 use Rattle.proto_findings.proofs.LastSplit.{split_whole}
 use Rattle.proto_findings.proofs.Common.{back_or, behind_last, Reading}
 use Rattle.proto_lint.specs.Common.{head_of, head_of_file, is_there, IsProtoPath, Head}
@@ -73,7 +73,7 @@ at_place xs i = elim (cases_lt i (length xs)) [
       ap (option_and_then (λ k. slice_get xs k)) (cond-false (nat_lt i (length xs)) (Some i) None a) ∙ sym (past_all xs i l)
 ]
 
-pub first_head : (f : Head → List ℕ) (name : List ℕ) (hs : List Head) → option_and_then (λ k. slice_get hs k) (file_of (map f hs) name) ≡ find (λ g. bytes_eq (f g) name) hs
+pub first_head : (f : Head → List ℕ) (name : List ℕ) (hs : List Head) → option_and_then (λ k. slice_get hs k) (file_with_path (map f hs) name) ≡ find (λ g. bytes_eq (f g) name) hs
 first_head f name hs =
     ap (λ n. option_and_then (λ k. slice_get hs k) (cond (nat_lt n (length (map f hs))) (Some n) None)) (place_same f name hs)
     ∙ ap (λ m. option_and_then (λ k. slice_get hs k) (cond (nat_lt at m) (Some at) None)) (length-map hs f) ∙ got ∙ sym (find_at (λ g. bytes_eq (f g) name) hs)

@@ -6,34 +6,34 @@ use Rattle.proto_text.proofs.Common.{IsString, words}
 use Rattle.proto_tree.specs.declared.piece.Statement.{Statement}
 use Rattle.proto_tree.specs.declared.piece.Statement.TheVariants as statement
 use Rattle.proto_tree.specs.declared.tree.Import.{Import}
-use Rattle.proto_tree.proofs.Common.{Reads, Tree, End, Leaf, Block, joined}
+use Rattle.proto_tree.proofs.Common.{Reads, Tree, End, Leaf, Block, joined_trees}
 use Rattle.proto_listing.proofs.Common.{Wanted, imports_are_strings}
 use Rattle.proto_listing.specs.FromTree as names
 use Rattle.proto_imports.proofs.Turned.{take_more}
 use Rattle.proto_parts.proofs.Common.{statements, statements_joined}
-use Rattle.proto_lint.specs.Imports.{imports_in, statement_imports}
+use Rattle.proto_lint.specs.Imports.{import_statements_in, statement_import}
 
-pub imports_joined : (t u : Tree) → imports_in (joined t u) ≡ imports_in t ++ imports_in u
-imports_joined t u = ap (flat_map statement_imports) (statements_joined t u) ∙ flat_map-append statement_imports (statements t) (statements u)
+pub imports_joined : (t u : Tree) → import_statements_in (joined_trees t u) ≡ import_statements_in t ++ import_statements_in u
+imports_joined t u = ap (flat_map statement_import) (statements_joined t u) ∙ flat_map-append statement_import (statements t) (statements u)
 
 -- an import as the names have it
 abbrev wanted_as : Import → Wanted
 wanted_as i = record { path = i.path; is_public = is_some i.public }
 
-same_statement : (s : Statement) → names.statement_imports s ≡ map wanted_as (statement_imports s)
+same_statement : (s : Statement) → names.statement_imports s ≡ map wanted_as (statement_import s)
 same_statement (statement.Syntax x) = refl
 same_statement whole = refl
 
-same_imports : (t : Tree) → names.imports_in t ≡ map wanted_as (imports_in t)
+same_imports : (t : Tree) → names.imports_in t ≡ map wanted_as (import_statements_in t)
 same_imports End = refl
 same_imports (Leaf s rest) =
-    ap (λ ws. ws ++ names.imports_in rest) (same_statement s) ∙ ap (λ ws. map wanted_as (statement_imports s) ++ ws) (same_imports rest)
-    ∙ sym (map-append wanted_as (statement_imports s) (imports_in rest))
+    ap (λ ws. ws ++ names.imports_in rest) (same_statement s) ∙ ap (λ ws. map wanted_as (statement_import s) ++ ws) (same_imports rest)
+    ∙ sym (map-append wanted_as (statement_import s) (import_statements_in rest))
 same_imports (Block h i within j rest) = same_imports rest
 
 -- they name files by strings
-pub paths_are_strings : (text : List ℕ) (tokens : List Token) (tree : Tree) → Reads text tokens tree → (i : Import) → Contains (imports_in tree) i → IsString (words text tokens i.path)
-paths_are_strings text tokens tree reads i c = imports_are_strings text tokens tree reads (wanted_as i) (subst (λ (ws : List Wanted). Contains ws (wanted_as i)) (sym (same_imports tree)) (contains_map wanted_as (imports_in tree) i c))
+pub paths_are_strings : (text : List ℕ) (tokens : List Token) (tree : Tree) → Reads text tokens tree → (i : Import) → Contains (import_statements_in tree) i → IsString (words text tokens i.path)
+paths_are_strings text tokens tree reads i c = imports_are_strings text tokens tree reads (wanted_as i) (subst (λ (ws : List Wanted). Contains ws (wanted_as i)) (sym (same_imports tree)) (contains_map wanted_as (import_statements_in tree) i c))
 
 -- what is found of one import more
 pub finds_more : {A : Type 0} (finds : Import → List A) (xs : List (Bor Import)) (i : ℕ) (d : Bor Import) → i < length xs

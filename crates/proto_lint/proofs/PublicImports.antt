@@ -3,7 +3,7 @@ use Rattle.std.proofs.Common.{◌≡◌, ℕ, zero, suc, ◌+◌, ◌<◌, Bool,
 use Rattle.proto_faults.proofs.Common.{cons_option, Contains-append_left, Contains-append_right, Contains-append_cases, Contains-get_or, filter_map-append, map-append, position-Some, none-some, same_Some, or_nothing, contains_cases, contains_head, contains_later, contains_map, from_map}
 use Rattle.proto_text.specs.Values.{value_of}
 use Rattle.proto_files.proofs.Common.{FileOf, paths_of, ReadOf, AreRead, read_at}
-use Rattle.proto_meaning.proofs.Common.{Asked, file_of, import_at, At, at, Import}
+use Rattle.proto_meaning.proofs.Common.{AskedImport, file_with_path, import_from_asked, At, at, Import}
 use Rattle.proto_listing.proofs.Common.{Wanted, imports_in, wanted_of}
 use Rattle.proto_listing.specs.declared.wanted.Wanted.{Wanted as WantedAt}
 use Rattle.proto_imports.proofs.Common.{all_wanted, asked_as, link_imports, text_of, contains_filtered, contains_within, take_more}
@@ -33,7 +33,7 @@ asked_in text n (suc k) (r ∷ rs) i l c =
     subst (λ m. Contains (all_wanted text n (r ∷ rs)) (asked_as text m i)) {x = suc n + k} {y = n + suc k} (omega arith)
     (Contains-append_right (map (asked_as text n) (imports_in r.tree)) (all_wanted text (suc n) rs) (asked_as text (suc n + k) i) (asked_in text (suc n) k rs i (omega (arith, l)) c))
 
-asked_from : (text : At → List ℕ) (n : ℕ) (rs : List ReadOf) (a : Asked) → Contains (all_wanted text n rs) a → (k : ℕ) × (k < length rs) × ((i : Wanted) × Contains (imports_in (read_at rs k).tree) i × (asked_as text (n + k) i ≡ a))
+asked_from : (text : At → List ℕ) (n : ℕ) (rs : List ReadOf) (a : AskedImport) → Contains (all_wanted text n rs) a → (k : ℕ) × (k < length rs) × ((i : Wanted) × Contains (imports_in (read_at rs k).tree) i × (asked_as text (n + k) i ≡ a))
 asked_from text n [] a c = absurd (omega (arith, c.1))
 asked_from text n (r ∷ rs) a c = elim (Contains-append_cases (map (asked_as text n) (imports_in r.tree)) (all_wanted text (suc n) rs) a c) [
   | inl h ↦
@@ -49,20 +49,20 @@ asked_from text n (r ∷ rs) a c = elim (Contains-append_cases (map (asked_as te
 abbrev path_at : (ℕ → List ℕ) → Wanted → List ℕ
 path_at text i = or_nothing (value_of (text i.path))
 
-target_public : (paths : List (List ℕ)) (text : ℕ → List ℕ) (i : Wanted) (to : ℕ) → public_target paths text i ≡ Some to → (i.is_public ≡ true) × (file_of paths (path_at text i) ≡ Some to)
+target_public : (paths : List (List ℕ)) (text : ℕ → List ℕ) (i : Wanted) (to : ℕ) → public_target paths text i ≡ Some to → (i.is_public ≡ true) × (file_with_path paths (path_at text i) ≡ Some to)
 target_public paths text i to h = go i.is_public h
   where
-    go : (b : Bool) → (if b then file_of paths (path_at text i) else None) ≡ Some to → (b ≡ true) × (file_of paths (path_at text i) ≡ Some to)
+    go : (b : Bool) → (if b then file_with_path paths (path_at text i) else None) ≡ Some to → (b ≡ true) × (file_with_path paths (path_at text i) ≡ Some to)
     go true e = (refl, e)
     go false e = absurd (none-some to e)
 
-import_named : (paths : List (List ℕ)) (a : Asked) (i : Import) → import_at paths a ≡ Some i → (i.from ≡ a.place.file) × (file_of paths a.path ≡ Some i.to) × (i.is_public ≡ a.is_public)
-import_named paths a i h = go (file_of paths a.path) refl h
+import_named : (paths : List (List ℕ)) (a : AskedImport) (i : Import) → import_from_asked paths a ≡ Some i → (i.from ≡ a.place.file) × (file_with_path paths a.path ≡ Some i.to) × (i.is_public ≡ a.is_public)
+import_named paths a i h = go (file_with_path paths a.path) refl h
   where
     made : ℕ → Import
     made to = record { from = a.place.file; to = to; is_public = a.is_public }
 
-    go : (o : Option ℕ) → file_of paths a.path ≡ o → option_map (λ to. let j : Import = record { from = a.place.file; to = to; is_public = a.is_public } in j) o ≡ Some i → (i.from ≡ a.place.file) × (file_of paths a.path ≡ Some i.to) × (i.is_public ≡ a.is_public)
+    go : (o : Option ℕ) → file_with_path paths a.path ≡ o → option_map (λ to. let j : Import = record { from = a.place.file; to = to; is_public = a.is_public } in j) o ≡ Some i → (i.from ≡ a.place.file) × (file_with_path paths a.path ≡ Some i.to) × (i.is_public ≡ a.is_public)
     go None e k = absurd (none-some i k)
     go (Some to) e k =
         let j : Import = record { from = a.place.file; to = to; is_public = a.is_public } in
@@ -106,23 +106,23 @@ module _ (files : List FileOf) (reads : List ReadOf) (are : AreRead files reads)
       let wanted = imports_in (read_at reads from).tree in
       let x = from_filtered (public_target paths (here from)) wanted to (subst (λ z. Contains z to) (each from l) c) in
       let t = target_public paths (here from) x.0 to x.2 in
-      let a : Asked = asked_as texts from x.0 in
+      let a : AskedImport = asked_as texts from x.0 in
       let asked : Contains (all_wanted texts 0 reads) a = subst (λ m. Contains (all_wanted texts 0 reads) (asked_as texts m x.0)) {x = 0 + from} {y = from} (omega arith) (asked_in texts 0 from reads x.0 (omega (arith, l, are.same)) x.1) in
       let i : Import = record { from = from; to = to; is_public = x.0.is_public } in
-      let named : import_at paths a ≡ Some i = ap (option_map (λ (k : ℕ). let j : Import = record { from = from; to = k; is_public = x.0.is_public } in j)) t.1 in
-      (i, contains_filtered (import_at paths) (all_wanted texts 0 reads) a i asked named, refl, refl, t.0)
+      let named : import_from_asked paths a ≡ Some i = ap (option_map (λ (k : ℕ). let j : Import = record { from = from; to = k; is_public = x.0.is_public } in j)) t.1 in
+      (i, contains_filtered (import_from_asked paths) (all_wanted texts 0 reads) a i asked named, refl, refl, t.0)
 
   imported_listed : (from to : ℕ) → (i : Import) × Contains (link_imports files reads) i × (i.from ≡ from) × (i.to ≡ to) × (i.is_public ≡ true) → Contains (get_or next from []) to
   imported_listed from to (i, c, f, t, p) =
-      let a = from_filtered (import_at paths) (all_wanted texts 0 reads) i c in
+      let a = from_filtered (import_from_asked paths) (all_wanted texts 0 reads) i c in
       let x = asked_from texts 0 reads a.0 a.1 in
       let n = import_named paths a.0 i a.2 in
       let one : Wanted = x.2.0 in
-      let k : x.0 ≡ from = let q = ap (λ (z : Asked). z.place.file) x.2.2 in let r = n.0 in omega (arith, q, r, f) in
+      let k : x.0 ≡ from = let q = ap (λ (z : AskedImport). z.place.file) x.2.2 in let r = n.0 in omega (arith, q, r, f) in
       let same : asked_as texts from one ≡ a.0 = ap (λ m. asked_as texts m one) {x = from} {y = 0 + x.0} (omega (arith, k)) ∙ x.2.2 in
-      let is_public : one.is_public ≡ true = ap (λ (z : Asked). z.is_public) same ∙ sym n.2 ∙ p in
-      let file : file_of paths (path_at (here from) one) ≡ Some to = ap (λ (z : Asked). file_of paths z.path) same ∙ n.1 ∙ ap (λ (z : ℕ). Some z) t in
-      let target : public_target paths (here from) one ≡ Some to = ap (λ (b : Bool). if b then file_of paths (path_at (here from) one) else None) is_public ∙ file in
+      let is_public : one.is_public ≡ true = ap (λ (z : AskedImport). z.is_public) same ∙ sym n.2 ∙ p in
+      let file : file_with_path paths (path_at (here from) one) ≡ Some to = ap (λ (z : AskedImport). file_with_path paths z.path) same ∙ n.1 ∙ ap (λ (z : ℕ). Some z) t in
+      let target : public_target paths (here from) one ≡ Some to = ap (λ (b : Bool). if b then file_with_path paths (path_at (here from) one) else None) is_public ∙ file in
       let l : from < length files = let q = x.1 in omega (arith, q, k, are.same) in
       let wanted : Contains (imports_in (read_at reads from).tree) one = subst (λ j. Contains (imports_in (read_at reads j).tree) one) k x.2.1 in
       subst (λ z. Contains z to) (sym (each from l)) (contains_filtered (public_target paths (here from)) (imports_in (read_at reads from).tree) one to wanted target)

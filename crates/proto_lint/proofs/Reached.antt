@@ -1,6 +1,6 @@
 -- What is reached by public imports: the relation, and walks along the lists of files.
 use Rattle.std.proofs.Common.{ℕ, ◌<◌, List, refl, sym, subst}
-use Rattle.proto_meaning.proofs.Common.{Import, Workspace, Reaches, here, along, AreFiles}
+use Rattle.proto_meaning.proofs.Common.{Import, Workspace, Reaches, here, along, ImportsAreOfFiles}
 use Rattle.proto_imports.specs.Walks.{Walks, stays, goes}
 use Rattle.proto_lint.specs.ImportTables.{ArePublic}
 
@@ -14,6 +14,6 @@ pub reach_walks : (next : List (List ℕ)) (imports : List Import) → ArePublic
 reach_walks next imports public here = stays
 reach_walks next imports public {f} (along i c e p r) = goes i.to ((public f i.to).1 (i, c, e, refl, p)) (reach_walks next imports public r)
 
-pub reached_within : (w : Workspace) → AreFiles w → {f g : ℕ} → f < w.files → Reaches w.imports f g → g < w.files
+pub reached_within : (w : Workspace) → ImportsAreOfFiles w → {f g : ℕ} → f < w.files → Reaches w.imports f g → g < w.files
 reached_within w ok l here = l
 reached_within w ok l (along i c e p r) = reached_within w ok (ok i c).1 r

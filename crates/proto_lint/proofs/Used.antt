@@ -6,7 +6,7 @@ use Rattle.proto_meaning.proofs.Common.{place_from, place_of, At, at, FileNames,
 use Rattle.proto_meaning.specs.declared.kind.Kind.{Kind}
 use Rattle.proto_meaning.specs.declared.kind.Kind.TheVariants.{Package, Message, Entry, Enum, Service, Field, EntryField, Extension, Oneof, Value, Method}
 use Rattle.proto_imports.proofs.Common.{link_skeleton, names_in, names_of_files, text_of, use_from, use_in, marked_within, used_named, uses_of}
-use Rattle.proto_names.proofs.Common.{IsLinkRead, TextMeant, meant_by_link, meant_by_use, LinkOf, NameOf, file_at, name_at, own_file, declared_as}
+use Rattle.proto_names.proofs.Common.{IsLinkRead, TextMeant, meant_by_link, meant_by_use, LinkOf, NameOf, declaring_file, name_at, own_file, name_declared_as}
 use Rattle.proto_case.specs.Camel.{entry_name}
 use Rattle.proto_lint.specs.Common.{is_reached, is_used, LeadsToMarked, MarksMeant}
 use Rattle.proto_lint.proofs.Reached.{reached_within}
@@ -93,7 +93,7 @@ module _ (files : List FileOf) (reads : List ReadOf) (l : LinkOf) (are : AreRead
       ap (λ (y : NameOf). y.kind) same ∙ x.4
 
   -- a symbol of the name that a reference means is declared in the name's own file
-  symbol_file : (r : Reference) (name : List (List ℕ)) → meaning w r ≡ Some name → (row : ℕ) (n : NameOf) → name_at l row ≡ Some n → n.text ≡ joined name → (s : Symbol) → Contains w.symbols s → s.name ≡ name → file_at l row ≡ Some s.file
+  symbol_file : (r : Reference) (name : List (List ℕ)) → meaning w r ≡ Some name → (row : ℕ) (n : NameOf) → name_at l row ≡ Some n → n.text ≡ joined name → (s : Symbol) → Contains w.symbols s → s.name ≡ name → declaring_file l row ≡ Some s.file
   symbol_file r name means row n h e s c same =
       let t = meant_type w r name means in
       let type : is_type n.kind ≡ true = ap is_type (same_kind row n h t.0 t.1 (e ∙ ap joined (sym t.2))) ∙ t.3 in
@@ -101,12 +101,12 @@ module _ (files : List FileOf) (reads : List ReadOf) (l : LinkOf) (are : AreRead
       let spelled : name_of text entry_name d.0.path ≡ name = ap (λ (x : Symbol). x.name) d.2 ∙ same in
       let kind : n.kind ≡ d.0.kind = same_kind row n h s c (e ∙ ap joined (sym same)) ∙ ap (λ (x : Symbol). x.kind) (sym d.2) in
       let other : d.0.kind ≢ Package = type_is_other d.0.kind (ap is_type (sym kind) ∙ type) in
-      let place = (declared_as text (link_skeleton files reads) l link.by d.0 d.1 other row n h (e ∙ ap joined (sym spelled))).1 in
+      let place = (name_declared_as text (link_skeleton files reads) l link.by d.0 d.1 other row n h (e ∙ ap joined (sym spelled))).1 in
       let file : get_or n.files 0 0 ≡ s.file = ap (λ (a : At). a.file) place ∙ stands_in_file 0 (map names_in reads) d.0 d.1 ∙ ap (λ (x : Symbol). x.file) d.2 in
       ap (option_and_then own_file) h ∙ own_is n (no_package n.kind type) ∙ ap Some file
 
   -- a symbol of the name, in its own file
-  own_symbol : (row g : ℕ) → file_at l row ≡ Some g → (n : NameOf) × (name_at l row ≡ Some n) × ((s : Symbol) × Contains w.symbols s × (joined s.name ≡ n.text) × (s.file ≡ g))
+  own_symbol : (row g : ℕ) → declaring_file l row ≡ Some g → (n : NameOf) × (name_at l row ≡ Some n) × ((s : Symbol) × Contains w.symbols s × (joined s.name ≡ n.text) × (s.file ≡ g))
   own_symbol row g h =
       let n = with_file (name_at l row) g h in
       let first : get_or n.0.files 0 0 ≡ g = own_of n.0 g n.2 in

@@ -4,14 +4,14 @@ use Rattle.std.specs.List.{All, Contains, filter_map}
 use Rattle.proto_faults.specs.Texts.{Path, Text, or_nothing}
 use Rattle.proto_text.specs.Values.{value_of}
 use Rattle.proto_files.specs.GivenFiles.{FileOf, paths_of}
-use Rattle.proto_meaning.specs.Faults.{file_of}
+use Rattle.proto_meaning.specs.Faults.{file_with_path}
 use Rattle.proto_meaning.specs.Names.{Import, Reaches}
 use Rattle.proto_listing.specs.FromTree.{Wanted}
 use Rattle.proto_imports.specs.ImportSteps.{IsFileIndex}
 use Rattle.proto_files.specs.FilesRead.{ReadOf, AreRead}
 use Rattle.proto_imports.specs.Links.{link_imports, names_of_files}
 use Rattle.proto_imports.specs.Walks.{IsMarked}
-use Rattle.proto_names.specs.Linking.{LinkOf, file_at}
+use Rattle.proto_names.specs.Linking.{LinkOf, declaring_file}
 use Rattle.proto_names.specs.declared.references.Meant.{Meant}
 use Rattle.proto_lint.specs.Imports.{is_used}
 use Rattle.proto_lint.specs.declared.imports.Imports.{Imports}
@@ -20,7 +20,7 @@ use Rattle.proto_lint.specs.declared.imports.Imports.{Imports}
 -- public
 abbrev pub public_target : List Path → (ℕ → Text) → Wanted → Option ℕ
 public_target paths text w =
-    if w.is_public then file_of paths (or_nothing (value_of (text w.path))) else None
+    if w.is_public then file_with_path paths (or_nothing (value_of (text w.path))) else None
 
 -- the files that the public ones of some imports name, in order
 abbrev pub public_targets : List Path → (ℕ → Text) → List Wanted → List ℕ
@@ -33,7 +33,7 @@ ArePublic next imports = (from to : ℕ) → Contains (get_or next from []) to
     × (i.from ≡ from) × (i.to ≡ to) × (i.is_public ≡ true))
 
 -- the tables are those of the files
-pub record AreImportsOf (files : List FileOf) (i : Imports) : Type 0 where
+pub record AreImportTablesOf (files : List FileOf) (i : Imports) : Type 0 where
   pub index : IsFileIndex i.files (paths_of files)
   pub count : length i.public.items ≡ length files
   pub within : All (λ v. All (λ g. g < length files) v.items) i.public.items
@@ -42,7 +42,7 @@ pub record AreImportsOf (files : List FileOf) (i : Imports) : Type 0 where
 
 -- of these references one means a name that this file declares
 abbrev pub MeansIn : LinkOf → List Meant → ℕ → Type 0
-MeansIn l means g = (m : Meant) × Contains means m × (file_at l m.row ≡ Some g)
+MeansIn l means g = (m : Meant) × Contains means m × (declaring_file l m.row ≡ Some g)
 
 -- the files in which the meanings of these references are declared are marked
 abbrev pub MarksMeant : LinkOf → List Meant → ℕ → List Bool → Type 0

@@ -7,32 +7,32 @@ use Rattle.proto_tree.specs.declared.tree.Import.{Import}
 use Rattle.proto_tree.specs.declared.piece.Statement.{Statement}
 use Rattle.proto_tree.specs.declared.piece.Statement.TheVariants as statement
 use Rattle.proto_tree.specs.Tree.{Tree}
-use Rattle.proto_meaning.specs.Faults.{file_of}
+use Rattle.proto_meaning.specs.Faults.{file_with_path}
 use Rattle.proto_meaning.specs.Names.{Workspace, meaning, reaches, same_name}
 use Rattle.proto_parts.specs.Parts.{statements}
 use Rattle.proto_rules.specs.declared.rule.Rule.TheVariants as rule
-use Rattle.proto_findings.specs.Placed.{Found, Named, found_by, unless}
-use Rattle.proto_findings.specs.Readings.{Reading, text}
+use Rattle.proto_findings.specs.Placed.{Found, NamedToken, found_by, unless}
+use Rattle.proto_findings.specs.Readings.{Reading, word_in}
 
 -- the import that a statement is
-abbrev pub statement_imports : Statement → List Import
-statement_imports (statement.Import i) = i ∷ []
-statement_imports _ = []
+abbrev pub statement_import : Statement → List Import
+statement_import (statement.Import i) = i ∷ []
+statement_import _ = []
 
 -- the import statements of a file
-abbrev pub imports_in : Tree → List Import
-imports_in tree = flat_map statement_imports (statements tree)
+abbrev pub import_statements_in : Tree → List Import
+import_statements_in tree = flat_map statement_import (statements tree)
 
 -- the path that an import names
-abbrev pub path_of : Reading → Import → Path
-path_of r i = or_nothing (value_of (text r i.path))
+abbrev pub import_path : Reading → Import → Path
+import_path r i = or_nothing (value_of (word_in r i.path))
 
 -- an import at its word `import`, with the path that it names, unless it passes
-abbrev pub import_unless : Reading → Bool → Import → List Named
-import_unless r passes i = unless passes i.keyword (path_of r i)
+abbrev pub import_unless : Reading → Bool → Import → List NamedToken
+import_unless r passes i = unless passes i.keyword (import_path r i)
 
 -- IMPORT_NO_PUBLIC: a public import
-abbrev pub import_no_public : Reading → Import → List Named
+abbrev pub import_no_public : Reading → Import → List NamedToken
 import_no_public r i = import_unless r (not (is_some i.public)) i
 
 -- ---- imports that are used
@@ -51,9 +51,9 @@ is_used w file (Some to) =
 
 -- IMPORT_USED: an import that is not public, where no reference of the file means a symbol of the
 -- imported file or of one that is reached from it (a public import is for others, and needs no use)
-abbrev pub import_used : Workspace → List Path → Reading → ℕ → Import → List Named
+abbrev pub import_used : Workspace → List Path → Reading → ℕ → Import → List NamedToken
 import_used w paths r file i =
-    import_unless r (is_some i.public || is_used w file (file_of paths (path_of r i))) i
+    import_unless r (is_some i.public || is_used w file (file_with_path paths (import_path r i))) i
 
 -- ---- what they find
 
@@ -66,4 +66,4 @@ import_finds rules w paths r file i =
 -- what the rules find at the imports of a file
 abbrev pub imports_finds : List Bool → Workspace → List Path → Reading → ℕ → Tree → List Found
 imports_finds rules w paths r file tree =
-    flat_map (import_finds rules w paths r file) (imports_in tree)
+    flat_map (import_finds rules w paths r file) (import_statements_in tree)

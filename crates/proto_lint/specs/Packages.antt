@@ -6,7 +6,7 @@ use Rattle.proto_faults.specs.Ascii as ascii
 use Rattle.proto_faults.specs.Texts.{Path, Text}
 use Rattle.proto_meaning.specs.Joined.{joined}
 use Rattle.proto_case.specs.Cases.{is_lower_snake}
-use Rattle.proto_case.specs.Versions.{is_version, is_empty}
+use Rattle.proto_case.specs.Versions.{is_version, is_empty_text}
 use Rattle.proto_rules.specs.declared.rule.Rule.{Rule}
 use Rattle.proto_rules.specs.declared.rule.Rule.TheVariants as rule
 use Rattle.proto_findings.specs.Placed.{Found, before_last, behind_last}
@@ -26,7 +26,7 @@ package_name h = joined h.words
 
 -- a file has a package
 abbrev pub has_package : Head → Bool
-has_package h = not (is_empty (package_name h))
+has_package h = not (is_empty_text (package_name h))
 
 -- the directory of a file: what stands before the last slash of its path, or nothing
 abbrev pub directory : Head → Text

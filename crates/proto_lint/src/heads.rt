@@ -162,7 +162,7 @@ fn joined_behind(alloc: Global, first: &str, rest: &[&str]) -> Result<String, No
 }
 
 /// Words joined by dots.
-fn joined(alloc: Global, words: &[&str]) -> Result<String, NoMemory>
+fn joined_words(alloc: Global, words: &[&str]) -> Result<String, NoMemory>
     ensures { IfOk result (λ s. string_bytes s ≡ joined (map (λ w. w.now) words.now)) }
 {
     match words {
@@ -196,7 +196,7 @@ impl<'a> FileHead<'a> {
         let words = texts(alloc, &Words::new(files, file), &spelled)?;
         Ok(FileHead {
             path: files.path(file),
-            name: joined(alloc, &words)?,
+            name: joined_words(alloc, &words)?,
             words,
             offset: first_offset(tokens, &spelled),
             has_syntax: syntax_text(tree).is_some(),

@@ -6,7 +6,7 @@ ghost use Rattle.proto_text.specs.Strings.{IsString};
 ghost use Rattle.proto_text.specs.Texts.{word_at};
 ghost use Rattle.proto_tree.specs.File.{item_tree, tree_of_file};
 ghost use Rattle.proto_files.specs.GivenFiles.{paths_of};
-ghost use Rattle.proto_meaning.specs.Faults.{file_of};
+ghost use Rattle.proto_meaning.specs.Faults.{file_with_path};
 ghost use Rattle.proto_meaning.specs.Grown.{at};
 ghost use Rattle.proto_listing.specs.FromTree.{imports_in as wanted_in};
 ghost use Rattle.proto_listing.specs.Listing.{wanted_of};
@@ -14,13 +14,13 @@ ghost use Rattle.proto_imports.specs.ImportSteps.{IsFileIndex};
 ghost use Rattle.proto_files.specs.FilesRead.{ReadOf, AreRead, Each, read_at};
 ghost use Rattle.proto_imports.specs.Links.{link_imports, names_of_files, text_of};
 ghost use Rattle.proto_names.specs.LinkOfFiles.{IsLinkOf};
-ghost use Rattle.proto_findings.specs.Readings.{read_of_file, reading_of, text};
+ghost use Rattle.proto_findings.specs.Readings.{read_of_file, reading_of, word_in};
 ghost use Rattle.proto_findings.specs.Placed.{found_by};
 ghost use Rattle.proto_rules.specs.Rules.{is_chosen};
 ghost use Rattle.proto_findings.specs.Views.{found_of};
 ghost use Rattle.proto_rules.specs.declared.rule.Rule.TheVariants as rule;
-ghost use Rattle.proto_lint.specs.Imports.{import_finds, import_no_public, import_used, imports_finds, imports_in};
-ghost use Rattle.proto_lint.specs.ImportTables.{AreImportsOf, LeadsToMarked, MarksUsed, public_target, public_targets};
+ghost use Rattle.proto_lint.specs.Imports.{import_finds, import_no_public, import_used, imports_finds, import_statements_in};
+ghost use Rattle.proto_lint.specs.ImportTables.{AreImportTablesOf, LeadsToMarked, MarksUsed, public_target, public_targets};
 
 use crate::linting::Linter;
 use crate::uses::{share_a_mark, used_files};
@@ -29,7 +29,7 @@ use proto_faults::NoMemory;
 use proto_files::{Files, Words, all_paths};
 use proto_findings::{Found, Reading, Rule, RuleSet, add_unless};
 use proto_imports::first_places::{first_places, place_of};
-use proto_imports::walk::reached;
+use proto_imports::walk::reached_files;
 use proto_listing::wanted;
 use proto_listing::wanted::Wanted;
 use proto_names::{Link, are_read};
@@ -141,7 +141,7 @@ fn all_public(
 impl Imports {
     /// The imports of the files. Only want of memory is refused.
     pub fn new(alloc: Global, files: &Files) -> Result<Imports, NoMemory>
-        ensures { IfOk result (AreImportsOf files.now) }
+        ensures { IfOk result (AreImportTablesOf files.now) }
     {
         // Each file has tokens and a tree.
         are_read(files);
@@ -162,15 +162,15 @@ impl Imports {
         path: &str,
         marks: &[bool],
     ) -> Result<bool, NoMemory>
-        requires imports { AreImportsOf files.now self.now }
+        requires imports { AreImportTablesOf files.now self.now }
         requires marks { length marks.now ≡ length files.now }
         ensures { IfOk result (λ leads. (reads : List ReadOf) → AreRead files.now reads
             → (leads ≡ true) ↔ LeadsToMarked (link_imports files.now reads)
-            (file_of (paths_of files.now) path.now) marks.now) }
+            (file_with_path (paths_of files.now) path.now) marks.now) }
     {
         match place_of(&self.files, path) {
             Some(file) => {
-                let seen = reached(alloc, &self.public, file)?;
+                let seen = reached_files(alloc, &self.public, file)?;
                 Ok(share_a_mark(&seen, marks))
             }
             None => Ok(false),
@@ -187,7 +187,7 @@ fn add_import_no_public(
     reading: &Reading,
     import: &Import,
 ) -> Result<(), NoMemory>
-    requires { IsString (text (reading_of reading.now) import.now.path) }
+    requires { IsString (word_in (reading_of reading.now) import.now.path) }
     ensures { OnOk result (map found_of found.new.items ≡ map found_of found.old.items
         ++ found_by rules.now.chosen (reading_of reading.now) rule.ImportNoPublic
         (import_no_public (reading_of reading.now) import.now)) }
@@ -216,8 +216,8 @@ fn add_import_used(
     marks: &[bool],
     import: &Import,
 ) -> Result<(), NoMemory>
-    requires string { IsString (text (reading_of reading.now) import.now.path) }
-    requires imports { AreImportsOf linter.now.files.now linter.now.imports }
+    requires string { IsString (word_in (reading_of reading.now) import.now.path) }
+    requires imports { AreImportTablesOf linter.now.files.now linter.now.imports }
     requires marks { is_chosen linter.now.rules.now.chosen rule.ImportUsed
         ≡ true → MarksUsed linter.now.files.now reading.now.file marks.now }
     ensures { OnOk result ((reads : List ReadOf) → AreRead linter.now.files.now reads
@@ -253,8 +253,8 @@ fn add_import(
     marks: &[bool],
     import: &Import,
 ) -> Result<(), NoMemory>
-    requires string { IsString (text (reading_of reading.now) import.now.path) }
-    requires imports { AreImportsOf linter.now.files.now linter.now.imports }
+    requires string { IsString (word_in (reading_of reading.now) import.now.path) }
+    requires imports { AreImportTablesOf linter.now.files.now linter.now.imports }
     requires marks { is_chosen linter.now.rules.now.chosen rule.ImportUsed
         ≡ true → MarksUsed linter.now.files.now reading.now.file marks.now }
     ensures { OnOk result ((reads : List ReadOf) → AreRead linter.now.files.now reads
@@ -268,7 +268,8 @@ fn add_import(
 }
 
 fn import(item: &Item) -> Option<&Import>
-    ensures { option_to_list (option_map (λ i. i.now) result) ≡ imports_in (item_tree item.now) }
+    ensures { option_to_list (option_map (λ i. i.now) result) ≡ import_statements_in
+        (item_tree item.now) }
 {
     match item {
         Item::Import(import) => Some(import),
@@ -280,7 +281,7 @@ fn import(item: &Item) -> Option<&Import>
 /// The import statements of a file.
 fn import_statements<'a>(alloc: Global, file: &'a File) -> Result<Vec<&'a Import>, NoMemory>
     ensures { IfOk result (λ imports. map (λ i. i.now) imports.items
-        ≡ imports_in (tree_of_file file.now)) }
+        ≡ import_statements_in (tree_of_file file.now)) }
 {
     let mut imports = Vec::new(alloc);
     for item in &file.items {
@@ -321,8 +322,8 @@ fn add_statements(
     statements: &[&Import],
 ) -> Result<(), NoMemory>
     requires strings { All
-        (λ i. IsString (text (reading_of reading.now) i.now.path)) statements.now }
-    requires imports { AreImportsOf linter.now.files.now linter.now.imports }
+        (λ i. IsString (word_in (reading_of reading.now) i.now.path)) statements.now }
+    requires imports { AreImportTablesOf linter.now.files.now linter.now.imports }
     requires marks { is_chosen linter.now.rules.now.chosen rule.ImportUsed
         ≡ true → MarksUsed linter.now.files.now reading.now.file marks.now }
     ensures { OnOk result ((reads : List ReadOf) → AreRead linter.now.files.now reads
@@ -348,7 +349,7 @@ pub fn add_imports(
     requires file { reading.now.file < length linter.now.files.now }
     requires reading { (reads : List ReadOf) → AreRead linter.now.files.now reads
         → reading_of reading.now ≡ read_of_file linter.now.files.now reads reading.now.file }
-    requires imports { AreImportsOf linter.now.files.now linter.now.imports }
+    requires imports { AreImportTablesOf linter.now.files.now linter.now.imports }
     requires link { IsLinkOf linter.now.files.now linter.now.link.now }
     ensures { OnOk result ((reads : List ReadOf) → AreRead linter.now.files.now reads
         → map found_of found.new.items ≡ map found_of found.old.items

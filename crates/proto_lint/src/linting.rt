@@ -14,7 +14,7 @@ use crate::packages::add_head;
 use proto_block_rules::{Messages, Walk, add_blocks, messages_of};
 use proto_faults::NoMemory;
 use proto_files::Files;
-use proto_findings::{Finding, Found, Reading, RuleSet, add_findings, listed};
+use proto_findings::{Finding, Found, Reading, RuleSet, add_findings, sorted_findings};
 use proto_names::{Link, are_read};
 use std::alloc::Global;
 
@@ -120,5 +120,5 @@ pub fn lint(
     let found = linter.findings(alloc);
     // Dropped before `?`, which would be one more exit that drops it.
     drop(linter);
-    Ok(listed(found?))
+    Ok(sorted_findings(found?))
 }

@@ -3,18 +3,18 @@
 ghost use Rattle.std.specs.Prelude.{◌≡◌, ◌↔◌, ◌&&◌, ℕ, ◌<◌, [], length, get_or, true, false, IfOk};
 ghost use Rattle.proto_imports.specs.Walks.{IsMarked};
 ghost use Rattle.proto_names.specs.LinkOfFiles.{IsLinkOf};
-ghost use Rattle.proto_names.specs.Linking.{file_at};
+ghost use Rattle.proto_names.specs.Linking.{declaring_file};
 ghost use Rattle.proto_lint.specs.ImportTables.{MarksMeant, MarksUsed, with_mark};
 
 use proto_faults::NoMemory;
 use proto_files::Files;
-use proto_imports::walk::unmarked;
+use proto_imports::walk::unset_marks;
 use proto_names::{Link, Meant};
 use std::alloc::Global;
 
 /// Marks the file that declares what a reference means, if one alone does.
 fn mark_meant(marks: &mut Vec<bool>, link: &Link, meant: Meant)
-    ensures { marks.new.items ≡ with_mark marks.old.items (file_at link.now meant.row) }
+    ensures { marks.new.items ≡ with_mark marks.old.items (declaring_file link.now meant.row) }
 {
     if let Some(file) = link.file_of(meant.symbol()) {
         let file = file as usize;
@@ -30,7 +30,7 @@ fn meant_files(alloc: Global, link: &Link, file: u32, count: usize) -> Result<Ve
     ensures marks { IfOk result (λ marks. MarksMeant link.now
         (get_or link.now.meant file []) count marks.items) }
 {
-    let mut marks = unmarked(alloc, count)?;
+    let mut marks = unset_marks(alloc, count)?;
     for meant in link.meant_in(file) {
         mark_meant(&mut marks, link, *meant);
     }

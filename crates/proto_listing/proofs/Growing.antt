@@ -2,7 +2,7 @@
 use Rattle.std.proofs.Common.{◌≡◌, ℕ, suc, ◌+◌, ◌<◌, ◌≤◌, List, [], ◌∷◌, ◌++◌, length, get_or, map, refl, sym, ◌∙◌, ap, subst, arith, append_assoc, length-append, inl, inr, drop, Option, Some, All, append-nil}
 use Rattle.proto_faults.proofs.Common.{cases_lt, map-append, length-map, get_or_append_left, at_drop_more, at_drop_all}
 use Rattle.std.proofs.Math.Seq.{get_or-append_seam}
-use Rattle.proto_tree.proofs.Common.{Tree, End, joined, trees}
+use Rattle.proto_tree.proofs.Common.{Tree, End, joined_trees, trees}
 use Rattle.proto_meaning.specs.declared.kind.Kind.{Kind}
 use Rattle.proto_listing.specs.Common.{used_as, Above, Outermost, Below, Listed, Listing, whole, path_of, path_at, seen, read_on, read, needs, used_by, uses_in, Adds, later, last_token}
 use Rattle.proto_meaning.proofs.Common.{Source, Token, EntryOf, Given, Used, Placed, place, token_of}
@@ -216,8 +216,8 @@ adds_use {old = old} {new = new} u d e l =
 pub record IsParted (p : List (Source ℕ) → Tree → List Placed) (u : List (Source ℕ) → Tree → List (Used ℕ)) : Type 0 where
   pub no_placed : (path : List (Source ℕ)) → p path End ≡ []
   pub no_used : (path : List (Source ℕ)) → u path End ≡ []
-  pub placed : (path : List (Source ℕ)) (s t : Tree) → p path (joined s t) ≡ p path s ++ p path t
-  pub used : (path : List (Source ℕ)) (s t : Tree) → u path (joined s t) ≡ u path s ++ u path t
+  pub placed : (path : List (Source ℕ)) (s t : Tree) → p path (joined_trees s t) ≡ p path s ++ p path t
+  pub used : (path : List (Source ℕ)) (s t : Tree) → u path (joined_trees s t) ≡ u path s ++ u path t
 
 -- a turn of a loop over items
 pub adds_turn : {A : Type 0} (view : A → Tree) (p : List (Source ℕ) → Tree → List Placed) (u : List (Source ℕ) → Tree → List (Used ℕ)) {old mid new : Listing} {above : Above}
@@ -229,8 +229,8 @@ pub adds_turn : {A : Type 0} (view : A → Tree) (p : List (Source ℕ) → Tree
 adds_turn view p u parts items i x l e a b n =
     let next = trees view (drop (i + 1) items) in
     adds_as (adds_then a b n)
-    (λ path. sym (at_drop_more (λ xs. p path (trees view xs)) items i x l ∙ ap (λ y. p path (joined (view y) next)) (sym e) ∙ parts.placed path (view x) next))
-    (λ path. sym (at_drop_more (λ xs. u path (trees view xs)) items i x l ∙ ap (λ y. u path (joined (view y) next)) (sym e) ∙ parts.used path (view x) next))
+    (λ path. sym (at_drop_more (λ xs. p path (trees view xs)) items i x l ∙ ap (λ y. p path (joined_trees (view y) next)) (sym e) ∙ parts.placed path (view x) next))
+    (λ path. sym (at_drop_more (λ xs. u path (trees view xs)) items i x l ∙ ap (λ y. u path (joined_trees (view y) next)) (sym e) ∙ parts.used path (view x) next))
 
 -- nothing is left
 pub adds_end : {A : Type 0} (view : A → Tree) (p : List (Source ℕ) → Tree → List Placed) (u : List (Source ℕ) → Tree → List (Used ℕ))

@@ -6,7 +6,7 @@ use Rattle.proto_tree.specs.declared.tree.MethodEnd.{MethodEnd}
 use Rattle.proto_tree.specs.declared.tree.MethodEnd.TheVariants as method_end
 use Rattle.proto_tree.specs.declared.piece.Statement.{Statement}
 use Rattle.proto_tree.specs.declared.piece.Header.{Header}
-use Rattle.proto_tree.proofs.Common.{Tree, joined, method_by}
+use Rattle.proto_tree.proofs.Common.{Tree, joined_trees, method_by}
 use Rattle.proto_meaning.specs.declared.kind.Kind.{Kind}
 use Rattle.proto_meaning.specs.declared.kind.Kind.TheVariants.{Field, Value, Method, Extension}
 use Rattle.proto_meaning.proofs.Common.{Source, Token, Used, Placed, place, all_placed, package_of, prefixes}
@@ -19,7 +19,7 @@ abbrev names_placed : Kind → (Statement → List ℕ) → (Header → List ℕ
 names_placed kind of_leaf of_block path t = map (λ i. place path (Token i) kind) (picked of_leaf of_block t)
 
 names_joined : (kind : Kind) (of_leaf : Statement → List ℕ) (of_block : Header → List ℕ) (path : List (Source ℕ)) (s t : Tree)
-    → names_placed kind of_leaf of_block path (joined s t) ≡ names_placed kind of_leaf of_block path s ++ names_placed kind of_leaf of_block path t
+    → names_placed kind of_leaf of_block path (joined_trees s t) ≡ names_placed kind of_leaf of_block path s ++ names_placed kind of_leaf of_block path t
 names_joined kind p g path s t = ap (map (λ i. place path (Token i) kind)) (picked_joined p g s t) ∙ map-append (λ i. place path (Token i) kind) (picked p g s) (picked p g t)
 
 abbrev pub fields_placed : List (Source ℕ) → Tree → List Placed

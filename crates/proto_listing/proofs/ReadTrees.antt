@@ -6,7 +6,7 @@ use Rattle.proto_text.specs.declared.kind.PieceKind.TheVariants.{Solid}
 use Rattle.proto_text.specs.declared.kind.TokenKind.{TokenKind}
 use Rattle.proto_text.specs.declared.kind.TokenKind.TheVariants.{Word, Number, Text, Punctuation}
 use Rattle.proto_text.specs.declared.lexer.Token.{Token}
-use Rattle.proto_text.proofs.Common.{Each, class_of, extends_word, is_identifier, IsRun, IsLexeme, IsString, word_at, words, Lexeme, lexeme_at, tokens_are_lexemes}
+use Rattle.proto_text.proofs.Common.{EachByte, class_of, extends_word, is_identifier, IsRun, IsLexeme, IsString, word_at, words, Lexeme, lexeme_at, tokens_are_lexemes}
 use Rattle.proto_tree.specs.declared.class.Class.{Class}
 use Rattle.proto_tree.specs.declared.class.Class.TheVariants as class
 use Rattle.proto_tree.specs.declared.class.Want.{Want}
@@ -33,7 +33,7 @@ no_point b h = elim (cases_Bool (b == 46)) [
   | inl t ↦ absurd (differ (sym (ap is_identifier (eqb-true b 46 t)) ∙ h))
 ]
 
-none_pointed : (bytes : List ℕ) → Each is_identifier bytes → list_any (λ b. b == 46) bytes ≡ false
+none_pointed : (bytes : List ℕ) → EachByte is_identifier bytes → list_any (λ b. b == 46) bytes ≡ false
 none_pointed [] h = refl
 none_pointed (b ∷ bytes) h = ap (λ (t : Bool). t || list_any (λ b. b == 46) bytes) (no_point b h.0) ∙ none_pointed bytes h.1
 

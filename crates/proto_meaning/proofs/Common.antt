@@ -13,15 +13,15 @@ pub use Rattle.proto_meaning.proofs.Renamed.{each_means, has_meaning, meant}
 pub use Rattle.proto_meaning.proofs.RisingLists.{Rising, Spreads, pairs_append, rising_each, rising_pairs, rising_spreads}
 pub use Rattle.proto_meaning.proofs.Seeing.{reaches_all, reaches_only, sees_is}
 pub use Rattle.proto_meaning.proofs.Sound.{linked_from, names_sound, package_from, package_or, references_sound}
-pub use Rattle.proto_meaning.proofs.Symbols.{below_split, front_of, moved, one_symbol, package_stays, ren_apart, shown, split_last, stays, type_not_leaf}
+pub use Rattle.proto_meaning.proofs.Symbols.{below_split, front_or_same, moves_to, one_symbol, package_stays, ren_apart, shown, split_last, stays, type_not_leaf}
 pub use Rattle.proto_meaning.specs.Cycles.{IsAcyclic, Leads, onward, stop}
 pub use Rattle.proto_meaning.specs.Edits.{Collides, IsAddition, IsCaptured, IsNeeded, IsOvertaken, Renaming, import_of, in_domain, is_below, is_captured, moves, moves_by, ren, renamed, rewritten, shows_mapped, target, turn_below, turned, turned_by, with_imports}
-pub use Rattle.proto_meaning.specs.Faults.{AfterEarlier, Asked, Fault, ImportFault, IsBefore, IsLeast, NameFault, ReferenceFault, cycle, double, earlier, fault, file_of, import_at, imports_of, of_entry, of_package, place_from, place_of, unknown, unresolved, wrong_kind}
+pub use Rattle.proto_meaning.specs.Faults.{AfterEarlier, AskedImport, Fault, ImportFault, FaultIsBefore, IsLeast, NameFault, ReferenceFault, cycle, double, earlier, fault, file_with_path, import_from_asked, imports_of, of_entry, of_package, place_from, place_of, unknown, unresolved, wrong_kind}
 pub use Rattle.proto_meaning.specs.Forest.{IsForest, front, under}
 pub use Rattle.proto_meaning.specs.Grown.{At, FileNames, IsGrown, all_declared, all_used, at, declared_of, file_declared, file_used, skeleton_of_files, used_in}
 pub use Rattle.proto_meaning.specs.Joined.{ArePlain, IsPlain, below, joined}
-pub use Rattle.proto_meaning.specs.Linked.{AreApart, AreFiles, EntryFits, IsLinked, IsNested, IsRenaming, is_leaf, is_package}
+pub use Rattle.proto_meaning.specs.Linked.{AreApart, ImportsAreOfFiles, EntryFits, IsLinked, IsNested, IsRenaming, is_leaf, is_package}
 pub use Rattle.proto_meaning.specs.Marks.{MarksSeen}
-pub use Rattle.proto_meaning.specs.Names.{Import, Reaches, Reference, Sees, Symbol, Workspace, along, by_import, fits, front_at, greatest, here, hit, hits_at, is_outer, is_type, itself, meaning, meaning_at, reaches, same_name, sees, shows, typed}
+pub use Rattle.proto_meaning.specs.Names.{Import, Reaches, Reference, Sees, Symbol, Workspace, along, by_import, fits_at_first, front_at, greatest, here, hit, hits_at, is_outer, is_type, itself, meaning, meaning_at, reaches, same_name, sees, shows, typed}
 pub use Rattle.proto_meaning.specs.Skeleton.{Declared, EntryOf, Given, IsAim, IsAimEntry, IsRespelled, IsWoven, Skeleton, Source, Token, Used, name_of, reference_of, renaming_of, shifted_declared, shifted_source, shifted_used, spell, symbol_of, workspace_of}
 pub use Rattle.proto_meaning.specs.Tree.{AllSpan, Items, ItemsSpan, Member, Members, Placed, Rises, Spans, all_placed, beside, enum, extend, field, file_placed, item, items_placed, key_word, map_field, member, message, no_items, no_members, oneof, package_of, packaged, place, placed, prefixes, service, token_of, value_word}

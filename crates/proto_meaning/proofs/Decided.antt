@@ -1,7 +1,7 @@
 -- The tests of a collision and a capture, and that a collision is a fault of the edited names.
 use Rattle.std.proofs.Common.{◌≡◌, ◌↔◌, ℕ, zero, suc, ◌<◌, ◌≤◌, Bool, true, ◌&&◌, not, ◌++◌, length, get_or, take, map, Option, Some, None, refl, sym, ◌∙◌, ap, subst, inl, inr, arith, nat_lt, AllPairs, true≢false, ltb-true, lt-ltb}
 use Rattle.proto_faults.proofs.Common.{list_any, cases_eq, cases_order, both_ways, and_parts, and_from, or_cases, or_left, or_right, not-true, not_from_false, get_or-map, length-map, get_or_default, any_from, any_to}
-use Rattle.proto_meaning.specs.Common.{Package, Symbol, Reference, Workspace, same_name, fits, hit, Renaming, ren, turned, moves, in_domain, rewritten, Collides, collides, collides_with, IsCaptured, is_captured, captured_from, any_above, shows_mapped, renamed, renamed_symbol, AreApart, IsLinked, IsRenaming}
+use Rattle.proto_meaning.specs.Common.{Package, Symbol, Reference, Workspace, same_name, fits_at_first, hit, Renaming, ren, turned, moves, in_domain, rewritten, Collides, collides, collides_with, IsCaptured, is_captured, captured_from, any_above, shows_mapped, renamed, renamed_symbol, AreApart, IsLinked, IsRenaming}
 use Rattle.proto_meaning.proofs.Basics.{name_from_same, same_from_name}
 use Rattle.proto_meaning.proofs.Symbols.{package_out, stays}
 use Rattle.proto_meaning.proofs.Ren.{turn_below_outside}
@@ -24,16 +24,16 @@ pub captured_is : (e : Renaming) (w : Workspace) (r : Reference) → (is_capture
 captured_is e w r = (there (hit w r) refl, back)
   where
     test : ℕ → ℕ → Bool
-    test k j = shows_mapped e w r.file (fits r.words) (ren e (take j r.scope) ++ take 1 (rewritten e (take k r.scope) r.words))
+    test k j = shows_mapped e w r.file (fits_at_first r.words) (ren e (take j r.scope) ++ take 1 (rewritten e (take k r.scope) r.words))
 
     there : (o : Option ℕ) → hit w r ≡ o → captured_from e w r (hit w r) ≡ true → IsCaptured e w r
     there None h q = absurd (true≢false (sym q ∙ ap (captured_from e w r) h))
     there (Some k) h q =
-        let a = any_above_to (λ j. shows_mapped e w r.file (fits r.words) (ren e (take j r.scope) ++ take 1 (rewritten e (take k r.scope) r.words))) k (length r.scope) (ap (captured_from e w r) (sym h) ∙ q) in
+        let a = any_above_to (λ j. shows_mapped e w r.file (fits_at_first r.words) (ren e (take j r.scope) ++ take 1 (rewritten e (take k r.scope) r.words))) k (length r.scope) (ap (captured_from e w r) (sym h) ∙ q) in
         (k, a.0, h, a.1, a.2, a.3)
 
     back : IsCaptured e w r → captured_from e w r (hit w r) ≡ true
-    back c = ap (captured_from e w r) c.2 ∙ any_above_from (λ j. shows_mapped e w r.file (fits r.words) (ren e (take j r.scope) ++ take 1 (rewritten e (take c.0 r.scope) r.words))) c.0 (length r.scope) c.1 c.3 c.4 c.5
+    back c = ap (captured_from e w r) c.2 ∙ any_above_from (λ j. shows_mapped e w r.file (fits_at_first r.words) (ren e (take j r.scope) ++ take 1 (rewritten e (take c.0 r.scope) r.words))) c.0 (length r.scope) c.1 c.3 c.4 c.5
 
 pub collides_is : (e : Renaming) (w : Workspace) → (collides e w ≡ true) ↔ Collides e w
 collides_is e w = (there, back)

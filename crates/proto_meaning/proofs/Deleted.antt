@@ -1,10 +1,10 @@
 -- A field less: nothing that is meant, or stands before it, goes.
 use Rattle.std.proofs.Common.{◌≡◌, ◌≢◌, ℕ, zero, suc, ◌<◌, Bool, true, false, ◌&&◌, not, cond, List, [], ◌∷◌, ◌++◌, length, get_or, take, Some, sym, ◌∙◌, ap, subst, inl, inr, ◌⊎◌, arith, append_assoc, length-append, Contains, AllPairs, filter, bytes_eq, true≢false, append-nil}
 use Rattle.proto_faults.proofs.Common.{false_from_ne_true, both_ways, and_parts, and_from, not_from_false, not-true, none-some, Contains-get_or, any_from, contains_filter, from_filter}
-use Rattle.proto_meaning.specs.Common.{Kind, Package, Entry, Field, Symbol, Reference, Workspace, same_name, is_type, fits, sees, shows, hits_at, meaning, meaning_at, Renaming, moves, is_below, in_domain, deleted, is_leaf, AreApart, IsLinked, EntryStands, IsDeletion}
+use Rattle.proto_meaning.specs.Common.{Kind, Package, Entry, Field, Symbol, Reference, Workspace, same_name, is_type, fits_at_first, sees, shows, hits_at, meaning, meaning_at, Renaming, moves, is_below, in_domain, deleted, is_leaf, AreApart, IsLinked, EntryStands, IsDeletion}
 use Rattle.proto_meaning.proofs.Basics.{same_from_name}
 use Rattle.proto_meaning.proofs.Rename.{hit_relative, typed_is, first_and_rest}
-use Rattle.proto_meaning.proofs.Symbols.{type_not_leaf, one_symbol, shown, front_of, below_split, moved}
+use Rattle.proto_meaning.proofs.Symbols.{type_not_leaf, one_symbol, shown, front_or_same, below_split, moves_to}
 use Rattle.proto_meaning.proofs.Renamed.{has_meaning, meant}
 use Rattle.proto_meaning.proofs.Imports.{kept_means}
 
@@ -50,7 +50,7 @@ stays_there e w ok del t ct ty ne a b h = false_from_ne_true (in_domain e a) (λ
     let front = e.parent ++ v ∷ [] in
     let long : 0 < length front = omega (arith, length-append e.parent (v ∷ [])) in
     let name : t.name ≡ front ++ (d.1 ++ b) = sym h ∙ ap (λ x. x ++ b) (d.2 ∙ sym (append_assoc e.parent (v ∷ []) d.1)) ∙ append_assoc front d.1 b in
-    elim (moved e v d.3) [
+    elim (moves_to e v d.3) [
       | inl x ↦ go del.target_is.0 del.target_is.1 (del.target_is.2 ∙ ap (λ z. e.parent ++ z ∷ []) (sym x.0)) (inl del.target_is.3) (d.1 ++ b) long name
       | inr x ↦ let s = subst (EntryStands w e) x.1 del.entry_is in go s.0 s.1 (s.2 ∙ ap (λ z. e.parent ++ z ∷ []) (sym x.2)) (inr s.3) (d.1 ++ b) long name
     ])
@@ -68,7 +68,7 @@ stays_there e w ok del t ct ty ne a b h = false_from_ne_true (in_domain e a) (λ
         differ2 h = cc
 
     go : {front : List (List ℕ)} (s : Symbol) → Contains w.symbols s → s.name ≡ front → (s.kind ≡ Field) ⊎ (s.kind ≡ Entry) → (rest : List (List ℕ)) → 0 < length front → t.name ≡ front ++ rest → ⊥
-    go {front} s cs n k rest long name = elim (front_of w.symbols ok.nested front rest t ct name long) [
+    go {front} s cs n k rest long name = elim (front_or_same w.symbols ok.nested front rest t ct name long) [
       | inl none ↦ elim (one_symbol w.symbols ok.unique s t cs ct (n ∙ sym (name ∙ ap (λ x. front ++ x) none ∙ append-nil front))) [
         | inl same ↦ elim k [ inl z ↦ field_type t.kind ty (sym (ap (λ y. y.kind) same) ∙ z) | inr z ↦ ne (sym (ap (λ y. y.kind) same) ∙ z) ]
         | inr both ↦ not_package s.kind k both.0
@@ -103,10 +103,10 @@ deleted_means e w ok del refs r cr m h =
     let y = typed_is w r.file (take k r.scope ++ r.words) m (ap (meaning_at w r) (sym q) ∙ h) in
     let first = first_and_rest r.words in
     let whole : (take k r.scope ++ take 1 r.words) ++ first.0 ≡ t.0.name = append_assoc (take k r.scope) (take 1 r.words) first.0 ∙ ap (λ l. take k r.scope ++ l) first.1 ∙ y.1 ∙ sym t.2 in
-    shows_still e w refs r.file (fits r.words) (take k r.scope ++ take 1 r.words) (stays_there e w ok del t.0 t.1 t.3 ne (take k r.scope ++ take 1 r.words) first.0 whole) a.1.passes))
+    shows_still e w refs r.file (fits_at_first r.words) (take k r.scope ++ take 1 r.words) (stays_there e w ok del t.0 t.1 t.3 ne (take k r.scope ++ take 1 r.words) first.0 whole) a.1.passes))
     (λ k j q above below z.
     (let a = hit_relative w r k q in
-    both_ways (hits_at w r j) (a.1.last j above below) (shows_less e w refs r.file (fits r.words) (take j r.scope ++ take 1 r.words) z)))
+    both_ways (hits_at w r j) (a.1.last j above below) (shows_less e w refs r.file (fits_at_first r.words) (take j r.scope ++ take 1 r.words) z)))
 
 pub deleted_linked : (e : Renaming) (w : Workspace) → IsLinked w → IsDeletion e w → (refs : List Reference) → ((r : Reference) → Contains refs r → Contains w.references r) → IsLinked (deleted e w refs)
 deleted_linked e w ok del refs sub = record {

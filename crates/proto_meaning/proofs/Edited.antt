@@ -1,10 +1,10 @@
 -- The edited text spells the renamed workspace (for the crates above).
 use Rattle.std.proofs.Common.{◌≡◌, ◌≢◌, ◌↔◌, ℕ, zero, suc, ◌<◌, Bool, true, false, cond, List, [], ◌∷◌, ◌++◌, length, get_or, Option, Some, None, refl, sym, ◌∙◌, ap, subst, inl, inr, ◌⊎◌, arith, map, if◌then◌else◌, length-append, Contains, bytes_eq}
 use Rattle.proto_faults.proofs.Common.{cases_Bool, cases_order, cond-true, cond-false, false_from_ne_true, get_or-map, length-map, get_or_default, same_from_word, word_from_same, contains_head, contains_later, contains_map}
-use Rattle.proto_meaning.specs.Common.{Package, Entry, Reference, Workspace, same_name, meaning, Renaming, turned, turned_by, moves, ren, renamed, renamed_symbol, renamed_reference, IsLinked, EntryFits, IsRenaming, IsFree, Source, Token, EntryOf, Given, Declared, Used, Skeleton, spell, name_of, symbol_of, reference_of, workspace_of, IsWoven, IsAim, IsAimEntry, renaming_of, IsRespelled, Means}
+use Rattle.proto_meaning.specs.Common.{Package, Entry, Reference, Workspace, same_name, meaning, Renaming, turned, turned_by, moves, ren, renamed, renamed_symbol, renamed_reference, IsLinked, EntryFits, IsRenaming, IsFree, Source, Token, EntryOf, Given, Declared, Used, Skeleton, spell, name_of, symbol_of, reference_of, workspace_of, IsWoven, IsAim, IsAimEntry, renaming_of, IsRespelled, MeansDeclaration}
 use Rattle.proto_meaning.proofs.Basics.{name_from_same, same_from_name}
 use Rattle.proto_meaning.proofs.Ren.{turn_below-more, turn_below-nil}
-use Rattle.proto_meaning.proofs.Symbols.{moved, stays, ren_apart}
+use Rattle.proto_meaning.proofs.Symbols.{moves_to, stays, ren_apart}
 use Rattle.proto_meaning.proofs.Renamed.{renamed_linked, each_means, has_meaning, meant}
 
 pub map_agree : {X Y : Type 0} (f g : X → Y) (xs : List X) → ((x : X) → Contains xs x → f x ≡ g x) → map f xs ≡ map g xs
@@ -111,7 +111,7 @@ module _ {X : Type 0} (text text_after : X → List ℕ) (entry : List ℕ → L
     | inl at ↦
         let same = name_from_same (name_of text entry a) e.parent at in
         cond-true (same_name (name_of text entry a) e.parent) (turned e (spell text entry x)) (spell text entry x) at
-        ∙ stays e (spell text entry x) (false_from_ne_true (moves e (spell text entry x)) (λ m. elim (moved e (spell text entry x) m) [
+        ∙ stays e (spell text entry x) (false_from_ne_true (moves e (spell text entry x)) (λ m. elim (moves_to e (spell text entry x) m) [
           | inl q ↦ not_aim s cs a x path nt same q.0
           | inr q ↦ not_entry is_map has q.0 q.1 s cs a x path ne same q.2
         ]))
@@ -230,7 +230,7 @@ module _ {X : Type 0} (text text_after : X → List ℕ) (entry : List ℕ → L
   linked_after free = subst IsLinked (sym workspace_after) (renamed_linked e (workspace_of text entry k) ok aim_renaming free)
 
   -- A reference means a declaration after the edit exactly where it did before.
-  pub means_same : IsFree e (workspace_of text entry k) → (u : Used X) (d : Declared X) → Contains k.used u → Contains k.declared d → Means text entry k u d ↔ Means text_after entry k u d
+  pub means_same : IsFree e (workspace_of text entry k) → (u : Used X) (d : Declared X) → Contains k.used u → Contains k.declared d → MeansDeclaration text entry k u d ↔ MeansDeclaration text_after entry k u d
   means_same free u d cu cd = (there, again)
     where
       w : Workspace
@@ -248,10 +248,10 @@ module _ {X : Type 0} (text text_after : X → List ℕ) (entry : List ℕ → L
           ∙ ap (meaning (renamed e (workspace_of text entry k))) (reference_after u cu)
           ∙ each_means e (workspace_of text entry k) ok aim_renaming free (reference_of text entry u) cr m h
 
-      there : Means text entry k u d → Means text_after entry k u d
+      there : MeansDeclaration text entry k u d → MeansDeclaration text_after entry k u d
       there h = new (name_of text entry d.path) h ∙ ap Some (sym (name_after d cd))
 
-      again : Means text_after entry k u d → Means text entry k u d
+      again : MeansDeclaration text_after entry k u d → MeansDeclaration text entry k u d
       again h =
           let m = has_meaning (meaning (workspace_of text entry k) (reference_of text entry u)) (ok.resolved (reference_of text entry u) cr) in
           let t = meant (workspace_of text entry k) (reference_of text entry u) m.0 m.1 in

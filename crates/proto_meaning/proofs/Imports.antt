@@ -1,7 +1,7 @@
 -- An import more, an import less.
 use Rattle.std.proofs.Common.{◌⊎◌, ◌≡◌, ◌≢◌, ℕ, zero, suc, ◌<◌, ◌≤◌, Bool, true, ◌&&◌, List, [], ◌∷◌, ◌++◌, length, take, Option, Some, None, refl, sym, ◌∙◌, ap, subst, inl, inr, arith, append_assoc, length-append, ◌==◌, Contains, true≢false, eqb-true, length-take-le}
 use Rattle.proto_faults.proofs.Common.{list_any, cases_Bool, cond-true, cond-false, false_from_ne_true, both_ways, and_parts, and_from, or_cases, or_left, or_right, true_from_ne_false, none-some, same_Some, any_from, any_to}
-use Rattle.proto_meaning.specs.Common.{Kind, Symbol, Import, Reference, Workspace, same_name, is_type, is_outer, fits, reaches, sees, shows, greatest, hit, hits_at, meaning, meaning_at, typed, with_imports, import_of, IsAddition, IsOvertaken, IsNeeded, IsNested, IsLinked}
+use Rattle.proto_meaning.specs.Common.{Kind, Symbol, Import, Reference, Workspace, same_name, is_type, is_outer, fits_at_first, reaches, sees, shows, greatest, hit, hits_at, meaning, meaning_at, typed, with_imports, import_of, IsAddition, IsOvertaken, IsNeeded, IsNested, IsLinked}
 use Rattle.proto_meaning.proofs.Basics.{same_from_name, IsGreatest, greatest_is, greatest_above}
 use Rattle.proto_meaning.proofs.Rename.{hit_relative, hit_from, typed_is, typed_from}
 use Rattle.proto_meaning.proofs.Symbols.{one_symbol, shown, fronts}
@@ -77,7 +77,7 @@ grown_means w v same r more m h free = go (hit w r) refl
         let t = typed_is w r.file (take k r.scope ++ r.words) m (ap (meaning_at w r) (sym e) ∙ h) in
         let g : IsGreatest (hits_at v r) (length r.scope) k = record {
           within = a.1.within;
-          passes = shows_more w v same r.file more (fits r.words) (take k r.scope ++ take 1 r.words) a.1.passes;
+          passes = shows_more w v same r.file more (fits_at_first r.words) (take k r.scope ++ take 1 r.words) a.1.passes;
           last = λ j above below. false_from_ne_true (hits_at v r j) (λ q. free (k, j, e, above, below, q));
         } in
         ap (meaning_at v r) (hit_from v r k a.0 g) ∙ typed_from v r.file (take k r.scope ++ r.words) (shows_more w v same r.file more is_type (take k r.scope ++ r.words) t.0) ∙ ap Some t.1
@@ -105,7 +105,7 @@ overtaken_differs w v r m h c new =
 pub added_elsewhere : (w : Workspace) (b : List Import) (file path : ℕ) → IsAddition w b file path → (r : Reference) → r.file ≢ file → IsOvertaken w (with_imports w b) r → ⊥
 added_elsewhere w b file path add r ne c =
     let a = hit_relative w r c.0 c.2 in
-    both_ways (hits_at w r c.1) (a.1.last c.1 c.3 c.4) (shows_more (with_imports w b) w refl r.file (λ g. sees_same w b file path add.only r.file g ne) (fits r.words) (take c.1 r.scope ++ take 1 r.words) c.5)
+    both_ways (hits_at w r c.1) (a.1.last c.1 c.3 c.4) (shows_more (with_imports w b) w refl r.file (λ g. sees_same w b file path add.only r.file g ne) (fits_at_first r.words) (take c.1 r.scope ++ take 1 r.words) c.5)
 
 pub added_means : (w : Workspace) (b : List Import) (file path : ℕ) → IsAddition w b file path → (r : Reference) → (r.file ≡ file → IsOvertaken w (with_imports w b) r → ⊥) → (m : List (List ℕ)) → meaning w r ≡ Some m → meaning (with_imports w b) r ≡ Some m
 added_means w b file path add r free m h =
@@ -137,7 +137,7 @@ kept_means w v r m h seen again free = go (hit w r) refl
         ap (meaning_at v r) (hit_from v r k a.0 g) ∙ ap (typed v r.file) t.1 ∙ typed_from v r.file m seen
 
 -- what holds a seen type is seen
-front_shown : (v : Workspace) → IsNested v.symbols → (f : ℕ) (front words : List (List ℕ)) (t : Symbol) → Contains v.symbols t → t.name ≡ front ++ words → is_type t.kind ≡ true → sees v f t.file ≡ true → 0 < length words → shows v f (fits words) (front ++ take 1 words) ≡ true
+front_shown : (v : Workspace) → IsNested v.symbols → (f : ℕ) (front words : List (List ℕ)) (t : Symbol) → Contains v.symbols t → t.name ≡ front ++ words → is_type t.kind ≡ true → sees v f t.file ≡ true → 0 < length words → shows v f (fits_at_first words) (front ++ take 1 words) ≡ true
 front_shown v nested f front [] t c n ty se l = absurd (omega (arith, l))
 front_shown v nested f front (p ∷ []) t c n ty se l =
     any_from (λ s. same_name s.name (front ++ p ∷ []) && (is_type s.kind && sees v f s.file)) v.symbols t c (and_from _ _ (same_from_name t.name (front ++ p ∷ []) n) (and_from _ _ ty se))
@@ -147,9 +147,9 @@ front_shown v nested f front (p ∷ q ∷ rest) t c n ty se l =
 
 -- a hit has a word
 pub hit_word : (w : Workspace) (r : Reference) (k : ℕ) → hits_at w r k ≡ true → 0 < length r.words
-hit_word w r k h = let s = shown w r.file (fits r.words) (take k r.scope ++ take 1 r.words) h in go r.words s.0.kind s.3
+hit_word w r k h = let s = shown w r.file (fits_at_first r.words) (take k r.scope ++ take 1 r.words) h in go r.words s.0.kind s.3
   where
-    go : (words : List (List ℕ)) (x : Kind) → fits words x ≡ true → 0 < length words
+    go : (words : List (List ℕ)) (x : Kind) → fits_at_first words x ≡ true → 0 < length words
     go [] x q = absurd (true≢false (sym q))
     go (p ∷ words) x q = omega arith
 
@@ -167,7 +167,7 @@ shrunk_means w ok b sub r free m h =
     (λ k j e above below q.
     (let a = hit_relative w r k e in
     both_ways (hits_at w r j) (a.1.last j above below)
-    (shows_more (with_imports w b) w refl r.file (λ g. sees_more (with_imports w b) w.imports sub r.file g) (fits r.words) (take j r.scope ++ take 1 r.words) q)))
+    (shows_more (with_imports w b) w refl r.file (λ g. sees_more (with_imports w b) w.imports sub r.file g) (fits_at_first r.words) (take j r.scope ++ take 1 r.words) q)))
 
 -- What is needed loses its meaning.
 pub needed_differs : (w : Workspace) → IsLinked w → (b : List Import) → (r : Reference) (m : List (List ℕ)) → meaning w r ≡ Some m → IsNeeded w (with_imports w b) r → meaning (with_imports w b) r ≢ Some m

@@ -1,7 +1,7 @@
 -- A rename: the rewritten reference means the mapped name, exactly where it isn't captured (for the crates above).
 use Rattle.std.proofs.Common.{◌≡◌, ℕ, suc, ◌≤◌, Bool, true, false, ◌&&◌, List, [], ◌∷◌, ◌++◌, length, take, Option, Some, None, refl, sym, ◌∙◌, ap, subst, inl, inr, arith, append_assoc, length-append, length-take-le}
 use Rattle.proto_faults.proofs.Common.{cases_Bool, cond-true, cond-false, false_from_ne_true, and_parts, and_from, none-some, cond_some, any_from, any_to, any_map}
-use Rattle.proto_meaning.specs.Common.{Kind, Reference, Workspace, same_name, is_type, fits, shows, sees, greatest, hit, hits_at, meaning, meaning_at, typed, Renaming, turned, ren, rewritten, IsClear, renamed_symbol, renamed_at, renamed_reference, renamed, shows_mapped, IsCaptured}
+use Rattle.proto_meaning.specs.Common.{Kind, Reference, Workspace, same_name, is_type, fits_at_first, shows, sees, greatest, hit, hits_at, meaning, meaning_at, typed, Renaming, turned, ren, rewritten, IsClear, renamed_symbol, renamed_at, renamed_reference, renamed, shows_mapped, IsCaptured}
 use Rattle.proto_meaning.proofs.Basics.{name_from_same, same_from_name, IsGreatest, greatest_is, greatest_from, greatest_above}
 use Rattle.proto_meaning.proofs.Ren.{turn_below-take, turn_below-length, turn_below-nil, ren-rewritten}
 
@@ -19,7 +19,7 @@ shows_new e w f good x h =
     shows_renamed e w f good (ren e x)
     ∙ any_from (λ s. same_name (ren e s.name) (ren e x) && (good s.kind && sees w f s.file)) w.symbols s a.1 (and_from _ _ (same_from_name (ren e s.name) (ren e x) n) p.1)
 
-pub fits-rewritten : (e : Renaming) (front words : List (List ℕ)) → fits (rewritten e front words) ≡ fits words
+pub fits-rewritten : (e : Renaming) (front words : List (List ℕ)) → fits_at_first (rewritten e front words) ≡ fits_at_first words
 fits-rewritten e front [] = refl
 fits-rewritten e front (p ∷ []) = refl
 fits-rewritten e front (p ∷ q ∷ rest) = refl
@@ -37,11 +37,11 @@ first_and_rest [] = ([], refl)
 first_and_rest (p ∷ rest) = (rest, refl)
 
 -- the test for a hit of the rewritten reference
-pub hits_renamed : (e : Renaming) (w : Workspace) (r : Reference) (k j : ℕ) → hits_at (renamed e w) (renamed_at e r (Some k)) j ≡ shows_mapped e w r.file (fits r.words) (ren e (take j r.scope) ++ take 1 (rewritten e (take k r.scope) r.words))
+pub hits_renamed : (e : Renaming) (w : Workspace) (r : Reference) (k j : ℕ) → hits_at (renamed e w) (renamed_at e r (Some k)) j ≡ shows_mapped e w r.file (fits_at_first r.words) (ren e (take j r.scope) ++ take 1 (rewritten e (take k r.scope) r.words))
 hits_renamed e w r k j =
-    shows_renamed e w r.file (fits (rewritten e (take k r.scope) r.words)) (take j (ren e r.scope) ++ take 1 (rewritten e (take k r.scope) r.words))
+    shows_renamed e w r.file (fits_at_first (rewritten e (take k r.scope) r.words)) (take j (ren e r.scope) ++ take 1 (rewritten e (take k r.scope) r.words))
     ∙ ap (λ g. shows_mapped e w r.file g (take j (ren e r.scope) ++ take 1 (rewritten e (take k r.scope) r.words))) (fits-rewritten e (take k r.scope) r.words)
-    ∙ ap (λ x. shows_mapped e w r.file (fits r.words) (x ++ take 1 (rewritten e (take k r.scope) r.words))) (sym (turn_below-take e.parent (turned e) j r.scope))
+    ∙ ap (λ x. shows_mapped e w r.file (fits_at_first r.words) (x ++ take 1 (rewritten e (take k r.scope) r.words))) (sym (turn_below-take e.parent (turned e) j r.scope))
 
 -- at the old hit the rewritten reference hits again
 pub hits_again : (e : Renaming) (w : Workspace) (r : Reference) (k : ℕ) → IsClear e (take k r.scope ++ r.words) → hits_at w r k ≡ true → hits_at (renamed e w) (renamed_at e r (Some k)) k ≡ true
@@ -52,9 +52,9 @@ hits_again e w r k clear h =
     let clear1 : IsClear e (front ++ take 1 r.words) = λ a b q. clear a (b ++ first.0) (sym (append_assoc a b first.0) ∙ ap (λ l. l ++ first.0) q ∙ whole) in
     let name : ren e (front ++ take 1 r.words) ≡ ren e front ++ take 1 (rewritten e front r.words) = ren-rewritten e front (take 1 r.words) clear1 ∙ ap (λ l. ren e front ++ l) (rewritten-first e front r.words) in
     hits_renamed e w r k k
-    ∙ ap (λ x. shows_mapped e w r.file (fits r.words) x) (sym name)
-    ∙ sym (shows_renamed e w r.file (fits r.words) (ren e (front ++ take 1 r.words)))
-    ∙ shows_new e w r.file (fits r.words) (front ++ take 1 r.words) h
+    ∙ ap (λ x. shows_mapped e w r.file (fits_at_first r.words) x) (sym name)
+    ∙ sym (shows_renamed e w r.file (fits_at_first r.words) (ren e (front ++ take 1 r.words)))
+    ∙ shows_new e w r.file (fits_at_first r.words) (front ++ take 1 r.words) h
 
 -- a relative reference with a hit is hit
 pub hit_relative : (w : Workspace) (r : Reference) (k : ℕ) → hit w r ≡ Some k → (r.is_absolute ≡ false) × IsGreatest (hits_at w r) (length r.scope) k

@@ -2,7 +2,7 @@
 use Rattle.std.proofs.Common.{◌≡◌, ◌↔◌, ℕ, zero, suc, ◌<◌, ◌≤◌, true, false, ◌&&◌, eqb, List, [], ◌∷◌, length, refl, sym, ◌∙◌, subst, inl, inr, arith, ◌==◌, Contains, true≢false, eqb-true, eq-eqb}
 use Rattle.proto_faults.proofs.Common.{list_any, IsDistinct, AllByRecursion, cases_Bool, and_parts, and_from, or_cases, or_left, or_right, or_parts, any_from, any_to}
 use Rattle.std.proofs.lemmas.Map.Steps.{length-le_from_distinct_below}
-use Rattle.proto_meaning.specs.Common.{Import, Workspace, Reaches, here, along, Sees, itself, by_import, reaches, sees, AreFiles}
+use Rattle.proto_meaning.specs.Common.{Import, Workspace, Reaches, here, along, Sees, itself, by_import, reaches, sees, ImportsAreOfFiles}
 
 -- no number stands twice
 abbrev Apart : List ℕ → Type 0
@@ -80,13 +80,13 @@ reaches_only a (suc n) f g h = elim (or_cases (f == g) (list_any (λ i. (i.from 
       along x.0 x.1 (eqb-true x.0.from f p'.0) p'.1 (reaches_only a n x.0.to g p.1)
 ]
 
-sees_all : (w : Workspace) → AreFiles w → {f g : ℕ} → Sees w.imports f g → sees w f g ≡ true
+sees_all : (w : Workspace) → ImportsAreOfFiles w → {f g : ℕ} → Sees w.imports f g → sees w f g ≡ true
 sees_all w ok {f} itself = or_left (f == f) _ (eq-eqb f f refl)
 sees_all w ok {f} {g} (by_import i c e r) =
     or_right (f == g) _ (any_from (λ i. (i.from == f) && reaches w.imports w.files i.to g) w.imports i c
     (and_from _ _ (eq-eqb i.from f e) (reaches_all w.imports w.files (λ j d. (ok j d).1) i.to g (ok i c).1 r)))
 
-pub sees_is : (w : Workspace) → AreFiles w → (f g : ℕ) → (sees w f g ≡ true) ↔ Sees w.imports f g
+pub sees_is : (w : Workspace) → ImportsAreOfFiles w → (f g : ℕ) → (sees w f g ≡ true) ↔ Sees w.imports f g
 sees_is w ok f g = (only, λ s. sees_all w ok s)
   where
     only : sees w f g ≡ true → Sees w.imports f g

@@ -131,9 +131,9 @@ fronts symbols nested (suc n) b l a t c h la =
     }
 
 -- the same where the rest may be empty
-pub front_of : (symbols : List Symbol) → IsNested symbols → (a b : List (List ℕ)) (t : Symbol) → Contains symbols t → t.name ≡ a ++ b → 0 < length a → (b ≡ []) ⊎ HasFront symbols a t
-front_of symbols nested a [] t c h la = inl refl
-front_of symbols nested a (p ∷ b) t c h la = inr (fronts symbols nested (length b) (p ∷ b) refl a t c h la)
+pub front_or_same : (symbols : List Symbol) → IsNested symbols → (a b : List (List ℕ)) (t : Symbol) → Contains symbols t → t.name ≡ a ++ b → 0 < length a → (b ≡ []) ⊎ HasFront symbols a t
+front_or_same symbols nested a [] t c h la = inl refl
+front_or_same symbols nested a (p ∷ b) t c h la = inr (fronts symbols nested (length b) (p ∷ b) refl a t c h la)
 
 pub below_split : (ps : List (List ℕ)) (t : List ℕ → Bool) (x : List (List ℕ)) → is_below ps t x ≡ true → (v : List ℕ) × (rest : List (List ℕ)) × (x ≡ ps ++ v ∷ rest) × (t v ≡ true)
 below_split [] t [] h = absurd (true≢false (sym h))
@@ -154,8 +154,8 @@ moved_by e (Some p) v eo h other = (
   cond-false (bytes_eq v e.old) e.new (turned_by e.entry v) other ∙ ap (λ o. turned_by o v) eo ∙ cond-true (bytes_eq v p.0) p.1 v h,
 )
 
-pub moved : (e : Renaming) (v : List ℕ) → moves e v ≡ true → ((v ≡ e.old) × (turned e v ≡ e.new)) ⊎ ((p : List ℕ × List ℕ) × (e.entry ≡ Some p) × (v ≡ p.0) × (turned e v ≡ p.1))
-moved e v h = elim (cases_Bool (bytes_eq v e.old)) [
+pub moves_to : (e : Renaming) (v : List ℕ) → moves e v ≡ true → ((v ≡ e.old) × (turned e v ≡ e.new)) ⊎ ((p : List ℕ × List ℕ) × (e.entry ≡ Some p) × (v ≡ p.0) × (turned e v ≡ p.1))
+moves_to e v h = elim (cases_Bool (bytes_eq v e.old)) [
   | inl same ↦ inl (word_from_same v e.old same, cond-true (bytes_eq v e.old) e.new (turned_by e.entry v) same)
   | inr other ↦ inr (moved_by e e.entry v refl (elim (or_cases (bytes_eq v e.old) (moves_by e.entry v) h) [ inl s ↦ absurd (both_ways (bytes_eq v e.old) other s) | inr m ↦ m ]) other)
 ]
@@ -173,12 +173,12 @@ entry_at : (w : Workspace) (e : Renaming) (p : List ℕ × List ℕ) → IsRenam
 entry_at w e p ok h = subst (EntryFits w e) h ok.entry_is
 
 pub moved_apart : (e : Renaming) (w : Workspace) → IsRenaming e w → (u v : List ℕ) → moves e u ≡ true → moves e v ≡ true → turned e u ≡ turned e v → u ≡ v
-moved_apart e w ok u v hu hv h = elim (moved e u hu) [
-  | inl a ↦ elim (moved e v hv) [
+moved_apart e w ok u v hu hv h = elim (moves_to e u hu) [
+  | inl a ↦ elim (moves_to e v hv) [
     | inl b ↦ a.0 ∙ sym b.0
     | inr b ↦ absurd ((entry_at w e b.0 ok b.1).1 (sym b.3 ∙ sym h ∙ a.1))
   ]
-  | inr a ↦ elim (moved e v hv) [
+  | inr a ↦ elim (moves_to e v hv) [
     | inl b ↦ absurd ((entry_at w e a.0 ok a.1).1 (sym a.3 ∙ h ∙ b.1))
     | inr b ↦ a.2 ∙ ap (λ (p : List ℕ × List ℕ). p.0) (same_Some a.0 b.0 (sym a.1 ∙ b.1)) ∙ sym b.2
   ]
@@ -202,7 +202,7 @@ ren_apart e w ok free s t cs ct h = elim (cases_Bool (in_domain e s.name)) [
 
 -- what is at or below a symbol that is no package is no package
 not_above_package : (w : Workspace) → IsLinked w → (s t : Symbol) → Contains w.symbols s → Contains w.symbols t → s.kind ≢ Package → (a rest : List (List ℕ)) → s.name ≡ a → 0 < length a → t.name ≡ a ++ rest → t.kind ≢ Package
-not_above_package w ok s t cs ct ns a rest na la nt pk = elim (front_of w.symbols ok.nested a rest t ct nt la) [
+not_above_package w ok s t cs ct ns a rest na la nt pk = elim (front_or_same w.symbols ok.nested a rest t ct nt la) [
   | inl e ↦ elim (one_symbol w.symbols ok.unique s t cs ct (na ∙ sym (nt ∙ ap (λ l. a ++ l) e ∙ append-nil a))) [
     | inl same ↦ ns (ap (λ z. z.kind) same ∙ pk)
     | inr both ↦ ns both.0
@@ -220,7 +220,7 @@ package_out e w ok is t ct pk = false_from_ne_true (in_domain e t.name) (λ h.
     let v = b.0 in
     let long : (x : List ℕ) → 0 < length (e.parent ++ x ∷ []) = λ x. omega (arith, length-append e.parent (x ∷ [])) in
     let name : t.name ≡ (e.parent ++ v ∷ []) ++ b.1 = b.2 ∙ sym (append_assoc e.parent (v ∷ []) b.1) in
-    elim (moved e v b.3) [
+    elim (moves_to e v b.3) [
       | inl a ↦
           let s = is.target_is in
           not_above_package w ok s.0 t s.1 ct s.3 (e.parent ++ v ∷ []) b.1 (s.2 ∙ ap (λ x. e.parent ++ x ∷ []) (sym a.0)) (long v) name pk
@@ -249,7 +249,7 @@ type_clear e w ok is t ct ty ne front back h = false_from_ne_true (is_entry e fr
         let s = (entry_at w e p is eo).2 in
         let f = name_from_same front (e.parent ++ p.0 ∷ []) q in
         let long : 0 < length front = omega (arith, length-append e.parent (p.0 ∷ []), ap length f) in
-        elim (front_of w.symbols ok.nested front back t ct (sym h) long) [
+        elim (front_or_same w.symbols ok.nested front back t ct (sym h) long) [
           | inl none ↦ elim (one_symbol w.symbols ok.unique s.0 t s.1 ct (s.2 ∙ sym f ∙ sym (append-nil front) ∙ ap (λ l. front ++ l) (sym none) ∙ h)) [
             | inl same ↦ ne (sym (ap (λ z. z.kind) same) ∙ s.3)
             | inr both ↦ entry_not (sym s.3 ∙ both.0)

@@ -2,7 +2,7 @@
 use Rattle.std.specs.Prelude.{◌⊎◌, ◌≡◌, ℕ, zero, suc, nat_lt, ◌<◌, ◌≤◌, Bool, true, false, ◌&&◌, ◌||◌, not, if◌then◌else◌, List, [], ◌∷◌, ◌++◌, length, take, map, Option, Some, None}
 use Rattle.std.specs.List.{list_any, Contains, filter}
 use Rattle.std.specs.Str.{bytes_eq}
-use Rattle.proto_meaning.specs.Names.{Kind, Symbol, Import, Reference, Workspace, Word, Name, same_name, fits, sees, hit, front_at, hits_at, meaning}
+use Rattle.proto_meaning.specs.Names.{Kind, Symbol, Import, Reference, Workspace, Word, Name, same_name, fits_at_first, sees, hit, front_at, hits_at, meaning}
 
 -- right below the parent the old word becomes the new one, and with a map field's its entry's word
 pub record Renaming : Type 0 where
@@ -105,7 +105,7 @@ shows_mapped e w f good x =
 abbrev pub IsCaptured : Renaming → Workspace → Reference → Type 0
 IsCaptured e w r =
     (k j : ℕ) × (hit w r ≡ Some k) × (k < j) × (j ≤ length r.scope)
-    × (shows_mapped e w r.file (fits r.words)
+    × (shows_mapped e w r.file (fits_at_first r.words)
     (ren e (take j r.scope) ++ take 1 (rewritten e (take k r.scope) r.words))
     ≡ true)
 
@@ -167,7 +167,7 @@ abbrev pub captured_from : Renaming → Workspace → Reference → Option ℕ �
 captured_from e w r None = false
 captured_from e w r (Some k) =
     any_above
-    (λ j. shows_mapped e w r.file (fits r.words)
+    (λ j. shows_mapped e w r.file (fits_at_first r.words)
     (ren e (take j r.scope) ++ take 1 (rewritten e (take k r.scope) r.words)))
     k (length r.scope)
 

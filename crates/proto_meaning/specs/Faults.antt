@@ -20,8 +20,8 @@ abbrev pub fault : At → ℕ → Fault
 fault place number = record { place = place; number = number }
 
 -- the first fault comes before the second: by file, token and number
-abbrev pub IsBefore : Fault → Fault → Type 0
-IsBefore a b =
+abbrev pub FaultIsBefore : Fault → Fault → Type 0
+FaultIsBefore a b =
     (a.place.file < b.place.file)
     ⊎ ((a.place.file ≡ b.place.file) × ((a.place.token < b.place.token)
     ⊎ ((a.place.token ≡ b.place.token) × (a.number < b.number))))
@@ -29,7 +29,7 @@ IsBefore a b =
 -- f is one of a set of faults, and none of them comes before it
 pub record IsLeast (Says : Fault → Type 0) (f : Fault) : Type 0 where
   pub holds : Says f
-  pub least : (g : Fault) → Says g → IsBefore g f → ⊥
+  pub least : (g : Fault) → Says g → FaultIsBefore g f → ⊥
 
 -- y is in the list, and an element before it stands to it in this relation
 abbrev pub AfterEarlier : {A : Type 0} → (A → A → Type 0) → List A → A → Type 0
@@ -37,37 +37,37 @@ AfterEarlier {A} R xs y =
     (i j : ℕ) × (d : A) × (i < j) × (j < length xs) × (get_or xs j d ≡ y) × R (get_or xs i d) y
 
 -- an import as it is written: the token of its path, and the path
-pub record Asked : Type 0 where
+pub record AskedImport : Type 0 where
   pub place : At
   pub path : Path
   pub is_public : Bool
 
 -- the number of the first file with this path among those of the workspace, if there is one
-abbrev pub file_of : List Path → Path → Option ℕ
-file_of paths path = position (bytes_eq path) paths
+abbrev pub file_with_path : List Path → Path → Option ℕ
+file_with_path paths path = position (bytes_eq path) paths
 
 -- the import that is written so, from its file to the file with its path, if there is one
-abbrev pub import_at : List Path → Asked → Option Import
-import_at paths a =
+abbrev pub import_from_asked : List Path → AskedImport → Option Import
+import_from_asked paths a =
     option_map
     (λ to. let i : Import = record { from = a.place.file; to = to; is_public = a.is_public } in i)
-    (file_of paths a.path)
+    (file_with_path paths a.path)
 
 -- the imports that name a file
-abbrev pub imports_of : List Path → List Asked → List Import
-imports_of paths asked = filter_map (import_at paths) asked
+abbrev pub imports_of : List Path → List AskedImport → List Import
+imports_of paths asked = filter_map (import_from_asked paths) asked
 
 -- a fault of an import, at its path: 10, 11 or 12
-pub data ImportFault (paths : List Path) (asked : List Asked) : Fault → Type 0 where
+pub data ImportFault (paths : List Path) (asked : List AskedImport) : Fault → Type 0 where
   -- no such path in the workspace
-  unknown : (a : Asked) → Contains asked a → file_of paths a.path ≡ None
+  unknown : (a : AskedImport) → Contains asked a → file_with_path paths a.path ≡ None
       → ImportFault paths asked (fault a.place 10)
   -- a path that an earlier import of the file has
-  double : (a : Asked)
+  double : (a : AskedImport)
       → AfterEarlier (λ x y. (x.place.file ≡ y.place.file) × (x.path ≡ y.path)) asked a
       → ImportFault paths asked (fault a.place 11)
   -- an import whose file is the importing file or reaches it by imports
-  cycle : (a : Asked) (to : ℕ) → Contains asked a → file_of paths a.path ≡ Some to
+  cycle : (a : AskedImport) (to : ℕ) → Contains asked a → file_with_path paths a.path ≡ Some to
       → Leads (imports_of paths asked) to a.place.file → ImportFault paths asked (fault a.place 12)
 
 -- the last token among the sources of a name, or this one where there is none

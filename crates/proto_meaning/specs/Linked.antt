@@ -94,5 +94,5 @@ pub record IsDeletion (e : Renaming) (w : Workspace) : Type 0 where
   pub entry_is : EntryStands w e e.entry
 
 -- each import is between two files of the workspace
-abbrev pub AreFiles : Workspace → Type 0
-AreFiles w = (i : Import) → Contains w.imports i → (i.from < w.files) × (i.to < w.files)
+abbrev pub ImportsAreOfFiles : Workspace → Type 0
+ImportsAreOfFiles w = (i : Import) → Contains w.imports i → (i.from < w.files) × (i.to < w.files)

@@ -104,10 +104,10 @@ abbrev pub shows : Workspace → ℕ → (Kind → Bool) → Name → Bool
 shows w f good x = list_any (λ s. same_name s.name x && (good s.kind && sees w f s.file)) w.symbols
 
 -- what fits at a reference's first word: a type, where it is the only word, and else an outer kind
-abbrev pub fits : List Word → Kind → Bool
-fits [] k = false
-fits (p ∷ []) k = is_type k
-fits (p ∷ q ∷ rest) k = is_outer k
+abbrev pub fits_at_first : List Word → Kind → Bool
+fits_at_first [] k = false
+fits_at_first (p ∷ []) k = is_type k
+fits_at_first (p ∷ q ∷ rest) k = is_outer k
 
 -- the greatest number up to the bound that passes
 abbrev pub greatest : (ℕ → Bool) → ℕ → Option ℕ
@@ -116,7 +116,7 @@ greatest t (suc k) = if t (suc k) then Some (suc k) else greatest t k
 
 -- right below its scope's first k words a visible symbol that fits has the reference's first word
 abbrev pub hits_at : Workspace → Reference → ℕ → Bool
-hits_at w r k = shows w r.file (fits r.words) (take k r.scope ++ take 1 r.words)
+hits_at w r k = shows w r.file (fits_at_first r.words) (take k r.scope ++ take 1 r.words)
 
 -- of how many words the longest front of the scope is at which the reference hits: the innermost
 -- scope decides; none for an absolute reference, or where it hits nowhere

@@ -127,9 +127,9 @@ pub record IsRespelled {X : Type 0} (text text_after : X → Text) (entry : Word
       (map text u.tokens)
 
 -- the reference means the declaration, as the words are spelled
-abbrev pub Means : {X : Type 0} → (X → Text) → (Word → Word)
+abbrev pub MeansDeclaration : {X : Type 0} → (X → Text) → (Word → Word)
     → Skeleton X → Used X → Declared X → Type 0
-Means text entry k u d =
+MeansDeclaration text entry k u d =
     meaning (workspace_of text entry k) (reference_of text entry u)
     ≡ Some (name_of text entry d.path)
 

@@ -6,7 +6,7 @@ ghost use Rattle.proto_faults.specs.Texts.{Text};
 ghost use Rattle.proto_meaning.specs.Names.{Import};
 ghost use Rattle.proto_meaning.specs.Edits.{renamed, with_imports};
 ghost use Rattle.proto_meaning.specs.Linked.{IsLinked, IsFree};
-ghost use Rattle.proto_meaning.specs.Skeleton.{Source, Declared, Used, Means, Skeleton, workspace_of, IsWoven, IsAim, IsAimEntry, renaming_of, IsRespelled, shifted};
+ghost use Rattle.proto_meaning.specs.Skeleton.{Source, Declared, Used, MeansDeclaration, Skeleton, workspace_of, IsWoven, IsAim, IsAimEntry, renaming_of, IsRespelled, shifted};
 
 /// What the edited words spell is the renamed workspace (`spelled`). A free rename leaves it linked
 /// (`linked`), and each reference means just the declaration that it meant (`means`).
@@ -32,7 +32,7 @@ pub fn edits_words<X>()
         (renaming_of text entry token above is_map to) → ((w : Text) → entry w ≢ w)
         → IsFree (renaming_of text entry token above is_map to) (workspace_of text entry k)
         → (u : Used X) (d : Declared X) → Contains k.used u → Contains k.declared d
-        → Means text entry k u d ↔ Means text_after entry k u d }
+        → MeansDeclaration text entry k u d ↔ MeansDeclaration text_after entry k u d }
 {}
 
 /// An import that comes in or goes changes the imports alone, where each token keeps its text under

@@ -2,10 +2,11 @@
 
 ghost use Rattle.std.specs.Prelude.{◌≡◌, ◌↔◌, ℕ, true};
 ghost use Rattle.proto_meaning.specs.Names.{Workspace, sees, Sees};
-ghost use Rattle.proto_meaning.specs.Linked.{AreFiles};
+ghost use Rattle.proto_meaning.specs.Linked.{ImportsAreOfFiles};
 
 /// The bounded search for a seen file answers what the least relation says: a chain of public
 /// imports of any length is found among at most as many imports as there are files.
 pub fn sees_least()
-    ensures { (w : Workspace) → AreFiles w → (f g : ℕ) → (sees w f g ≡ true) ↔ Sees w.imports f g }
+    ensures { (w : Workspace) → ImportsAreOfFiles w → (f g : ℕ) → (sees w f g ≡ true)
+        ↔ Sees w.imports f g }
 {}

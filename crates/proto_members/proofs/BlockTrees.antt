@@ -11,7 +11,7 @@ use Rattle.proto_tree.specs.declared.tree.ServiceItem.{ServiceItem}
 use Rattle.proto_tree.specs.File.{enum_item_tree, enum_tree, extend_tree, extension_tree, field_tree, member_tree, message_tree, oneof_tree, service_tree, trees}
 use Rattle.proto_parts.proofs.Common.{BlockOf, fields_in, reserved_names_in, Scene, no_block_in_enum, no_method_within, none_within, wanted_within}
 use Rattle.proto_captures.specs.Enums.{enum_block}
-use Rattle.proto_members.specs.Common.{extend_block, holders_in, may_hold, message_block, oneof_block, has_field, reserves, says}
+use Rattle.proto_members.specs.Common.{extend_block, holders_in, may_hold, message_block, oneof_block, has_field, reserves, says_word}
 
 pub enum_alone : (e : Braced EnumItem) → holders_in (enum_tree e) ≡ enum_block e ∷ []
 enum_alone e = ap (λ (bs : List BlockOf). enum_block e ∷ bs) (none_within may_hold enum_item_tree no_block_in_enum e.members.items)
@@ -36,7 +36,7 @@ oneof_reserves_none (f ∷ fs) = oneof_reserves_none fs
 
 pub oneof_reserves : (scene : Scene) (token : ℕ) (word : List ℕ) (o : Braced Field) → reserves scene token word (oneof_block o) ≡ false
 oneof_reserves scene token word o =
-    and_right (has_field token (fields_in (trees field_tree o.members.items))) (says scene word (reserved_names_in (trees field_tree o.members.items))) (ap (says scene word) (oneof_reserves_none o.members.items))
+    and_right (has_field token (fields_in (trees field_tree o.members.items))) (says_word scene word (reserved_names_in (trees field_tree o.members.items))) (ap (says_word scene word) (oneof_reserves_none o.members.items))
 
 extend_reserves_none : (xs : List Extension) → reserved_names_in (trees extension_tree xs) ≡ []
 extend_reserves_none [] = refl
@@ -44,4 +44,4 @@ extend_reserves_none (x ∷ xs) = extend_reserves_none xs
 
 pub extend_reserves : (scene : Scene) (token : ℕ) (word : List ℕ) (e : Extend) → reserves scene token word (extend_block e) ≡ false
 extend_reserves scene token word e =
-    and_right (has_field token (fields_in (trees extension_tree e.fields.items))) (says scene word (reserved_names_in (trees extension_tree e.fields.items))) (ap (says scene word) (extend_reserves_none e.fields.items))
+    and_right (has_field token (fields_in (trees extension_tree e.fields.items))) (says_word scene word (reserved_names_in (trees extension_tree e.fields.items))) (ap (says_word scene word) (extend_reserves_none e.fields.items))

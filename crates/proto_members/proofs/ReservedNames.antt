@@ -7,8 +7,8 @@ use Rattle.proto_files.proofs.Common.{FileOf, file_at, AreRead, ReadOf, read_at,
 use Rattle.proto_meaning.proofs.Common.{at, file_placed}
 use Rattle.proto_listing.specs.FromTree.{items_in}
 use Rattle.proto_parts.proofs.Common.{blocks_in, reserved_names_in, Scene, value, value_in}
-use Rattle.proto_captures.proofs.Common.{scene_of, Reserves}
-use Rattle.proto_members.specs.Common.{holders_in, may_hold, IsReadAs, has_member, reserves, says}
+use Rattle.proto_captures.proofs.Common.{scene_of, ReservesWord}
+use Rattle.proto_members.specs.Common.{holders_in, may_hold, IsReadAs, has_member, reserves, says_word}
 use Rattle.proto_members.proofs.MemberTests.{block_declared, member_from, member_to}
 
 module _ (files : List FileOf) (reads : List ReadOf) (are : AreRead files reads) (file : ℕ) (within : file < length files) (scene : Scene) (as_read : IsReadAs files reads file scene) (tree : Tree) (of_file : IsTreeOf (file_at files file).bytes tree) (token : ℕ) (word : List ℕ) where
@@ -18,12 +18,12 @@ module _ (files : List FileOf) (reads : List ReadOf) (are : AreRead files reads)
   tree_is : (read_at reads file).tree ≡ tree
   tree_is = same_tree files reads file tree are within of_file
 
-  pub reserves_to : list_any (reserves scene token word) (holders_in tree) ≡ true → Reserves files reads (at file token) word
+  pub reserves_to : list_any (reserves scene token word) (holders_in tree) ≡ true → ReservesWord files reads (at file token) word
   reserves_to e =
       let x = any_to (reserves scene token word) (holders_in tree) e in
       let names = reserved_names_in x.0.within in
       let c = (from_filter (λ b. may_hold b.header) (blocks_in tree) x.0 x.1).0 in
-      let p = and_parts (has_member token x.0.header x.0.within) (says scene word names) x.2 in
+      let p = and_parts (has_member token x.0.header x.0.within) (says_word scene word names) x.2 in
       let s = any_to (λ t. bytes_eq (value scene t) word) names p.1 in
       let is : value (scene_of None files reads file) s.0 ≡ word = sym (same_value s.0) ∙ word_from_same (value scene s.0) word s.2 in (
         x.0,
@@ -32,7 +32,7 @@ module _ (files : List FileOf) (reads : List ReadOf) (are : AreRead files reads)
         subst (Contains (map (value (scene_of None files reads file)) names)) is (contains_map (value (scene_of None files reads file)) names s.0 s.1),
       )
 
-  pub reserves_from : Reserves files reads (at file token) word → list_any (reserves scene token word) (holders_in tree) ≡ true
+  pub reserves_from : ReservesWord files reads (at file token) word → list_any (reserves scene token word) (holders_in tree) ≡ true
   reserves_from r =
       let names = reserved_names_in r.0.within in
       let m = member_from (file_placed (items_in (read_at reads file).tree)) r.0.header r.0.within token (block_declared files reads are file within r.0 r.1) r.2 in
@@ -40,4 +40,4 @@ module _ (files : List FileOf) (reads : List ReadOf) (are : AreRead files reads)
       let w = from_map (value (scene_of None files reads file)) names word r.3 in
       let said = any_from (λ t. bytes_eq (value scene t) word) names w.0 w.1 (same_from_word (value scene w.0) word (same_value w.0 ∙ w.2)) in
       any_from (reserves scene token word) (holders_in tree) r.0 (contains_filter (λ b. may_hold b.header) (blocks_in tree) r.0 (subst (λ t. Contains (blocks_in t) r.0) tree_is r.1) h)
-      (and_from (has_member token r.0.header r.0.within) (says scene word names) m said)
+      (and_from (has_member token r.0.header r.0.within) (says_word scene word names) m said)

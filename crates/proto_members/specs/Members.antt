@@ -70,13 +70,13 @@ name_token (header.Extend e) = e.keyword
 -- ---- reserved names
 
 -- one of these strings is the word
-abbrev pub says : Scene → Text → List ℕ → Bool
-says scene word tokens = list_any (λ t. bytes_eq (value scene t) word) tokens
+abbrev pub says_word : Scene → Text → List ℕ → Bool
+says_word scene word tokens = list_any (λ t. bytes_eq (value scene t) word) tokens
 
 -- the block has the member, and reserves the word
 abbrev pub reserves : Scene → ℕ → Text → BlockOf → Bool
 reserves scene token word b =
-    has_member token b.header b.within && says scene word (reserved_names_in b.within)
+    has_member token b.header b.within && says_word scene word (reserved_names_in b.within)
 
 -- ---- JSON names
 

@@ -5,11 +5,11 @@ ghost use Rattle.std.specs.List.{list_any};
 ghost use Rattle.proto_tree.specs.File.{enum_item_tree, member_tree, trees};
 ghost use Rattle.proto_files.specs.FilesRead.{AreRead, ReadOf};
 ghost use Rattle.proto_parts.specs.Parts.{fields_in, reserved_names_in, values_in};
-ghost use Rattle.proto_captures.specs.Cases.{Reserves};
+ghost use Rattle.proto_captures.specs.Cases.{ReservesWord};
 ghost use Rattle.proto_captures.specs.Targets.{Target};
 ghost use Rattle.proto_captures.specs.Aims.{IsAimOf, IsAimedAt};
 ghost use Rattle.proto_members.specs.Blocks.{block_of};
-ghost use Rattle.proto_members.specs.Members.{has_field, has_value, reserves, says};
+ghost use Rattle.proto_members.specs.Members.{has_field, has_value, reserves, says_word};
 
 use crate::blocks::{BlockAt, blocks_of};
 use crate::members::{has_field, has_value};
@@ -23,7 +23,7 @@ use std::alloc::Global;
 
 /// Whether one of the strings is the word.
 fn says(alloc: Global, scene: &Scene, tokens: &[u32], word: &str) -> Result<bool, NoMemory>
-    ensures { IfOk result (λ b. b ≡ says scene.now word.now tokens.now) }
+    ensures { IfOk result (λ b. b ≡ says_word scene.now word.now tokens.now) }
 {
     for token in tokens {
         let name = scene.string(alloc, *token)?;
@@ -43,7 +43,7 @@ fn message_reserves(
     word: &str,
 ) -> Result<bool, NoMemory>
     ensures { IfOk result (λ b. b ≡
-        (has_field token (fields_in (trees member_tree members.now)) && says scene.now word.now
+        (has_field token (fields_in (trees member_tree members.now)) && says_word scene.now word.now
         (reserved_names_in (trees member_tree members.now)))) }
 {
     let fields = fields_of(alloc, members)?;
@@ -64,7 +64,8 @@ fn enum_reserves(
     word: &str,
 ) -> Result<bool, NoMemory>
     ensures { IfOk result (λ b. b ≡
-        (has_value token (values_in (trees enum_item_tree items.now)) && says scene.now word.now
+        (has_value token (values_in (trees enum_item_tree items.now))
+        && says_word scene.now word.now
         (reserved_names_in (trees enum_item_tree items.now)))) }
 {
     let values = values(alloc, items)?;
@@ -118,7 +119,7 @@ pub fn is_reserved(alloc: Global, files: &Files, aim: Aim, word: &str) -> Result
     requires { IsAimOf files.now aim }
     ensures { IfOk result (λ b. (reads : List ReadOf)
         → AreRead files.now reads → (t : Target) → IsAimedAt files.now reads aim.entry t
-        → IsTrue b ↔ Reserves files.now reads t.token word.now) }
+        → IsTrue b ↔ ReservesWord files.now reads t.token word.now) }
 {
     are_read(files);
     let scene = scene(alloc, files, aim.file);

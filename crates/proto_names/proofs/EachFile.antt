@@ -1,7 +1,7 @@
 -- What is said of each file, and of one file more.
 use Rattle.std.proofs.Common.{◌≡◌, ℕ, suc, ◌+◌, ◌<◌, List, [], ◌∷◌, ◌++◌, length, get_or, map, refl, sym, ◌∙◌, ap, subst, arith, All}
 use Rattle.proto_faults.proofs.Common.{length-map, get_or-map, All-append, All-cons, All-nil}
-use Rattle.proto_meaning.proofs.Common.{Asked, At, at}
+use Rattle.proto_meaning.proofs.Common.{AskedImport, At, at}
 use Rattle.proto_listing.proofs.Common.{imports_in, items_in, package_first}
 use Rattle.proto_imports.proofs.Common.{asked_by, all_asked, asked_as, all_wanted, names_in}
 use Rattle.proto_table.proofs.Common.{named_as, tree_named, Named, named_in, all_named}
@@ -30,8 +30,8 @@ asked_from {V} items text n (v ∷ vs) (r ∷ rs) e h =
     let now : map (asked_by n) (items v) ≡ map (asked_as text n) (imports_in r.tree) = subst (λ (m : ℕ). map (asked_by m) (items v) ≡ map (asked_as text m) (imports_in r.tree)) (omega arith) (h 0 v (omega arith)) in
     let later : Each (λ k x. map (asked_by (suc n + k)) (items x) ≡ map (asked_as text (suc n + k)) (imports_in (read_at rs k).tree)) vs =
     λ (k : ℕ) (d : V) (l : k < length vs). subst (λ (m : ℕ). map (asked_by m) (items (get_or vs k d)) ≡ map (asked_as text m) (imports_in (read_at rs k).tree)) (omega arith) (h (suc k) d (omega (arith, l))) in
-    ap (λ (zs : List Asked). zs ++ all_asked (suc n) (map items vs)) now
-    ∙ ap (λ (zs : List Asked). map (asked_as text n) (imports_in r.tree) ++ zs) (asked_from items text (suc n) vs rs (omega (arith, e)) later)
+    ap (λ (zs : List AskedImport). zs ++ all_asked (suc n) (map items vs)) now
+    ∙ ap (λ (zs : List AskedImport). map (asked_as text n) (imports_in r.tree) ++ zs) (asked_from items text (suc n) vs rs (omega (arith, e)) later)
 
 named_from : {V : Type 0} (items : V → List Spelled) (text : At → List ℕ) (n : ℕ) (vs : List V) (rs : List ReadOf) → length vs ≡ length rs
     → Each (λ k v. named_in (n + k) (items v) ≡ map (named_as (n + k) (λ i. text (at (n + k) i))) (package_first (items_in (read_at rs k).tree))) vs

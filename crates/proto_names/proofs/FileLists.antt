@@ -7,7 +7,7 @@ use Rattle.proto_tree.proofs.Common.{Reads, Tree}
 use Rattle.proto_files.proofs.Common.{FileOf, file_at, ReadOf, AreRead, read_at, AreWordsAt, IsTreeOf, same_tree, same_words}
 use Rattle.proto_listing.proofs.Common.{Wanted, file_names, imports_in, items_in, IsSound, last_token, package_first, path_at, read, read_on, seen, uses_in, wanted_of, whole, names_plain, declared_rising, packages_first, imports_are_strings, imports_rising}
 use Rattle.proto_meaning.proofs.Common.{At, at, Token as TokenOf, Placed, place, map_map}
-use Rattle.proto_imports.proofs.Common.{asked_by, AreRising, IsListing, text_of, asked_as, AreWritten}
+use Rattle.proto_imports.proofs.Common.{asked_by, TokensAreRising, IsListing, text_of, asked_as, AreWritten}
 use Rattle.proto_table.proofs.Common.{AreListed, named_as, named_in}
 use Rattle.proto_meaning.specs.declared.kind.Kind.{Kind}
 use Rattle.proto_meaning.specs.declared.kind.Kind.TheVariants.{Package}
@@ -43,7 +43,7 @@ asked_here text file (w ∷ wanted) (x ∷ ws) h =
 no_import : Wanted
 no_import = record { path = 0; is_public = false }
 
-written_rising : (text : List ℕ) (tokens : List Token) (tree : Tree) → Reads text tokens tree → (wanted : List WantedAt) (ws : List WrittenImport) → map wanted_of wanted ≡ imports_in tree → map (λ i. i.token) ws ≡ map (λ w. w.path) wanted → AreRising ws
+written_rising : (text : List ℕ) (tokens : List Token) (tree : Tree) → Reads text tokens tree → (wanted : List WantedAt) (ws : List WrittenImport) → map wanted_of wanted ≡ imports_in tree → map (λ i. i.token) ws ≡ map (λ w. w.path) wanted → TokensAreRising ws
 written_rising text tokens tree reads wanted ws e t = λ i j d l m.
     (let same : map (λ x. x.token) ws ≡ map (λ w. w.path) (imports_in tree) = t ∙ sym (map_map wanted_of (λ w. w.path) wanted) ∙ ap (map (λ w. w.path)) e in
     let a = same_at (λ x. x.token) (λ w. w.path) ws (imports_in tree) same i d no_import (omega (arith, l, m)) in
@@ -104,7 +104,7 @@ module _ (files : List FileOf) (k : ℕ) (tokens : List Token) (ls : List Lexeme
     pub strings_at : All (λ w. IsString (word_at ls w.path)) wanted
     strings_at = subst (λ (x : List Lexeme). All (λ w. IsString (word_at x w.path)) wanted) (sym f.words) (wanted_strings (file_at files k).bytes tokens tree (t tokens f.tokens_are) wanted e)
 
-    pub rising_at : (ws : List WrittenImport) → AreWritten (word_at ls) wanted ws → AreRising ws
+    pub rising_at : (ws : List WrittenImport) → AreWritten (word_at ls) wanted ws → TokensAreRising ws
     rising_at ws h = written_rising (file_at files k).bytes tokens tree (t tokens f.tokens_are) wanted ws e h.tokens
 
     pub asked_at : (reads : List ReadOf) → AreRead files reads → (ws : List WrittenImport) → AreWritten (word_at ls) wanted ws → map (asked_by k) ws ≡ map (asked_as (text_of files reads) k) (imports_in (read_at reads k).tree)

@@ -7,7 +7,7 @@ use Rattle.proto_tree.proofs.Common.{Reads, dotted}
 use Rattle.proto_text.specs.declared.lexer.Token.{Token}
 use Rattle.proto_files.proofs.Common.{FileOf, file_at, ReadOf, AreRead, read_at, one_reading}
 use Rattle.proto_case.specs.Camel.{entry_name}
-use Rattle.proto_names.specs.Common.{declared_names, uses_of, AreFileMeant, AreLinked, IsFileLinked, IsFirstFlawed, IsFileError, reference_by, scope_above, first_token, IsFaultless, IsFlawed, IsFirstBad, IsReferenceError, AreMeant, BadReference, Meant}
+use Rattle.proto_names.specs.Common.{declared_names, uses_of, AreFileMeant, AreLinked, IsFileLinked, IsFirstFlawed, IsFileReferenceError, reference_by, scope_above, first_token_of_use, IsFaultless, IsFlawed, IsFirstBad, IsReferenceError, AreMeant, BadReference, Meant}
 use Rattle.proto_meaning.proofs.Common.{At, at, ArePlain, Reference, Workspace, Source, Used, name_of, shifted_source, Placed, map_agree, map_map}
 use Rattle.proto_imports.proofs.Common.{text_of, names_of_files, IsListing, name_in}
 use Rattle.proto_listing.proofs.Common.{read, whole, path_at, path_of, used_by, uses_plain}
@@ -71,11 +71,11 @@ module _ (files : List FileOf) (reads : List ReadOf) (file : ℕ) (l : Listing) 
   all_same : map by l.used.items ≡ map named (uses_of reads file)
   all_same = map_agree by (λ u. named (used_by ds u)) l.used.items (λ u c. same u) ∙ sym (map_map (used_by ds) named l.used.items) ∙ ap (map named) is.used
 
-  all_tokens : map first_token l.used.items ≡ map (λ u. u.first) (uses_of reads file)
+  all_tokens : map first_token_of_use l.used.items ≡ map (λ u. u.first) (uses_of reads file)
   all_tokens = sym (map_map (used_by ds) (λ u. u.first) l.used.items) ∙ ap (map (λ u. u.first)) is.used
 
-  pub file_meant : (t : Table) (ms : List Meant) → AreMeant t w (map by l.used.items) (map first_token l.used.items) ms → AreFileMeant t files reads file ms
-  file_meant t ms a = subst (λ (z : List ℕ). AreMeant t w (map named (uses_of reads file)) z ms) all_tokens (subst (λ (z : List Reference). AreMeant t w z (map first_token l.used.items) ms) all_same a)
+  pub file_meant : (t : Table) (ms : List Meant) → AreMeant t w (map by l.used.items) (map first_token_of_use l.used.items) ms → AreFileMeant t files reads file ms
+  file_meant t ms a = subst (λ (z : List ℕ). AreMeant t w (map named (uses_of reads file)) z ms) all_tokens (subst (λ (z : List Reference). AreMeant t w z (map first_token_of_use l.used.items) ms) all_same a)
 
   first_flawed : (bad : BadReference) → IsFirstBad w by file l.used.items bad → IsFirstFlawed w text file (uses_of reads file) bad
   first_flawed bad b = record {
@@ -89,7 +89,7 @@ module _ (files : List FileOf) (reads : List ReadOf) (file : ℕ) (l : Listing) 
     faultless = All-map (λ u. IsFaultless w (named u)) (used_by ds) b.before (λ k d m. subst (IsFaultless w) (same (get_or b.before k d)) (b.faultless k d m));
   }
 
-  pub file_error : (e : OrNoMemory BadReference) → IsReferenceError w by file l.used.items e → IsFileError files reads file e
+  pub file_error : (e : OrNoMemory BadReference) → IsReferenceError w by file l.used.items e → IsFileReferenceError files reads file e
   file_error (or.Fault bad) h = first_flawed bad h
   file_error or.NoMemory h = tt
 
@@ -113,13 +113,13 @@ module _ (files : List FileOf) (reads : List ReadOf) (are : AreRead files reads)
   same_words = words_are ∙ ap (λ (z : List ℕ). map (lexeme_at z) tokens) source_is
       ∙ ap (map (lexeme_at (file_at files file).bytes)) (one_token_list (file_at files file).bytes tokens (read_at reads file).tokens tokens_are (are.tokens file within))
 
-  pub listed_meant : (t : Table) (us : List Use) (ms : List Meant) → us ≡ l.used.items → AreMeant t (names_of_files files reads) (map (reference ls) us) (map first_token us) ms → AreFileMeant t files reads file ms
+  pub listed_meant : (t : Table) (us : List Use) (ms : List Meant) → us ≡ l.used.items → AreMeant t (names_of_files files reads) (map (reference ls) us) (map first_token_of_use us) ms → AreFileMeant t files reads file ms
   listed_meant t us ms e a =
       file_meant files reads file l same_listing t ms
-      (subst (λ z. AreMeant t (names_of_files files reads) (map (reference z) l.used.items) (map first_token l.used.items) ms) same_words
-      (subst (λ z. AreMeant t (names_of_files files reads) (map (reference ls) z) (map first_token z) ms) e a))
+      (subst (λ z. AreMeant t (names_of_files files reads) (map (reference z) l.used.items) (map first_token_of_use l.used.items) ms) same_words
+      (subst (λ z. AreMeant t (names_of_files files reads) (map (reference ls) z) (map first_token_of_use z) ms) e a))
 
-  pub listed_error : (us : List Use) (e : OrNoMemory BadReference) → us ≡ l.used.items → IsReferenceError (names_of_files files reads) (reference ls) file us e → IsFileError files reads file e
+  pub listed_error : (us : List Use) (e : OrNoMemory BadReference) → us ≡ l.used.items → IsReferenceError (names_of_files files reads) (reference ls) file us e → IsFileReferenceError files reads file e
   listed_error us error e a =
       file_error files reads file l same_listing error
       (subst (λ z. IsReferenceError (names_of_files files reads) (reference z) file l.used.items error) same_words

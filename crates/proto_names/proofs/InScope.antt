@@ -3,7 +3,7 @@ use Rattle.std.proofs.Common.{◌≡◌, ◌≢◌, ℕ, zero, suc, ◌+◌, ◌
 use Rattle.proto_faults.proofs.Common.{cases_eq, cond-false, false_from_ne_true, length-map, map-map}
 use Rattle.proto_text.proofs.Common.{word_at, Lexeme}
 use Rattle.proto_tree.specs.declared.tree.Behind.{Behind}
-use Rattle.proto_meaning.proofs.Common.{under, front, joined, ArePlain, Reference, Workspace, fits, greatest, hits_at, hit, shows, meaning, meaning_at, typed, MarksSeen, greatest_is}
+use Rattle.proto_meaning.proofs.Common.{under, front, joined, ArePlain, Reference, Workspace, fits_at_first, greatest, hits_at, hit, shows, meaning, meaning_at, typed, MarksSeen, greatest_is}
 use Rattle.proto_table.proofs.Common.{IsIndexOf, under_all, IsAsked, IsTypeAt, HitsAt, IsHit, names_of, IsTable, Step, one_step, shows_to, under_all_named, is_empty_list, empty_is, relative_is, relative_none, joined_more, plain_take, outermost}
 use Rattle.proto_names.specs.Scopes.{IsScopeFront}
 use Rattle.proto_table.specs.declared.table.Table.{Table}
@@ -74,7 +74,7 @@ module _ (t : Table) (ok : IsTable t) (seen : List Bool) (w : Workspace) (r : Re
   -- a longer front is no name, so no name stands below it
   none_below : (j : ℕ) → f.words < j → j ≤ length r.scope → hits_at w r j ≡ false
   none_below j a b = false_from_ne_true (hits_at w r j) (λ q.
-      let s = shows_to t ok seen w r.file index marks (fits r.words) (take j r.scope ++ take 1 r.words) q in
+      let s = shows_to t ok seen w r.file index marks (fits_at_first r.words) (take j r.scope ++ take 1 r.words) q in
       let name : get_or (names_of t) s.0 [] ≡ under (joined (take j r.scope)) first =
       s.2 ∙ ap (λ z. joined (take j r.scope ++ take 1 z)) words ∙ joined_more (take j r.scope) first (plain_take r.scope j plain) in
       let some : joined (take j r.scope) ≢ [] = λ e. (let z = outermost r.scope j plain b (sym e) in absurd (omega (arith, a, z))) in
@@ -88,7 +88,7 @@ module _ (t : Table) (ok : IsTable t) (seen : List Bool) (w : Workspace) (r : Re
   same_hit =
       cond-false r.is_absolute None (greatest (hits_at w r) (length r.scope)) relative
       ∙ greatest_cut (hits_at w r) (hits_at w (in_front r f.words)) f.words (length r.scope) f.within
-      (λ j l. ap (λ z. shows w r.file (fits r.words) (z ++ take 1 r.words)) (sym (take_within r.scope j f.words l))) none_below
+      (λ j l. ap (λ z. shows w r.file (fits_at_first r.words) (z ++ take 1 r.words)) (sym (take_within r.scope j f.words l))) none_below
 
   same_meaning : meaning w r ≡ meaning w (in_front r f.words)
   same_meaning =

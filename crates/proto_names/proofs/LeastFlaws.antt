@@ -4,8 +4,8 @@ use Rattle.proto_faults.proofs.Common.{none-some, same_Some, get_or-map, length-
 use Rattle.std.proofs.Math.Seq.{get_or-append_seam}
 use Rattle.proto_tree.specs.Tree.{End}
 use Rattle.proto_files.proofs.Common.{FileOf, file_at, ReadOf, AreRead, read_at}
-use Rattle.proto_meaning.proofs.Common.{Fault, fault, IsBefore, IsLeast, ReferenceFault, FileNames, At, at, joined, Symbol, Reference, Workspace, meaning, Skeleton, Used}
-use Rattle.proto_names.specs.Common.{flaw_number, uses_of, IsFirstFlawed, IsFileError, IsLeastBad, IsFaultless, IsFlawed, BadReference, ReferenceFlaw, Unresolved, WrongKind, MapEntry}
+use Rattle.proto_meaning.proofs.Common.{Fault, fault, FaultIsBefore, IsLeast, ReferenceFault, FileNames, At, at, joined, Symbol, Reference, Workspace, meaning, Skeleton, Used}
+use Rattle.proto_names.specs.Common.{flaw_number, uses_of, IsFirstFlawed, IsFileReferenceError, IsLeastBad, IsFaultless, IsFlawed, BadReference, ReferenceFlaw, Unresolved, WrongKind, MapEntry}
 use Rattle.proto_imports.specs.Links.{text_of, names_in, link_imports, link_skeleton, names_of_files}
 use Rattle.proto_meaning.specs.declared.kind.Kind.TheVariants.{Entry, Enum}
 use Rattle.proto_table.specs.Naming as by_number
@@ -165,7 +165,7 @@ module _ (files : List FileOf) (reads : List ReadOf) (are : AreRead files reads)
       least = λ g h before.
           (let s = stands g h in
           let place = b.file_is in
-          elim (subst (λ z. IsBefore z (fault (at bad.file bad.token) (flaw_number bad.flaw))) s.is before) [
+          elim (subst (λ z. FaultIsBefore z (fault (at bad.file bad.token) (flaw_number bad.flaw))) s.is before) [
             | inl less ↦ not_clean g s (clean s.file (omega (arith, less, place)))
             | inr same ↦
                 let e : s.file ≡ file = same.0 ∙ place in
@@ -173,6 +173,6 @@ module _ (files : List FileOf) (reads : List ReadOf) (are : AreRead files reads)
           ]);
     }
 
-  pub least_error : (t : Table) → IsTable t → IsIndexOf t w.symbols → (file : ℕ) → file < length files → (e : OrNoMemory BadReference) → IsFileError files reads file e → ((k : ℕ) → k < file → IsClean k) → IsLeastBad files reads e
+  pub least_error : (t : Table) → IsTable t → IsIndexOf t w.symbols → (file : ℕ) → file < length files → (e : OrNoMemory BadReference) → IsFileReferenceError files reads file e → ((k : ℕ) → k < file → IsClean k) → IsLeastBad files reads e
   least_error t ok index file l (or.Fault bad) b clean = first_least t ok index file l bad b clean
   least_error t ok index file l or.NoMemory b clean = tt

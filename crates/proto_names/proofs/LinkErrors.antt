@@ -1,11 +1,11 @@
 -- The errors of the imports and of the references are the least fault of the files; and what references are read by.
 use Rattle.std.proofs.Common.{◌≡◌, ℕ, ◌<◌, Bool, List, [], length, get_or, map, Result, Ok, Err, sym, subst, IfErr, IsErrAnd}
-use Rattle.proto_faults.proofs.Common.{Vec, number_of as number_of_kind}
+use Rattle.proto_faults.proofs.Common.{Vec, kind_number as number_of_kind}
 use Rattle.proto_faults.specs.declared.fault.FaultKind.{FaultKind}
 use Rattle.proto_files.proofs.Common.{FileOf, paths_of, AreWorkspaceFiles, ReadOf, AreRead, IsAtToken}
-use Rattle.proto_meaning.proofs.Common.{Fault, fault, Asked, IsLeast, ImportFault, ReferenceFault, at, MarksSeen}
+use Rattle.proto_meaning.proofs.Common.{Fault, fault, AskedImport, IsLeast, ImportFault, ReferenceFault, at, MarksSeen}
 use Rattle.proto_names.specs.Common.{AreLinked, flaw_number, AreNamesOf, HasNoImportFault, HasNoNameFault, BadReference}
-use Rattle.proto_imports.proofs.Common.{fault_of, number_of, IsLinkError, StandsAt, all_wanted, link_skeleton, names_of_files, text_of, import_found, reference_found, least_import, least_reference, link_error}
+use Rattle.proto_imports.proofs.Common.{fault_of, import_flaw_number, IsLinkError, FaultStandsAt, all_wanted, link_skeleton, names_of_files, text_of, import_found, reference_found, least_import, least_reference, link_error}
 use Rattle.proto_imports.specs.declared.import.BadImport.{BadImport}
 use Rattle.proto_faults.specs.declared.fault.SchemaFault.{SchemaFault}
 use Rattle.proto_table.specs.declared.table.Table.{Table}
@@ -18,20 +18,20 @@ module _ (files : List FileOf) (reads : List ReadOf) (are_read : AreRead files r
   References = ReferenceFault (text_of files reads) (link_skeleton files reads)
 
   -- the least fault of the imports as they were written is that of the imports as they are read
-  pub least_as_read : (paths : List (List ℕ)) (asked : List Asked) (f : Fault)
+  pub least_as_read : (paths : List (List ℕ)) (asked : List AskedImport) (f : Fault)
       → paths ≡ paths_of files → asked ≡ all_wanted (text_of files reads) 0 reads → IsLeast (ImportFault paths asked) f → IsLeast Imports f
   least_as_read paths asked f same_paths same_asked least =
       subst (λ (ps : List (List ℕ)). IsLeast (ImportFault ps (all_wanted (text_of files reads) 0 reads)) f) same_paths
-      (subst (λ (xs : List Asked). IsLeast (ImportFault paths xs) f) same_asked least)
+      (subst (λ (xs : List AskedImport). IsLeast (ImportFault paths xs) f) same_asked least)
 
   pub import_file : (b : BadImport) → IsLeast Imports (fault_of b) → b.file < length files
   import_file b least = (import_found files reads are_read (fault_of b) least.holds).there.0
 
   pub import_error : AreWorkspaceFiles files → (b : BadImport) (kind : FaultKind) (e : SchemaFault) → IsLeast Imports (fault_of b)
-      → number_of_kind kind ≡ number_of b.flaw → IsAtToken files b.file b.token kind e → IsLinkError files e
+      → number_of_kind kind ≡ import_flaw_number b.flaw → IsAtToken files b.file b.token kind e → IsLinkError files e
   import_error are_files b kind e least n h =
       link_error files are_files reads are_read b.file b.token kind e (import_file b least) h
-      (λ x s. least_import files are_files reads are_read (fault_of b) x least (subst (λ (k : ℕ). StandsAt files reads (fault (at b.file b.token) k) x) n s))
+      (λ x s. least_import files are_files reads are_read (fault_of b) x least (subst (λ (k : ℕ). FaultStandsAt files reads (fault (at b.file b.token) k) x) n s))
 
   abbrev flawed_at : BadReference → Fault
   flawed_at b = fault (at b.file b.token) (flaw_number b.flaw)
@@ -44,7 +44,7 @@ module _ (files : List FileOf) (reads : List ReadOf) (are_read : AreRead files r
   reference_error are_files no_import no_name b kind e least n h =
       link_error files are_files reads are_read b.file b.token kind e (reference_file b least) h
       (λ x s. least_reference files are_files reads are_read (no_import reads are_read) (no_name reads are_read) (flawed_at b) x least
-      (subst (λ (k : ℕ). StandsAt files reads (fault (at b.file b.token) k) x) n s))
+      (subst (λ (k : ℕ). FaultStandsAt files reads (fault (at b.file b.token) k) x) n s))
 
 -- what the table, the marks and the rows are says that the references can be read by them
 pub are_linked : (files : List FileOf) (reads : List ReadOf) (t : Table) (seen : List (Vec Bool)) (rows : List (Vec ℕ))

@@ -4,7 +4,7 @@ use Rattle.proto_faults.proofs.Common.{cases_Bool, false_from_ne_true, both_ways
 use Rattle.proto_text.proofs.Common.{words, one_token_list}
 use Rattle.proto_tree.specs.References.{dotted}
 use Rattle.proto_files.proofs.Common.{ReadOf, AreRead, read_at, FileOf, file_at}
-use Rattle.proto_meaning.proofs.Common.{joined, ArePlain, AreFiles, MarksSeen, Workspace, same_name, sees, shows, same_from_name, joined_apart, sees_is, shown}
+use Rattle.proto_meaning.proofs.Common.{joined, ArePlain, ImportsAreOfFiles, MarksSeen, Workspace, same_name, sees, shows, same_from_name, joined_apart, sees_is, shown}
 use Rattle.proto_listing.proofs.ReadTrees.{uses_plain}
 use Rattle.proto_imports.specs.Links.{names_in, names_of_files}
 use Rattle.proto_names.specs.Laws.{SeesName, UsesAreWords, VisibleIsSeen, VisibleIsShown}
@@ -16,7 +16,7 @@ member_at (m ∷ ns) zero n h = (0, omega arith, same_Some m n h)
 member_at (m ∷ ns) (suc row) n h = contains_later m n ns (member_at ns row n h)
 
 -- a link that holds the names of a workspace, and the marks of what a file sees
-module _ (w : Workspace) (l : LinkOf) (holds : HoldsNames w l) (files : AreFiles w) (file : ℕ) (marks : MarksSeen w file (get_or l.seen file [])) where
+module _ (w : Workspace) (l : LinkOf) (holds : HoldsNames w l) (files : ImportsAreOfFiles w) (file : ℕ) (marks : MarksSeen w file (get_or l.seen file [])) where
   abbrev seen : List Bool
   seen = get_or l.seen file []
 

@@ -4,8 +4,8 @@ use Rattle.proto_faults.proofs.Common.{Vec, get_or-map, length-map, map-append, 
 use Rattle.std.specs.Cmp.{both_ways}
 use Rattle.proto_files.proofs.Common.{FileOf, ReadOf, AreRead}
 use Rattle.proto_case.specs.Camel.{entry_name}
-use Rattle.proto_meaning.proofs.Common.{place_of, At, at, all_used, used_in, joined, AreFiles, Workspace, meaning, MarksSeen, Used, reference_of, names_apart}
-use Rattle.proto_names.specs.Common.{AreFileMeant, uses_of, AreNamesOf, HoldsNames, IsLinkBy, has_text, reference_at, LinkOf, MeantBy, NameOf, all_meant, meant_by, name_at, name_of_row, references_to, AreMeant, RefId, Meant}
+use Rattle.proto_meaning.proofs.Common.{place_of, At, at, all_used, used_in, joined, ImportsAreOfFiles, Workspace, meaning, MarksSeen, Used, reference_of, names_apart}
+use Rattle.proto_names.specs.Common.{AreFileMeant, uses_of, AreNamesOf, HoldsNames, IsLinkBy, has_text, reference_id, LinkOf, MeantBy, NameOf, all_meant, meant_in_file, name_at, name_of_row, references_to, AreMeant, RefId, Meant}
 use Rattle.proto_imports.proofs.Common.{all_imports, link_imports, link_skeleton, names_in, names_of_files, text_of, import_in, imports_within}
 use Rattle.proto_table.proofs.Common.{used_named, IsIndexOf, IsTable, aboves_of, look, names_of, pick}
 use Rattle.proto_imports.specs.declared.import.FileImport.{FileImport}
@@ -102,7 +102,7 @@ module _ (text : At → List ℕ) (t : Table) (ok : IsTable t) (w : Workspace) (
   -- of one file
   in_file : (file : ℕ) (us : List (Used ℕ)) (ms : List Meant) → map (λ m. m.token) ms ≡ map (λ u. u.first) us → All (λ m. m.row < length t.rows.items) ms
       → map (λ m. Some (get_or (names_of t) m.row [])) ms ≡ map (λ r. option_map joined (meaning w r)) (map (used_named text file) us)
-      → references_to row (map (meant_by file) ms) ≡ map reference_at (filter test (map (used_in file) us))
+      → references_to row (map (meant_in_file file) ms) ≡ map reference_id (filter test (map (used_in file) us))
   in_file file [] [] tokens rows names = refl
   in_file file [] (m ∷ ms) tokens rows names = absurd (cc)
   in_file file (u ∷ us) [] tokens rows names = absurd (cc)
@@ -111,13 +111,13 @@ module _ (text : At → List ℕ) (t : Table) (ok : IsTable t) (w : Workspace) (
       let here : Some (get_or (names_of t) m.row []) ≡ option_map joined (meaning w (used_named text file u)) = cc in
       let tokens_on : map (λ (x : Meant). x.token) ms ≡ map (λ (x : Used ℕ). x.first) us = cc in
       let names_on : map (λ (x : Meant). Some (get_or (names_of t) x.row [])) ms ≡ map (λ r. option_map joined (meaning w r)) (map (used_named text file) us) = cc in
-      one_more (λ (x : MeantBy). x.row == row) test (λ (x : MeantBy). x.reference) reference_at (meant_by file m) (used_in file u) (map (meant_by file) ms) (map (used_in file) us)
+      one_more (λ (x : MeantBy). x.row == row) test (λ (x : MeantBy). x.reference) reference_id (meant_in_file file m) (used_in file u) (map (meant_in_file file) ms) (map (used_in file) us)
       (same_test (meaning w (used_named text file u)) m.row (rows 0 m (omega arith)) here)
       (ap (λ (k : ℕ). let o : RefId = record { file = file; token = k } in o) token)
       (in_file file us ms tokens_on (λ k d l. rows (suc k) d (omega (arith, l))) names_on)
 
   in_files : (n : ℕ) (rs : List ReadOf) (mss : List (List Meant)) → length mss ≡ length rs → ((k : ℕ) → k < length rs → Meanings (n + k) (uses_of rs k) (get_or mss k []))
-      → references_to row (all_meant n mss) ≡ map reference_at (filter test (all_used n (map names_in rs)))
+      → references_to row (all_meant n mss) ≡ map reference_id (filter test (all_used n (map names_in rs)))
   in_files n [] [] e h = refl
   in_files n [] (ms ∷ mss) e h = absurd (omega (arith, e))
   in_files n (r ∷ rs) [] e h = absurd (omega (arith, e))
@@ -126,12 +126,12 @@ module _ (text : At → List ℕ) (t : Table) (ok : IsTable t) (w : Workspace) (
       let now : Meanings n us ms = subst (λ (m : ℕ). Meanings m us ms) (omega arith) (h 0 (omega arith)) in
       let later : (k : ℕ) → k < length rs → Meanings (suc n + k) (uses_of rs k) (get_or mss k []) =
       λ (k : ℕ) (l : k < length rs). subst (λ (m : ℕ). Meanings m (uses_of rs k) (get_or mss k [])) (omega arith) (h (suc k) (omega (arith, l))) in
-      ap (map (λ (x : MeantBy). x.reference)) (filter-append (λ (x : MeantBy). x.row == row) (map (meant_by n) ms) (all_meant (suc n) mss))
-      ∙ map-append (λ (x : MeantBy). x.reference) (filter (λ (x : MeantBy). x.row == row) (map (meant_by n) ms)) (filter (λ (x : MeantBy). x.row == row) (all_meant (suc n) mss))
+      ap (map (λ (x : MeantBy). x.reference)) (filter-append (λ (x : MeantBy). x.row == row) (map (meant_in_file n) ms) (all_meant (suc n) mss))
+      ∙ map-append (λ (x : MeantBy). x.reference) (filter (λ (x : MeantBy). x.row == row) (map (meant_in_file n) ms)) (filter (λ (x : MeantBy). x.row == row) (all_meant (suc n) mss))
       ∙ ap (λ (zs : List RefId). zs ++ references_to row (all_meant (suc n) mss)) (in_file n us ms now.places now.within now.names)
-      ∙ ap (λ (zs : List RefId). map reference_at (filter test (map (used_in n) us)) ++ zs) (in_files (suc n) rs mss (omega (arith, e)) later)
-      ∙ sym (map-append reference_at (filter test (map (used_in n) us)) (filter test (all_used (suc n) (map names_in rs))))
-      ∙ ap (map reference_at) (sym (filter-append test (map (used_in n) us) (all_used (suc n) (map names_in rs))))
+      ∙ ap (λ (zs : List RefId). map reference_id (filter test (map (used_in n) us)) ++ zs) (in_files (suc n) rs mss (omega (arith, e)) later)
+      ∙ sym (map-append reference_id (filter test (map (used_in n) us)) (filter test (all_used (suc n) (map names_in rs))))
+      ∙ ap (map reference_id) (sym (filter-append test (map (used_in n) us) (all_used (suc n) (map names_in rs))))
 
 -- ---- the link
 
@@ -145,7 +145,7 @@ marks_seen files reads are imports given seen e len same marks k l =
 
 -- imports are between files
 pub files_between : (files : List FileOf) (reads : List ReadOf) → AreRead files reads → (imports : List (Vec FileImport)) → length imports ≡ length files → All (λ v. All (λ i. i.to < length files) v.items) imports → all_imports 0 (map (λ v. v.items) imports) ≡ link_imports files reads
-    → AreFiles (names_of_files files reads)
+    → ImportsAreOfFiles (names_of_files files reads)
 files_between files reads are imports len within same i c =
     let is = map (λ v. v.items) imports in
     let d : Contains (all_imports 0 is) i = subst (λ z. Contains z i) (sym same) c in
@@ -163,7 +163,7 @@ module _ (files : List FileOf) (reads : List ReadOf) (are : AreRead files reads)
   abbrev w : Workspace
   w = names_of_files files reads
 
-  pub is_link : (seen : List (List Bool)) (meant : List (List Meant)) (l : LinkOf) → map name_of_row t.rows.items ≡ l.names → seen ≡ l.seen → length seen ≡ length files → length meant ≡ length files → length l.references ≡ length l.names → AreFiles w
+  pub is_link : (seen : List (List Bool)) (meant : List (List Meant)) (l : LinkOf) → map name_of_row t.rows.items ≡ l.names → seen ≡ l.seen → length seen ≡ length files → length meant ≡ length files → length l.references ≡ length l.names → ImportsAreOfFiles w
       → ((k : ℕ) → k < length files → MarksSeen w k (get_or seen k []))
       → ((k : ℕ) → k < length files → AreFileMeant t files reads k (get_or meant k []))
       → ((row : ℕ) → get_or l.references row [] ≡ references_to row (all_meant 0 meant))

@@ -3,7 +3,7 @@ use Rattle.std.proofs.Common.{◌≡◌, ◌≢◌, ◌⊎◌, ℕ, zero, suc, �
 use Rattle.proto_faults.proofs.Common.{Vec, list_any, cases_Bool, false_from_ne_true, both_ways, and_parts, and_from, get_or-map, get_or_default, get_or_past, length-map, list_any_at, slice_get-get_or, slice_get_past, slice_get_read, none-some, same_Some, any_to, any_map, word_from_same, same_from_word}
 use Rattle.proto_meaning.proofs.Common.{joined, ArePlain, is_package, Workspace, shows, MarksSeen, names_apart}
 use Rattle.proto_table.proofs.Common.{IsIndexOf, is_seen, names_of, aboves_of, look, IsTable, shows_from, shows_to, pick}
-use Rattle.proto_names.specs.Linking.{NameOf, LinkOf, name_of_row, text_at, sees_one, shows_text, is_visible}
+use Rattle.proto_names.specs.Linking.{NameOf, LinkOf, name_of_row, name_text, sees_one, shows_text, is_visible}
 use Rattle.proto_table.specs.declared.table.Row.{Row}
 use Rattle.proto_table.specs.declared.table.Table.{Table}
 
@@ -53,7 +53,7 @@ module _ (rows : List Row) (names : List NameOf) (same : map name_of_row rows �
       go (r ∷ rs) zero = pick_own (is_package r.symbol.kind) r
       go (r ∷ rs) (suc k) = go rs k
 
--- a row but for a package's, as `declared` answers it
+-- a row but for a package's, as `declared_row` answers it
 pub own_row : (rows : List Row) (k : ℕ) (r : Row) → k < length rows → r ≡ get_or rows k r → (b : Bool) → b ≡ is_package r.symbol.kind
     → (if b then None else Some r) ≡ option_and_then (λ r. if is_package r.symbol.kind then None else Some r) (slice_get rows k)
 own_row rows k r within r_is b b_is =
@@ -86,19 +86,19 @@ module _ (t : Table) (ok : IsTable t) where
   apart i j li lj e = names_apart (names_of t) (aboves_of t) (look t) ok.forest i j (omega (arith, li, sized)) (omega (arith, lj, sized)) e
 
   module _ (l : LinkOf) (same : map name_of_row t.rows.items ≡ l.names) where
-    text_is : (row : ℕ) → text_at l row ≡ slice_get (names_of t) row
+    text_is : (row : ℕ) → name_text l row ≡ slice_get (names_of t) row
     text_is row = ap (λ (ns : List NameOf). option_map (λ n. n.text) (slice_get ns row)) (sym same) ∙ text_row t.rows.items row
 
-    pub text_from : (row : ℕ) (text : List ℕ) → row < length t.rows.items → get_or (names_of t) row [] ≡ text → text_at l row ≡ Some text
+    pub text_from : (row : ℕ) (text : List ℕ) → row < length t.rows.items → get_or (names_of t) row [] ≡ text → name_text l row ≡ Some text
     text_from row text lr e = text_is row ∙ slice_get-get_or (names_of t) row [] (omega (arith, lr, sized)) ∙ ap Some e
 
-    text_to : (row : ℕ) (text : List ℕ) → text_at l row ≡ Some text → (row < length t.rows.items) × (get_or (names_of t) row [] ≡ text)
+    text_to : (row : ℕ) (text : List ℕ) → name_text l row ≡ Some text → (row < length t.rows.items) × (get_or (names_of t) row [] ≡ text)
     text_to row text h = let r = there (names_of t) row text (sym (text_is row) ∙ h) in (omega (arith, r.0, sized), r.1)
 
-    pub text_none : (text : List ℕ) → ((k : ℕ) → k < length t.rows.items → get_or (names_of t) k [] ≢ text) → (row : ℕ) → text_at l row ≢ Some text
+    pub text_none : (text : List ℕ) → ((k : ℕ) → k < length t.rows.items → get_or (names_of t) k [] ≢ text) → (row : ℕ) → name_text l row ≢ Some text
     text_none text none row h = let r = text_to row text h in none row r.0 r.1
 
-    pub text_once : (i j : ℕ) (text : List ℕ) → text_at l i ≡ Some text → text_at l j ≡ Some text → i ≡ j
+    pub text_once : (i j : ℕ) (text : List ℕ) → name_text l i ≡ Some text → name_text l j ≡ Some text → i ≡ j
     text_once i j text hi hj = let a = text_to i text hi in let b = text_to j text hj in apart i j a.0 b.0 (a.1 ∙ sym b.1)
 
   module _ (seen : List Bool) (text : List ℕ) where

@@ -19,9 +19,9 @@ with_text None text h = absurd (none-some text h)
 with_text (Some n) text h = (n, refl, same_Some n.text text h)
 
 -- the name of a declaration has its kind, and stands where the declaration does
-pub declared_as : (text : At → List ℕ) (k : Skeleton At) (l : LinkOf) → IsLinkBy text k l → (d : Declared At) → Contains k.declared d → d.kind ≢ Package → (row : ℕ) (n : NameOf) → name_at l row ≡ Some n → n.text ≡ joined (name_of text entry_name d.path)
+pub name_declared_as : (text : At → List ℕ) (k : Skeleton At) (l : LinkOf) → IsLinkBy text k l → (d : Declared At) → Contains k.declared d → d.kind ≢ Package → (row : ℕ) (n : NameOf) → name_at l row ≡ Some n → n.text ≡ joined (name_of text entry_name d.path)
     → (n.kind ≡ d.kind) × (at (get_or n.files 0 0) n.token ≡ place_of d)
-declared_as text k l link d c other row n h e =
+name_declared_as text k l link d c other row n h e =
     let x = link.names.there (symbol_of text entry_name d) (contains_map (symbol_of text entry_name) k.declared d c) in
     let here : row ≡ x.0 = link.names.once row x.0 n x.1 h x.2 (e ∙ sym x.3) in
     let same : n ≡ x.1 = same_Some n x.1 (sym h ∙ ap (name_at l) here ∙ x.2) in

@@ -3,7 +3,7 @@ use Rattle.std.proofs.Common.{◌≡◌, ◌≢◌, ℕ, suc, ◌+◌, ◌<◌, 
 use Rattle.proto_faults.proofs.Common.{Vec, length-map, get_or-map, Contains-append_cases}
 use Rattle.proto_files.proofs.Common.{FileOf, file_at, Each, AreRead, ReadOf, read_at}
 use Rattle.proto_tree.specs.Tree.{End}
-use Rattle.proto_names.specs.Common.{declared_names, AreNamesOf, IsDeclaredIn}
+use Rattle.proto_names.specs.Common.{declared_names, AreNamesOf, RowIsDeclaredIn}
 use Rattle.proto_table.proofs.Common.{AreRows, IsRowAt, named_as, AreSpans, tree_named, IsIndexOf, AreSpelled, Named, all_named, named_in, symbol_named, names_of, as_named, declared_is_named, same_symbols, pick}
 use Rattle.proto_meaning.proofs.Common.{front, At, at, FileNames, ArePlain, joined, Declared, ItemsSpan, map_map}
 use Rattle.proto_listing.proofs.Common.{items_in, package_first, length-read, tree_span}
@@ -117,7 +117,7 @@ module _ (files : List FileOf) (reads : List ReadOf) (are : AreRead files reads)
           ap (λ (ns : List (List (List ℕ))). get_or ns j []) (sym (names_are k l)) ∙ get_or-map (λ x. x.name) ds j d [] (omega (arith, m, named_length k (get_or fs k []))) in
           ap (front (names_of t)) next ∙ (are_rows.each k j 0 d l m).name ∙ ap joined (sym name)
 
-      declared_row : (d : Declared At) → Contains (link_skeleton files reads).declared d → d.kind ≢ Package → IsDeclaredIn text t d
+      declared_row : (d : Declared At) → Contains (link_skeleton files reads).declared d → d.kind ≢ Package → RowIsDeclaredIn text t d
       declared_row d c other =
           let named = declared_is_named text (map names_in reads) are_spans d c in
           let here = named_in_file 0 fs (as_named text d) (subst (λ (ds : List Named). Contains ds (as_named text d)) (sym (spelled.names reads are)) named) in

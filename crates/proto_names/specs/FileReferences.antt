@@ -68,10 +68,10 @@ pub record IsFirstFlawed (w : Workspace) (text : At → Text) (file : ℕ) (uses
   pub faultless : All (λ u. IsFaultless w (used_named text file u)) before
 
 -- the error is want of memory, or the first faulty reference of the file
-abbrev pub IsFileError : List FileOf → List ReadOf → ℕ → OrNoMemory BadReference → Type 0
-IsFileError files reads file (or.Fault bad) =
+abbrev pub IsFileReferenceError : List FileOf → List ReadOf → ℕ → OrNoMemory BadReference → Type 0
+IsFileReferenceError files reads file (or.Fault bad) =
     IsFirstFlawed (names_of_files files reads) (text_of files reads) file (uses_of reads file) bad
-IsFileError files reads file or.NoMemory = Unit {0}
+IsFileReferenceError files reads file or.NoMemory = Unit {0}
 
 -- the error is want of memory, or the least faulty reference of all files, by file, token and
 -- number of its fault

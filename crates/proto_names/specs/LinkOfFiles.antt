@@ -12,8 +12,8 @@ use Rattle.proto_names.specs.FileReferences.{declared_names, uses_of}
 use Rattle.proto_meaning.specs.Forest.{front}
 use Rattle.proto_meaning.specs.Grown.{At, at}
 use Rattle.proto_meaning.specs.Joined.{ArePlain, joined}
-use Rattle.proto_meaning.specs.Linked.{AreFiles}
-use Rattle.proto_names.specs.Linking.{LinkOf, NameOf, name_at, text_at}
+use Rattle.proto_meaning.specs.Linked.{ImportsAreOfFiles}
+use Rattle.proto_names.specs.Linking.{LinkOf, NameOf, name_at, name_text}
 use Rattle.proto_files.specs.FilesRead.{ReadOf, AreRead}
 use Rattle.proto_imports.specs.Links.{all_wanted, link_skeleton, names_of_files, text_of}
 use Rattle.proto_meaning.specs.declared.kind.Kind.TheVariants.{Package}
@@ -48,13 +48,13 @@ has_text text None = false
 has_text text (Some m) = bytes_eq (joined m) text
 
 -- a reference by its file and its first token
-abbrev pub reference_at : Used At → RefId
-reference_at u = record { file = u.first.file; token = u.first.token }
+abbrev pub reference_id : Used At → RefId
+reference_id u = record { file = u.first.file; token = u.first.token }
 
 -- the references that mean the name with this text, in order
 abbrev pub references_of : (At → Text) → Skeleton At → Text → List RefId
 references_of text k name =
-    map reference_at
+    map reference_id
     (filter (λ u. has_text name (meaning (workspace_of text entry_name k)
     (reference_of text entry_name u))) k.used)
 
@@ -69,7 +69,7 @@ pub record IsLinkBy (text : At → Text) (k : Skeleton At) (l : LinkOf) : Type 0
   pub seen : (file : ℕ) → file < k.files
       → MarksSeen (workspace_of text entry_name k) file (get_or l.seen file [])
   pub files : length l.seen ≡ k.files
-  pub between : AreFiles (workspace_of text entry_name k)
+  pub between : ImportsAreOfFiles (workspace_of text entry_name k)
   pub paired : length l.references ≡ length l.names
   pub references : (row : ℕ) (n : NameOf) → name_at l row ≡ Some n
       → get_or l.references row [] ≡ references_of text k n.text
@@ -81,7 +81,7 @@ pub record TextMeant : Type 0 where
 
 -- what the link has of a reference, with the text of the name for its number
 abbrev pub meant_by_link : LinkOf → Meant → TextMeant
-meant_by_link l m = record { token = m.token; text = text_at l m.row }
+meant_by_link l m = record { token = m.token; text = name_text l m.row }
 
 -- what a reference of the file means by the rules of scopes, with the text of the name
 abbrev pub meant_by_use : List FileOf → List ReadOf → ℕ → Used ℕ → TextMeant
@@ -124,7 +124,7 @@ HasNoNameFault files =
     → (f : Fault) → NameFault (text_of files reads) (link_skeleton files reads).declared f → ⊥
 
 -- the row of a declaration's name was declared where the declaration stands
-pub record IsDeclaredIn (text : At → Text) (t : Table) (d : Declared At) : Type 0 where
+pub record RowIsDeclaredIn (text : At → Text) (t : Table) (d : Declared At) : Type 0 where
   pub row : ℕ
   pub within : row < length t.rows.items
   pub name : get_or (names_of t) row [] ≡ joined (name_of text entry_name d.path)
@@ -143,4 +143,4 @@ pub record AreNamesOf (files : List FileOf) (reads : List ReadOf) (t : Table) (r
       → front (names_of t) (get_or (get_or (map (λ v. v.items) rows) k []) j 0 + 1)
       ≡ joined (get_or (declared_names files reads k) j [])
   pub tokens : (d : Declared At) → Contains (link_skeleton files reads).declared d
-      → d.kind ≢ Package → IsDeclaredIn (text_of files reads) t d
+      → d.kind ≢ Package → RowIsDeclaredIn (text_of files reads) t d

@@ -7,7 +7,7 @@ use Rattle.std.specs.Str.{bytes_eq}
 use Rattle.proto_faults.specs.Texts.{Text}
 use Rattle.proto_meaning.specs.declared.kind.Kind.{Kind}
 use Rattle.proto_meaning.specs.Linked.{is_package}
-use Rattle.proto_table.specs.Resolved.{files_of}
+use Rattle.proto_table.specs.Resolved.{declaring_files}
 use Rattle.proto_names.specs.declared.link.RefId.{RefId}
 use Rattle.proto_names.specs.declared.references.Meant.{Meant}
 use Rattle.proto_table.specs.declared.table.Row.{Row}
@@ -25,7 +25,7 @@ abbrev pub name_of_row : Row → NameOf
 name_of_row r = record {
   text = string_bytes r.name;
   kind = r.symbol.kind;
-  files = files_of r;
+  files = declaring_files r;
   token = r.symbol.token;
 }
 
@@ -42,8 +42,8 @@ abbrev pub name_at : LinkOf → ℕ → Option NameOf
 name_at l row = slice_get l.names row
 
 -- the text of the name with this number, if there is one
-abbrev pub text_at : LinkOf → ℕ → Option Text
-text_at l row = option_map (λ n. n.text) (name_at l row)
+abbrev pub name_text : LinkOf → ℕ → Option Text
+name_text l row = option_map (λ n. n.text) (name_at l row)
 
 -- the file that declares it (a package is of no file alone)
 abbrev pub own_file : NameOf → Option ℕ
@@ -54,12 +54,12 @@ abbrev pub own_token : NameOf → Option ℕ
 own_token n = if is_package n.kind then None else Some n.token
 
 -- the file that declares the name with this number; none of a package, and where there is no name
-abbrev pub file_at : LinkOf → ℕ → Option ℕ
-file_at l row = option_and_then own_file (name_at l row)
+abbrev pub declaring_file : LinkOf → ℕ → Option ℕ
+declaring_file l row = option_and_then own_file (name_at l row)
 
 -- the token, in that file, that the name with this number is declared at; none where no file is
-abbrev pub token_at : LinkOf → ℕ → Option ℕ
-token_at l row = option_and_then own_token (name_at l row)
+abbrev pub declaring_token : LinkOf → ℕ → Option ℕ
+declaring_token l row = option_and_then own_token (name_at l row)
 
 -- the row of the name that the reference with this first token means
 abbrev pub row_at : List Meant → ℕ → Option ℕ
@@ -87,13 +87,13 @@ pub record MeantBy : Type 0 where
   pub row : ℕ
 
 -- what a reference of this file means, with the file
-abbrev pub meant_by : ℕ → Meant → MeantBy
-meant_by file m = record { reference = record { file = file; token = m.token }; row = m.row }
+abbrev pub meant_in_file : ℕ → Meant → MeantBy
+meant_in_file file m = record { reference = record { file = file; token = m.token }; row = m.row }
 
 -- the references of all files from this number on, file after file
 abbrev pub all_meant : ℕ → List (List Meant) → List MeantBy
 all_meant file [] = []
-all_meant file (ms ∷ rest) = map (meant_by file) ms ++ all_meant (suc file) rest
+all_meant file (ms ∷ rest) = map (meant_in_file file) ms ++ all_meant (suc file) rest
 
 -- those that mean this name
 abbrev pub references_to : ℕ → List MeantBy → List RefId

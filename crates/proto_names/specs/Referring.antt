@@ -39,8 +39,8 @@ reference_by file names text u = record {
 }
 
 -- the token that a reference begins with: the dot, where there is one, else its first word
-abbrev pub first_token : Use → ℕ
-first_token u = first_of u.reference.now.dot u.reference.now.words
+abbrev pub first_token_of_use : Use → ℕ
+first_token_of_use u = first_of u.reference.now.dot u.reference.now.words
 
 -- the table and the marks are those of a file of the workspace, and the rows those of its names
 pub record IsReadBy (t : Table) (seen : List Bool) (rows : List ℕ) (names : List (List Text))
@@ -82,7 +82,7 @@ pub record IsFirstBad (w : Workspace) (reference : Use → Reference) (file : �
   pub behind : List Use
   pub parts : uses ≡ before ++ faulty ∷ behind
   pub file_is : bad.file ≡ file
-  pub token_is : bad.token ≡ first_token faulty
+  pub token_is : bad.token ≡ first_token_of_use faulty
   pub flawed : IsFlawed w (reference faulty) bad.flaw
   pub faultless : All (λ u. IsFaultless w (reference u)) before
 

@@ -5,7 +5,7 @@ ghost use Rattle.std.specs.List.{All};
 ghost use Rattle.proto_files.specs.GivenFiles.{file_at};
 ghost use Rattle.proto_tree.specs.Reads.{Reads};
 ghost use Rattle.proto_meaning.specs.Faults.{Fault, ReferenceFault};
-ghost use Rattle.proto_names.specs.FileReferences.{AreFileMeant, AreLinked, IsFileError, IsFileLinked, IsLeastBad};
+ghost use Rattle.proto_names.specs.FileReferences.{AreFileMeant, AreLinked, IsFileReferenceError, IsFileLinked, IsLeastBad};
 ghost use Rattle.proto_files.specs.FilesRead.{ReadOf, AreRead};
 ghost use Rattle.proto_imports.specs.Links.{AreListings, IsListing, link_skeleton, text_of};
 ghost use Rattle.proto_files.specs.FilesRead.{Each};
@@ -91,7 +91,7 @@ fn file_meanings(
         → AreFileMeant table.now files.now reads file ms.items) }
     ensures fault { IfErr result (λ e. (reads : List ReadOf)
         → AreRead files.now reads → IsFileLinked table.now seen.now rows.now files.now reads file
-        → IsFileError files.now reads file e) }
+        → IsFileReferenceError files.now reads file e) }
 {
     let words = Words::new(files, file as usize);
     meanings(alloc, table, seen, &words, file, rows, &listing.used)

@@ -2,7 +2,7 @@
 
 ghost use Rattle.std.specs.Prelude.{◌≡◌, ℕ, ◌<◌, ◌≤◌, ◌^◌, [], ◌∷◌, ◌++◌, length, get_or, map, slice_set, replicate, IfOk, OnOk};
 ghost use Rattle.std.specs.List.{All};
-ghost use Rattle.proto_names.specs.Linking.{meant_by, all_meant, references_to};
+ghost use Rattle.proto_names.specs.Linking.{meant_in_file, all_meant, references_to};
 
 use crate::link::RefId;
 use crate::references::Meant;
@@ -45,7 +45,7 @@ fn put_all(references: &mut Vec<Vec<RefId>>, file: u32, meant: &[Meant]) -> Resu
     ensures len { OnOk result (length references.new.items ≡ length references.old.items) }
     ensures each { OnOk result ((row : ℕ) → get_or (map (λ v. v.items) references.new.items) row []
         ≡ get_or (map (λ v. v.items) references.old.items) row []
-        ++ references_to row (map (meant_by file) meant.now)) }
+        ++ references_to row (map (meant_in_file file) meant.now)) }
 {
     for one in meant {
         let reference = RefId {

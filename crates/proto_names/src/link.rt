@@ -10,7 +10,7 @@ ghost use Rattle.proto_tree.specs.References.{dotted};
 ghost use Rattle.proto_meaning.specs.Joined.{joined, ArePlain};
 ghost use Rattle.proto_names.specs.LinkOfFiles.{IsLinkOf};
 ghost use Rattle.proto_meaning.specs.Linked.{is_package};
-ghost use Rattle.proto_names.specs.Linking.{name_of_row, name_at, text_at, file_at, token_at, row_at, meant_at, shows_text, is_visible};
+ghost use Rattle.proto_names.specs.Linking.{name_of_row, name_at, name_text, declaring_file, declaring_token, row_at, meant_at, shows_text, is_visible};
 ghost use Rattle.proto_files.specs.FilesRead.{ReadOf, AreRead};
 ghost use Rattle.proto_imports.specs.Links.{names_of_files};
 ghost use Rattle.proto_meaning.specs.Names.{meaning};
@@ -90,7 +90,7 @@ impl Model for Link {
 }
 
 /// The row with this index, but for a package's.
-fn declared(rows: &[Row], index: usize) -> Option<&Row>
+fn declared_row(rows: &[Row], index: usize) -> Option<&Row>
     ensures { option_map (λ r. r.now) result ≡ option_and_then
         (λ r. if is_package r.symbol.kind then None else Some r) (slice_get rows.now index) }
 {
@@ -107,7 +107,7 @@ fn shows(table: &Table, seen: &[bool], name: &str) -> bool
     requires { IsTable table.now }
     ensures { result ≡ shows_text seen.now name.now (map name_of_row table.now.rows.items) }
 {
-    match table.named(name) {
+    match table.index_of_name(name) {
         Some(row) => table.rows[row].is_seen(seen),
         None => false,
     }
@@ -152,18 +152,18 @@ impl Link {
 
     /// The name with this text, if there is one. Takes no memory.
     pub fn symbol(&self, name: &str) -> Option<SymbolId>
-        ensures some { IfSome result (λ id. text_at self.now id.row ≡ Some name.now) }
-        ensures none { IfNone result ((row : ℕ) → text_at self.now row ≢ Some name.now) }
+        ensures some { IfSome result (λ id. name_text self.now id.row ≡ Some name.now) }
+        ensures none { IfNone result ((row : ℕ) → name_text self.now row ≢ Some name.now) }
         ensures once { (i j : ℕ) (text : List ℕ)
-            → text_at self.now i ≡ Some text → text_at self.now j ≡ Some text → i ≡ j }
+            → name_text self.now i ≡ Some text → name_text self.now j ≡ Some text → i ≡ j }
     {
-        let row = self.table.named(name)?;
+        let row = self.table.index_of_name(name)?;
         Some(SymbolId { row })
     }
 
     /// Its text; none where this link has no such name.
     pub fn name_of(&self, id: SymbolId) -> Option<&str>
-        ensures { option_map (λ text. text.now) result ≡ text_at self.now id.row }
+        ensures { option_map (λ text. text.now) result ≡ name_text self.now id.row }
     {
         let row = self.table.rows.get(id.row)?;
         Some(row.name.as_str())
@@ -180,18 +180,18 @@ impl Link {
     /// The number of the file that declares it; none where this link has no such name, and for a
     /// package, which many may declare.
     pub fn file_of(&self, id: SymbolId) -> Option<u32>
-        ensures exact { result ≡ file_at self.now id.row }
+        ensures exact { result ≡ declaring_file self.now id.row }
         ensures declared { All (λ n. 0 < length n.files) self.now.names }
     {
-        let row = declared(&self.table.rows, id.row)?;
+        let row = declared_row(&self.table.rows, id.row)?;
         Some(row.symbol.file)
     }
 
     /// The index of the token that it is declared at; none where `file_of` answers none.
     pub fn token_of(&self, id: SymbolId) -> Option<u32>
-        ensures { result ≡ token_at self.now id.row }
+        ensures { result ≡ declaring_token self.now id.row }
     {
-        let row = declared(&self.table.rows, id.row)?;
+        let row = declared_row(&self.table.rows, id.row)?;
         Some(row.symbol.token)
     }
 
@@ -208,7 +208,7 @@ impl Link {
 
     /// What the reference means that begins at this token of the file; none where none begins
     /// there. Takes no memory.
-    pub fn meant(&self, file: u32, token: u32) -> Option<SymbolId>
+    pub fn meaning(&self, file: u32, token: u32) -> Option<SymbolId>
         ensures { option_map (λ id. id.row) result ≡ meant_at self.now file token }
     {
         let meant = self.meant.get(file as usize)?;
@@ -258,7 +258,7 @@ impl Link {
         ensures within { IfSome result (λ id. id.row < length self.now.names) }
         ensures meant { (reads : List ReadOf) → AreRead files.now reads
             → (path : List (List ℕ)) → ArePlain path → scope.now ≡ joined path
-            → option_and_then (λ id. text_at self.now id.row) result
+            → option_and_then (λ id. name_text self.now id.row) result
             ≡ option_map joined (meaning (names_of_files files.now reads)
             (reference_in files.now reads file path reference.now)) }
         ensures none { (reads : List ReadOf) → AreRead files.now reads

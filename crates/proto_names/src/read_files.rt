@@ -4,7 +4,7 @@ ghost use Rattle.std.specs.Prelude.{◌≡◌, List, length, map, IfOk};
 ghost use Rattle.std.specs.List.{All};
 ghost use Rattle.proto_listing.specs.FromTree.{items_in};
 ghost use Rattle.proto_meaning.specs.Grown.{at};
-ghost use Rattle.proto_imports.specs.Importing.{AreRising, all_asked};
+ghost use Rattle.proto_imports.specs.Importing.{TokensAreRising, all_asked};
 ghost use Rattle.proto_table.specs.LastWords.{named_as};
 ghost use Rattle.proto_files.specs.FilesRead.{ReadOf, AreRead, read_at};
 ghost use Rattle.proto_imports.specs.Links.{AreListings, all_wanted, names_in, text_of};
@@ -16,11 +16,11 @@ ghost use Rattle.proto_table.specs.Spelled.{AreSpelled, all_named, named_in};
 use proto_faults::NoMemory;
 use proto_files::{Files, Words, are_read};
 use proto_imports::import::WrittenImport;
-use proto_imports::written::written;
+use proto_imports::written::written_imports;
 use proto_listing::file_listing::list_file;
 use proto_listing::listing::Listing;
 use proto_listing::wanted::imports;
-use proto_table::last_words::spelled;
+use proto_table::last_words::spelled_names;
 use proto_table::spelled::Spelled;
 use std::alloc::Global;
 
@@ -56,7 +56,7 @@ pub(crate) fn all_spelled(
     let mut all = Vec::new(alloc);
     for file in 0..files.len() {
         let words = Words::new(files, file);
-        all.push(spelled(alloc, &words, &listings[file].declared)?)?;
+        all.push(spelled_names(alloc, &words, &listings[file].declared)?)?;
     }
     Ok(all)
 }
@@ -64,7 +64,7 @@ pub(crate) fn all_spelled(
 /// The imports of each file with their paths.
 pub fn all_written(alloc: Global, files: &Files) -> Result<Vec<Vec<WrittenImport>>, NoMemory>
     ensures len { IfOk result (λ ws. length ws.items ≡ length files.now) }
-    ensures rising { IfOk result (λ ws. All (λ v. AreRising v.items) ws.items) }
+    ensures rising { IfOk result (λ ws. All (λ v. TokensAreRising v.items) ws.items) }
     ensures asked { IfOk result (λ ws. (reads : List ReadOf) → AreRead files.now reads → all_asked 0
         (map (λ v. v.items) ws.items) ≡ all_wanted (text_of files.now reads) 0 reads) }
 {
@@ -72,7 +72,7 @@ pub fn all_written(alloc: Global, files: &Files) -> Result<Vec<Vec<WrittenImport
     for file in 0..files.len() {
         let words = Words::new(files, file);
         let wanted = imports(alloc, files.tree(file))?;
-        all.push(written(alloc, &words, &wanted)?)?;
+        all.push(written_imports(alloc, &words, &wanted)?)?;
     }
     Ok(all)
 }

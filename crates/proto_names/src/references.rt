@@ -7,7 +7,7 @@ ghost use Rattle.proto_text.specs.Texts.{word_at};
 ghost use Rattle.proto_tree.specs.References.{dotted, first_of};
 ghost use Rattle.proto_meaning.specs.Joined.{joined, ArePlain};
 ghost use Rattle.proto_meaning.specs.Names.{Reference as NameReference, Workspace, meaning};
-ghost use Rattle.proto_names.specs.Referring.{first_token, reference_by, kind_flaw, row_flaw, AreMeant, IsReadBy, IsReferenceError};
+ghost use Rattle.proto_names.specs.Referring.{first_token_of_use, reference_by, kind_flaw, row_flaw, AreMeant, IsReadBy, IsReferenceError};
 ghost use Rattle.proto_table.specs.Resolved.{IsAsked};
 ghost use Rattle.proto_table.specs.Tables.{names_of, IsTable};
 
@@ -67,7 +67,7 @@ pub(crate) fn meanings(
     ensures meant { IfOk result (λ ms. (w : Workspace)
         (names : List (List (List ℕ))) → IsReadBy table.now seen.now rows.now names file w
         → AreMeant table.now w (map (reference_by file names (word_at words.now)) uses.now)
-        (map first_token uses.now) ms.items) }
+        (map first_token_of_use uses.now) ms.items) }
     ensures fault { IfErr result (λ e. (w : Workspace)
         (names : List (List (List ℕ))) → IsReadBy table.now seen.now rows.now names file w
         → IsReferenceError w (reference_by file names (word_at words.now)) file uses.now e) }

@@ -5,7 +5,7 @@ ghost use Rattle.proto_meaning.specs.Joined.{joined, ArePlain};
 ghost use Rattle.proto_names.specs.Scopes.{IsScopeFront};
 ghost use Rattle.proto_table.specs.Tables.{IsTable};
 
-use proto_table::table::{Table, cut};
+use proto_table::table::{Table, split_at_dot};
 
 /// The number of the longest front of a scope, as text, that is a name of the table; 0 where none
 /// is. The number of a row is one more than its index.
@@ -18,7 +18,7 @@ pub(crate) fn scope_number(table: &Table, scope: &str) -> usize
 {
     let mut number = 0;
     let mut rest = scope;
-    while let Some((word, behind)) = cut(rest) {
+    while let Some((word, behind)) = split_at_dot(rest) {
         match table.find(number, word) {
             Some(row) => number = row + 1,
             None => return number,

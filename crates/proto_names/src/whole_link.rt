@@ -3,10 +3,10 @@
 ghost use Rattle.std.specs.Prelude.{◌≡◌, ℕ, ◌<◌, List, [], length, get_or, map, IfOk, IfErr};
 ghost use Rattle.std.specs.List.{All};
 ghost use Rattle.proto_files.specs.Faults.{HasNoFault};
-ghost use Rattle.proto_faults.specs.FaultTable.{number_of as number_of_kind};
+ghost use Rattle.proto_faults.specs.FaultTable.{kind_number as number_of_kind};
 ghost use Rattle.proto_meaning.specs.Faults.{Fault as FaultAtToken, ReferenceFault};
 ghost use Rattle.proto_names.specs.FileReferences.{AreFileMeant, flaw_number};
-ghost use Rattle.proto_imports.specs.Importing.{all_imports, number_of};
+ghost use Rattle.proto_imports.specs.Importing.{all_imports, import_flaw_number};
 ghost use Rattle.proto_imports.specs.LinkErrors.{IsLinkError};
 ghost use Rattle.proto_names.specs.LinkOfFiles.{AreNamesOf, HasNoImportFault, HasNoNameFault, IsLinkOf};
 ghost use Rattle.proto_imports.specs.Links.{AreListings, LinkFaults, link_imports, link_skeleton, names_of_files, text_of};
@@ -31,7 +31,7 @@ use std::alloc::Global;
 
 /// The kind of the fault that an import has.
 fn import_kind(flaw: ImportFlaw) -> FaultKind
-    ensures { number_of_kind result ≡ number_of flaw }
+    ensures { number_of_kind result ≡ import_flaw_number flaw }
 {
     match flaw {
         ImportFlaw::Unknown => FaultKind::UnknownImport,

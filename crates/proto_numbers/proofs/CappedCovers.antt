@@ -1,12 +1,12 @@
 -- Flaws that have no effect on the least: those at whose token another stands with a smaller number (for the crates above).
 use Rattle.std.proofs.Common.{◌≡◌, ◌⊎◌, ℕ, ◌<◌, nat_lt, Bool, true, false, ◌&&◌, ◌||◌, ◌==◌, if◌then◌else◌, List, [], ◌∷◌, ◌++◌, map, flat_map, Option, Some, None, refl, sym, ◌∙◌, ap, subst, inl, inr, arith, Contains}
-use Rattle.proto_faults.proofs.Common.{list_any, or_cases, nat_tests, Contains-append_cases, Contains-append_left, Contains-append_right, list_any-append, contains_cases, contains_head, contains_later, number_of}
+use Rattle.proto_faults.proofs.Common.{list_any, or_cases, nat_tests, Contains-append_cases, Contains-append_left, Contains-append_right, list_any-append, contains_cases, contains_head, contains_later, kind_number}
 use Rattle.proto_faults.specs.declared.fault.FaultKind.{FaultKind}
-use Rattle.proto_numbers.specs.Common.{Flaw, flaw, flaw_if, earlier, marked, comes_before, IsLeast}
+use Rattle.proto_numbers.specs.Common.{Flaw, flaw, flaw_if, earlier, marked, comes_before, IsLeastOfFlaws}
 
 -- another one at its token has a smaller number
 abbrev pub Beneath : List Flaw → Flaw → Type 0
-Beneath zs x = (y : Flaw) × Contains zs y × (y.token ≡ x.token) × (number_of y.kind < number_of x.kind)
+Beneath zs x = (y : Flaw) × Contains zs y × (y.token ≡ x.token) × (kind_number y.kind < kind_number x.kind)
 
 -- what is in xs and not in ys has no effect beside zs
 pub record Covered (zs xs ys : List Flaw) : Type 0 where
@@ -58,8 +58,8 @@ no_later s t u m n k e l h = grind (arith, nat_tests)
 
 -- the least of one list is the least of the other
 module _ (xs ys : List Flaw) (forth : Covered ys xs ys) (back : Covered xs ys xs) where
-  clash : (x l : Flaw) → x.token ≡ l.token → number_of x.kind < number_of l.kind → comes_before x l ≡ false → ⊥
-  clash x l e s h = smaller_clash x.token l.token (number_of x.kind) (number_of l.kind) e s h
+  clash : (x l : Flaw) → x.token ≡ l.token → kind_number x.kind < kind_number l.kind → comes_before x l ≡ false → ⊥
+  clash x l e s h = smaller_clash x.token l.token (kind_number x.kind) (kind_number l.kind) e s h
 
   under_least : (l : Flaw) → ((x : Flaw) → Contains xs x → comes_before x l ≡ false) → Beneath ys l → ⊥
   under_least l least b = go (back.each b.0 b.1)
@@ -68,7 +68,7 @@ module _ (xs ys : List Flaw) (forth : Covered ys xs ys) (back : Covered xs ys xs
       go (inl d) = clash b.0 l b.2 b.3 (least b.0 d)
       go (inr a) = let m = a.3 in let n = b.3 in clash a.0 l (a.2 ∙ b.2) (omega (arith, m, n)) (least a.0 a.1)
 
-  pub least_kept : (r : Option Flaw) → IsLeast (Contains xs) r → IsLeast (Contains ys) r
+  pub least_kept : (r : Option Flaw) → IsLeastOfFlaws (Contains xs) r → IsLeastOfFlaws (Contains ys) r
   least_kept None h = λ x c. go x (back.each x c)
     where
       go : (x : Flaw) → Contains xs x ⊎ Beneath xs x → ⊥
@@ -82,7 +82,7 @@ module _ (xs ys : List Flaw) (forth : Covered ys xs ys) (back : Covered xs ys xs
 
       other : (x : Flaw) → Contains xs x ⊎ Beneath xs x → comes_before x l ≡ false
       other x (inl d) = h.1 x d
-      other x (inr b) = no_later b.0.token x.token l.token (number_of b.0.kind) (number_of x.kind) (number_of l.kind) b.2 b.3 (h.1 b.0 b.1)
+      other x (inr b) = no_later b.0.token x.token l.token (kind_number b.0.kind) (kind_number x.kind) (kind_number l.kind) b.2 b.3 (h.1 b.0 b.1)
 
 -- ---- single flaws
 

@@ -6,7 +6,7 @@ use Rattle.proto_tree.specs.declared.tree.RangeEnd.{RangeEnd}
 use Rattle.proto_tree.specs.declared.tree.RangeEnd.TheVariants as range_end
 use Rattle.proto_tree.specs.declared.tree.UpTo.{UpTo}
 use Rattle.proto_tree.specs.declared.tree.Signed.{Signed}
-use Rattle.proto_parts.proofs.Common.{past, number_of, Scene, text, up_to, number_at, signed_at}
+use Rattle.proto_parts.proofs.Common.{past, number_value, Scene, text, up_to_cap, number_at, signed_value}
 use Rattle.proto_numbers.specs.NumberFlaws.{is_within, is_field_number, is_value_number, most_field, least_value, most_value, bound_of, end_of}
 
 -- ---- the order
@@ -98,13 +98,13 @@ deep_alike (suc n) (suc k) l r = record { under = λ m h. deep_under n m l h ∙
 
 -- each number is the same with one cap and the other, as far as tests below the cap tell
 pub record AlikeCaps (c d : Option ℕ) : Type 0 where
-  pub plain : (n : ℕ) → Alike (pos (up_to c n)) (pos (up_to d n))
-  pub negative : (n : ℕ) → Alike (neg_ℤ (pos (up_to c n))) (neg_ℤ (pos (up_to d n)))
+  pub plain : (n : ℕ) → Alike (pos (up_to_cap c n)) (pos (up_to_cap d n))
+  pub negative : (n : ℕ) → Alike (neg_ℤ (pos (up_to_cap c n))) (neg_ℤ (pos (up_to_cap d n)))
 
 pub caps_back : (c d : Option ℕ) → AlikeCaps c d → AlikeCaps d c
 caps_back c d h = record {
-  plain = λ n. alike_back (pos (up_to c n)) (pos (up_to d n)) (h.plain n);
-  negative = λ n. alike_back (neg_ℤ (pos (up_to c n))) (neg_ℤ (pos (up_to d n))) (h.negative n);
+  plain = λ n. alike_back (pos (up_to_cap c n)) (pos (up_to_cap d n)) (h.plain n);
+  negative = λ n. alike_back (neg_ℤ (pos (up_to_cap c n))) (neg_ℤ (pos (up_to_cap d n))) (h.negative n);
 }
 
 capped_plain : (n : ℕ) → Alike (pos (min past n)) (pos n)
@@ -129,12 +129,12 @@ capped scene c = record scene { cap = c }
 
 module _ (scene : Scene) (c d : Option ℕ) (caps : AlikeCaps c d) where
   pub alike_at : (token : ℕ) → Alike (number_at (capped scene c) token) (number_at (capped scene d) token)
-  alike_at token = caps.plain (number_of (text scene token))
+  alike_at token = caps.plain (number_value (text scene token))
 
-  pub alike_signed : (s : Signed) → Alike (signed_at (capped scene c) s) (signed_at (capped scene d) s)
-  alike_signed s = go (is_some s.minus) (number_of (text scene s.number))
+  pub alike_signed : (s : Signed) → Alike (signed_value (capped scene c) s) (signed_value (capped scene d) s)
+  alike_signed s = go (is_some s.minus) (number_value (text scene s.number))
     where
-      go : (b : Bool) (n : ℕ) → Alike (if b then neg_ℤ (pos (up_to c n)) else pos (up_to c n)) (if b then neg_ℤ (pos (up_to d n)) else pos (up_to d n))
+      go : (b : Bool) (n : ℕ) → Alike (if b then neg_ℤ (pos (up_to_cap c n)) else pos (up_to_cap c n)) (if b then neg_ℤ (pos (up_to_cap d n)) else pos (up_to_cap d n))
       go true n = caps.negative n
       go false n = caps.plain n
 

@@ -1,8 +1,8 @@
 -- Lists of flaws: tokens that are marked, keys that repeat, and the least flaw (for the crates above).
 use Rattle.std.proofs.Common.{◌≡◌, ◌≢◌, ℕ, zero, suc, ◌+◌, ◌<◌, ◌≤◌, Bool, true, false, ◌||◌, ◌&&◌, ◌==◌, List, [], ◌∷◌, ◌++◌, length, get_or, take, drop, map, flat_map, Option, Some, None, refl, sym, ap, subst, ◌∙◌, if◌then◌else◌, append_assoc, inl, inr, ◌⊎◌, arith, nat_lt, not, Contains, eqb-true, eq-eqb, ltb-false, le-ltb, take_all, take-append-drop}
-use Rattle.proto_faults.proofs.Common.{list_any, cases_Bool, cases_lt, flat_map_more, take_more, Contains-append_left, Contains-append_right, Contains-append_cases, list_any-append, number_of, contains_cases}
+use Rattle.proto_faults.proofs.Common.{list_any, cases_Bool, cases_lt, flat_map_more, take_more, Contains-append_left, Contains-append_right, Contains-append_cases, list_any-append, kind_number, contains_cases}
 use Rattle.proto_faults.specs.declared.fault.FaultKind.{FaultKind}
-use Rattle.proto_numbers.specs.Common.{Flaw, flaw_if, earlier, after_earlier, marked, comes_before, IsLeast}
+use Rattle.proto_numbers.specs.Common.{Flaw, flaw_if, earlier, after_earlier, marked, comes_before, IsLeastOfFlaws}
 
 -- ---- marked tokens
 
@@ -131,10 +131,10 @@ not_before t n u m v k (inr a) (inr b) = inr (omega (arith, a.0, b.0), omega (ar
 -- no later one is before an earlier one
 before_trans : (a b c : Flaw) → comes_before b a ≡ false → comes_before c b ≡ false → comes_before c a ≡ false
 before_trans a b c h k =
-    encode _ _ _ _ (not_before a.token (number_of a.kind) b.token (number_of b.kind) c.token (number_of c.kind) (decode _ _ _ _ h) (decode _ _ _ _ k))
+    encode _ _ _ _ (not_before a.token (kind_number a.kind) b.token (kind_number b.kind) c.token (kind_number c.kind) (decode _ _ _ _ h) (decode _ _ _ _ k))
 
 before_itself : (a : Flaw) → comes_before a a ≡ false
-before_itself a = encode a.token (number_of a.kind) a.token (number_of a.kind) (inr (refl, omega arith))
+before_itself a = encode a.token (kind_number a.kind) a.token (kind_number a.kind) (inr (refl, omega arith))
 
 either : (t n u m : ℕ) → NotBefore u m t n ⊎ NotBefore t n u m
 either t n u m = elim (cases_lt t u) [
@@ -149,9 +149,9 @@ either t n u m = elim (cases_lt t u) [
 ]
 
 before_back : (a b : Flaw) → comes_before a b ≡ true → comes_before b a ≡ false
-before_back a b h = elim (either a.token (number_of a.kind) b.token (number_of b.kind)) [
-  | inl back ↦ encode b.token (number_of b.kind) a.token (number_of a.kind) back
-  | inr forth ↦ absurd (apart (comes_before a b) h (encode a.token (number_of a.kind) b.token (number_of b.kind) forth))
+before_back a b h = elim (either a.token (kind_number a.kind) b.token (kind_number b.kind)) [
+  | inl back ↦ encode b.token (kind_number b.kind) a.token (kind_number a.kind) back
+  | inr forth ↦ absurd (apart (comes_before a b) h (encode a.token (kind_number a.kind) b.token (kind_number b.kind) forth))
 ]
   where
     apart : (x : Bool) → x ≡ true → x ≡ false → ⊥
@@ -173,7 +173,7 @@ front_or_end xs x y c = elim (Contains-append_cases xs (x ∷ []) y c) [
 ]
 
 -- the least of none and one more is that one
-pub first_is_least : (xs : List Flaw) (x : Flaw) → IsLeast (Contains xs) None → IsLeast (Contains (xs ++ x ∷ [])) (Some x)
+pub first_is_least : (xs : List Flaw) (x : Flaw) → IsLeastOfFlaws (Contains xs) None → IsLeastOfFlaws (Contains (xs ++ x ∷ [])) (Some x)
 first_is_least xs x h = (
   at_end xs x,
   λ y c. elim (front_or_end xs x y c) [
@@ -183,7 +183,7 @@ first_is_least xs x h = (
 )
 
 -- one that comes before the least is the least
-pub lower_is_least : (xs : List Flaw) (least x : Flaw) → IsLeast (Contains xs) (Some least) → comes_before x least ≡ true → IsLeast (Contains (xs ++ x ∷ [])) (Some x)
+pub lower_is_least : (xs : List Flaw) (least x : Flaw) → IsLeastOfFlaws (Contains xs) (Some least) → comes_before x least ≡ true → IsLeastOfFlaws (Contains (xs ++ x ∷ [])) (Some x)
 lower_is_least xs least x h lower = (
   at_end xs x,
   λ y c. elim (front_or_end xs x y c) [
@@ -193,7 +193,7 @@ lower_is_least xs least x h lower = (
 )
 
 -- another leaves the least as it is
-pub least_stays : (xs : List Flaw) (least x : Flaw) → IsLeast (Contains xs) (Some least) → comes_before x least ≡ false → IsLeast (Contains (xs ++ x ∷ [])) (Some least)
+pub least_stays : (xs : List Flaw) (least x : Flaw) → IsLeastOfFlaws (Contains xs) (Some least) → comes_before x least ≡ false → IsLeastOfFlaws (Contains (xs ++ x ∷ [])) (Some least)
 least_stays xs least x h not_lower = (
   in_front xs x least h.0,
   λ y c. elim (front_or_end xs x y c) [
@@ -202,22 +202,22 @@ least_stays xs least x h not_lower = (
   ],
 )
 
-pub least_more : (xs : List Flaw) (i : ℕ) (d x : Flaw) (next : Option Flaw) → i < length xs → x ≡ get_or xs i d → IsLeast (Contains (take i xs ++ x ∷ [])) next → IsLeast (Contains (take (i + 1) xs)) next
+pub least_more : (xs : List Flaw) (i : ℕ) (d x : Flaw) (next : Option Flaw) → i < length xs → x ≡ get_or xs i d → IsLeastOfFlaws (Contains (take i xs ++ x ∷ [])) next → IsLeastOfFlaws (Contains (take (i + 1) xs)) next
 least_more xs i d x next lt is h =
-    subst (λ (ys : List Flaw). IsLeast (Contains ys) next) (ap (λ (y : Flaw). take i xs ++ y ∷ []) is ∙ sym (take_more xs i d lt)) h
+    subst (λ (ys : List Flaw). IsLeastOfFlaws (Contains ys) next) (ap (λ (y : Flaw). take i xs ++ y ∷ []) is ∙ sym (take_more xs i d lt)) h
 
 -- ---- as many flags as tokens
 
-pub length_map : {A B : Type 0} (f : A → B) (xs : List A) → length (map f xs) ≡ length xs
-length_map f [] = refl
-length_map f (x ∷ xs) = ap suc (length_map f xs)
+pub length_of_map : {A B : Type 0} (f : A → B) (xs : List A) → length (map f xs) ≡ length xs
+length_of_map f [] = refl
+length_of_map f (x ∷ xs) = ap suc (length_of_map f xs)
 
 pub flags_length : {A K : Type 0} (so : K → K → Bool) (token : A → ℕ) (key : A → K) (xs : List A) (tokens : List ℕ) (flags : List Bool) → tokens ≡ map token xs → flags ≡ after_earlier so (map key xs) → length tokens ≡ length flags
 flags_length so token key xs tokens flags e h =
-    ap length e ∙ length_map token xs ∙ sym (length_map key xs) ∙ sym (repeats_length so [] (map key xs)) ∙ ap length (sym h)
+    ap length e ∙ length_of_map token xs ∙ sym (length_of_map key xs) ∙ sym (repeats_length so [] (map key xs)) ∙ ap length (sym h)
 
 pub flags_length_of : {A : Type 0} (so : A → A → Bool) (token : A → ℕ) (xs : List A) (tokens : List ℕ) (flags : List Bool) → tokens ≡ map token xs → flags ≡ after_earlier so xs → length tokens ≡ length flags
-flags_length_of so token xs tokens flags e h = ap length e ∙ length_map token xs ∙ sym (repeats_length so [] xs) ∙ ap length (sym h)
+flags_length_of so token xs tokens flags e h = ap length e ∙ length_of_map token xs ∙ sym (repeats_length so [] xs) ∙ ap length (sym h)
 
 -- the flags of one element more
 pub earlier_more : {K : Type 0} (so : K → K → Bool) (xs : List K) (i : ℕ) (d : K) (flags more : List Bool) (flag : Bool) → i < length xs → flags ≡ after_earlier so (take i xs) → flag ≡ list_any (λ p. so p (get_or xs i d)) (take i xs) → more ≡ flags ++ flag ∷ [] → more ≡ after_earlier so (take (i + 1) xs)

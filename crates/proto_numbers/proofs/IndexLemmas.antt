@@ -9,7 +9,7 @@ use Rattle.std.proofs.Math.ListN.{get_or-append}
 use Rattle.std.proofs.Math.Seq.{get_or-append_seam}
 use Rattle.std.proofs.lemmas.Map.Views.{any-filter_same}
 use Rattle.proto_parts.specs.declared.ranges.RangeAt.{RangeAt}
-use Rattle.proto_numbers.specs.Common.{is_inside, share, has_numbers, AreInOrder, reach, reaches, AreRaised, IsIndexOf}
+use Rattle.proto_numbers.specs.Common.{is_inside, share, has_numbers, RangesAreInOrder, reach, range_reaches, AreRaised, IsRangeIndexOf}
 
 le_trans : (a b c : ℤ) → int_le a b ≡ true → int_le b c ≡ true → int_le a c ≡ true
 le_trans a b c h k = grind (arith, ints)
@@ -24,12 +24,12 @@ not_less a b h = elim (cases_Bool (int_lt b a)) [
 
 pub in_order_from_sort : {F : Type 0} {g : Mut F (Bor RangeAt × Unit {0}) ℤ} {f : F} (rs : List RangeAt)
     → ((key : RangeAt → ℤ) → ComputesKey g key f → IsSortedByKey key int_cmp rs)
-    → ((a : Bor RangeAt × Unit {0}) (r : ℤ) (f' : F) → Called g f a r f' → (r ≡ a.0.now.first) × (f' ≡ f)) → AreInOrder rs
+    → ((a : Bor RangeAt × Unit {0}) (r : ℤ) (f' : F) → Called g f a r f' → (r ≡ a.0.now.first) × (f' ≡ f)) → RangesAreInOrder rs
 in_order_from_sort {g = g} {f = f} rs up h =
     let sorted = up (λ r. r.first) (always_returns_same g (λ a r. r ≡ a.0.now.first) f h) in
     λ i j d le lt. not_less (get_or rs i d).first (get_or rs j d).first (sorted_far (λ x y. is_lt (int_cmp x.first y.first)) (ranks_by int_cmp_total (λ (r : RangeAt). r.first)) rs sorted i j d le lt)
 
-pub partitioned : (rs : List RangeAt) (n : ℤ) → AreInOrder rs → IsPartitionedBy (λ r. int_le r.first n) rs
+pub partitioned : (rs : List RangeAt) (n : ℤ) → RangesAreInOrder rs → IsPartitionedBy (λ r. int_le r.first n) rs
 partitioned rs n up i j d le lt h = le_trans _ _ n (up i j d le lt) h
 
 -- ---- raised ends
@@ -65,12 +65,12 @@ raised_more rs raised x new h e l =
     at_end ys y d k same = ap (λ n. get_or (ys ++ y ∷ []) n d) same ∙ get_or-append_seam ys y [] d
 
 pub most_turn : (rs : List RangeAt) (i : ℕ) (d : RangeAt) (new : RangeAt) (most : Option RangeAt) → i < length rs
-    → ((n : ℤ) → reaches n most ≡ reach n (take i rs)) → ((n : ℤ) → int_le n new.last ≡ (reaches n most || int_le n (get_or rs i d).last)) → (n : ℤ) → int_le n new.last ≡ reach n (take (i + 1) rs)
+    → ((n : ℤ) → range_reaches n most ≡ reach n (take i rs)) → ((n : ℤ) → int_le n new.last ≡ (range_reaches n most || int_le n (get_or rs i d).last)) → (n : ℤ) → int_le n new.last ≡ reach n (take (i + 1) rs)
 most_turn rs i d new most lt m is n = is n ∙ ap (λ (b : Bool). b || int_le n (get_or rs i d).last) (m n) ∙ sym (list_any_more (λ (r : RangeAt). int_le n r.last) rs i d lt)
 
 pub raised_turn : (rs : List RangeAt) (i : ℕ) (d : RangeAt) (before after : List RangeAt) (new : RangeAt) (most : Option RangeAt) → i < length rs
-    → AreRaised (take i rs) before → ((n : ℤ) → reaches n most ≡ reach n (take i rs)) → after ≡ before ++ new ∷ []
-    → new.first ≡ (get_or rs i d).first → ((n : ℤ) → int_le n new.last ≡ (reaches n most || int_le n (get_or rs i d).last)) → AreRaised (take (i + 1) rs) after
+    → AreRaised (take i rs) before → ((n : ℤ) → range_reaches n most ≡ reach n (take i rs)) → after ≡ before ++ new ∷ []
+    → new.first ≡ (get_or rs i d).first → ((n : ℤ) → int_le n new.last ≡ (range_reaches n most || int_le n (get_or rs i d).last)) → AreRaised (take (i + 1) rs) after
 raised_turn rs i d before after new most lt h m e first last =
     subst (AreRaised (take (i + 1) rs)) (sym e)
     (subst (λ (ys : List RangeAt). AreRaised ys (before ++ new ∷ [])) (sym (take_more rs i d lt))
@@ -149,15 +149,15 @@ found_by_index xs index r d place has raised bound point = both _ _ forth back
             let some : 0 < place = omega (arith, low) in
             true_and _ _ two.0 (true_and _ _ (lt-ltb 0 place some) (last_is some ∙ list_any_at (λ (x : RangeAt). int_le r.first x.last) (take place xs) k x (omega (arith, low, lt, length-take place xs)) (ap (λ (z : RangeAt). int_le r.first z.last) (get_or-take place xs k x low ∙ same) ∙ three.1)))
 
-pub shares_is : (rs index : List RangeAt) (r d : RangeAt) (place : ℕ) → IsIndexOf rs index → place ≤ length index
-    → (AreInOrder index → IsPartitionPoint (λ x. int_le x.first r.last ≡ true) (λ x. int_le x.first r.last ≡ false) index place)
+pub shares_is : (rs index : List RangeAt) (r d : RangeAt) (place : ℕ) → IsRangeIndexOf rs index → place ≤ length index
+    → (RangesAreInOrder index → IsPartitionPoint (λ x. int_le x.first r.last ≡ true) (λ x. int_le x.first r.last ≡ false) index place)
     → (has_numbers r && (nat_lt 0 place && int_le r.first (get_or index (place - 1) d).last)) ≡ list_any (λ x. share x r) rs
 shares_is rs index r d place is bound point =
     found_by_index is.sorted index r d place (λ x c. filter_has rs x (Contains-permutation _ _ x (IsPermutation-sym _ _ is.same) c)) is.raised bound (point order)
     ∙ sym (list_any-IsPermutation (λ x. share x r) (filter has_numbers rs) is.sorted is.same)
     ∙ any-filter_same (λ x. share x r) has_numbers true (λ x h. (and_true (has_numbers x) _ h).0) rs
   where
-    order : AreInOrder index
+    order : RangesAreInOrder index
     order i j d le lt = subst (λ (z : ℤ). int_le z (get_or index j d).first ≡ true) (sym (is.raised.first i d (omega (arith, le, lt, is.raised.len)))) (subst (λ (z : ℤ). int_le (get_or is.sorted i d).first z ≡ true) (sym (is.raised.first j d (omega (arith, lt, is.raised.len)))) (is.order i j d le (omega (arith, lt, is.raised.len))))
 
 pub is_begun : (b x : Bool) → b ≡ true → x ≡ (b && x)

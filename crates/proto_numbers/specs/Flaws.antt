@@ -3,7 +3,7 @@
 use Rattle.std.specs.Prelude.{◌≡◌, ℕ, Bool, false, ◌||◌, ◌&&◌, ◌==◌, nat_lt, if◌then◌else◌, List, [], ◌∷◌, ◌++◌, Option, Some, None}
 use Rattle.std.specs.List.{list_any}
 use Rattle.proto_faults.specs.declared.fault.FaultKind.{FaultKind}
-use Rattle.proto_faults.specs.FaultTable.{number_of}
+use Rattle.proto_faults.specs.FaultTable.{kind_number}
 use Rattle.proto_numbers.specs.declared.flaw.Flaw.{Flaw}
 
 -- a fault of the kind, at the token
@@ -36,9 +36,10 @@ marked kind (t ∷ ts) (b ∷ bs) = flaw_if b kind t ++ marked kind ts bs
 abbrev pub comes_before : Flaw → Flaw → Bool
 comes_before a b =
     nat_lt a.token b.token
-    || (a.token == b.token && nat_lt (number_of a.kind) (number_of b.kind))
+    || (a.token == b.token && nat_lt (kind_number a.kind) (kind_number b.kind))
 
 -- none of them holds, or this one does and no other comes before it
-abbrev pub IsLeast : (Flaw → Type 0) → Option Flaw → Type 0
-IsLeast holds None = (x : Flaw) → holds x → ⊥
-IsLeast holds (Some least) = holds least × ((x : Flaw) → holds x → comes_before x least ≡ false)
+abbrev pub IsLeastOfFlaws : (Flaw → Type 0) → Option Flaw → Type 0
+IsLeastOfFlaws holds None = (x : Flaw) → holds x → ⊥
+IsLeastOfFlaws holds (Some least) =
+    holds least × ((x : Flaw) → holds x → comes_before x least ≡ false)

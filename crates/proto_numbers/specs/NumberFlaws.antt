@@ -10,7 +10,7 @@ use Rattle.proto_tree.specs.declared.tree.UpTo.{UpTo}
 use Rattle.proto_tree.specs.declared.tree.Signed.{Signed}
 use Rattle.proto_tree.specs.declared.tree.Value.{Value}
 use Rattle.proto_parts.specs.Parts.{FieldOf}
-use Rattle.proto_parts.specs.Scenes.{Scene, number_at, signed_at}
+use Rattle.proto_parts.specs.Scenes.{Scene, number_at, signed_value}
 use Rattle.proto_numbers.specs.declared.flaw.Flaw.{Flaw}
 use Rattle.proto_numbers.specs.declared.numbers.NumberAt.{NumberAt}
 use Rattle.proto_parts.specs.declared.ranges.RangeAt.{RangeAt}
@@ -23,19 +23,19 @@ abbrev pub number_of_field : Scene → FieldOf → NumberAt
 number_of_field scene f = record { token = f.number; number = number_at scene f.number }
 
 -- the minus before a number, where there is one, and else the number's own token
-abbrev pub first_of : Option ℕ → ℕ → ℕ
-first_of None number = number
-first_of (Some minus) number = minus
+abbrev pub number_start : Option ℕ → ℕ → ℕ
+number_start None number = number
+number_start (Some minus) number = minus
 
 -- the first token of a number that may have a minus
 abbrev pub first_of_signed : Signed → ℕ
-first_of_signed s = first_of s.minus s.number
+first_of_signed s = number_start s.minus s.number
 
 -- the number of a value of an enum, which may have a minus
 abbrev pub number_of_value : Scene → Value → NumberAt
 number_of_value scene v = record {
   token = first_of_signed v.number;
-  number = signed_at scene v.number;
+  number = signed_value scene v.number;
 }
 
 -- ---- ranges
@@ -74,8 +74,8 @@ range_of scene r = record {
 abbrev pub enum_range_of : Scene → Range Signed → RangeAt
 enum_range_of scene r = record {
   token = first_of_signed r.first;
-  first = signed_at scene r.first;
-  last = end_of most_value (signed_at scene) r.first r.up_to;
+  first = signed_value scene r.first;
+  last = end_of most_value (signed_value scene) r.first r.up_to;
 }
 
 -- ---- sentences

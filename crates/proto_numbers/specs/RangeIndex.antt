@@ -9,8 +9,8 @@ abbrev pub has_numbers : RangeAt → Bool
 has_numbers r = int_le r.first r.last
 
 -- ranges are in the order of their first numbers
-abbrev pub AreInOrder : List RangeAt → Type 0
-AreInOrder rs = (i j : ℕ) (d : RangeAt) → i ≤ j → j < length rs
+abbrev pub RangesAreInOrder : List RangeAt → Type 0
+RangesAreInOrder rs = (i j : ℕ) (d : RangeAt) → i ≤ j → j < length rs
     → int_le (get_or rs i d).first (get_or rs j d).first ≡ true
 
 -- one of the ranges ends at the number or past it
@@ -18,9 +18,9 @@ abbrev pub reach : ℤ → List RangeAt → Bool
 reach n rs = list_any (λ r. int_le n r.last) rs
 
 -- a range that is the last to end does so, where there is one
-abbrev pub reaches : ℤ → Option RangeAt → Bool
-reaches n None = false
-reaches n (Some r) = int_le n r.last
+abbrev pub range_reaches : ℤ → Option RangeAt → Bool
+range_reaches n None = false
+range_reaches n (Some r) = int_le n r.last
 
 -- the same ranges, each ending where it or one before it ends last
 pub record AreRaised (rs raised : List RangeAt) : Type 0 where
@@ -31,8 +31,8 @@ pub record AreRaised (rs raised : List RangeAt) : Type 0 where
       → int_le n (get_or raised k d).last ≡ reach n (take (k + 1) rs)
 
 -- an index of the ranges that have numbers
-pub record IsIndexOf (rs index : List RangeAt) : Type 0 where
+pub record IsRangeIndexOf (rs index : List RangeAt) : Type 0 where
   pub sorted : List RangeAt
   pub same : IsPermutation (filter has_numbers rs) sorted
-  pub order : AreInOrder sorted
+  pub order : RangesAreInOrder sorted
   pub raised : AreRaised sorted index

@@ -3,7 +3,7 @@
 ghost use Rattle.std.specs.Prelude.{◌≡◌, ◌++◌, ◌∷◌, [], List, length, IfOk, OnOk};
 ghost use Rattle.std.specs.List.{Contains, list_any};
 ghost use Rattle.proto_numbers.specs.declared.flaw.Flaw.{Flaw as FlawOf};
-ghost use Rattle.proto_numbers.specs.Flaws.{flaw_if, marked, after_earlier, comes_before, IsLeast};
+ghost use Rattle.proto_numbers.specs.Flaws.{flaw_if, marked, after_earlier, comes_before, IsLeastOfFlaws};
 
 use indexmap::IndexSet;
 use proto_faults::{FaultKind, NoMemory};
@@ -101,8 +101,8 @@ fn comes_before(a: Flaw, b: Flaw) -> bool
 
 /// The least of one more flaw and those of which a flaw is the least.
 fn lower(least: Option<Flaw>, flaw: Flaw) -> Option<Flaw>
-    ensures { (others : List FlawOf) → IsLeast
-        (Contains others) least → IsLeast (Contains (others ++ flaw ∷ [])) result }
+    ensures { (others : List FlawOf) → IsLeastOfFlaws
+        (Contains others) least → IsLeastOfFlaws (Contains (others ++ flaw ∷ [])) result }
 {
     match least {
         Some(other) => Some(if comes_before(flaw, other) {
@@ -116,7 +116,7 @@ fn lower(least: Option<Flaw>, flaw: Flaw) -> Option<Flaw>
 
 /// The least of some flaws, by token and number; none of none.
 pub fn least(found: &[Flaw]) -> Option<Flaw>
-    ensures { IsLeast (Contains found.now) result }
+    ensures { IsLeastOfFlaws (Contains found.now) result }
 {
     let mut least = None;
     for flaw in found {

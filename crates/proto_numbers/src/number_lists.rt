@@ -1,7 +1,7 @@
 //! The numbers and ranges of a message or an enum, in order.
 
 ghost use Rattle.std.specs.Prelude.{◌≡◌, map, IfOk};
-ghost use Rattle.proto_parts.specs.Scenes.{number_at, signed_at};
+ghost use Rattle.proto_parts.specs.Scenes.{number_at, signed_value};
 ghost use Rattle.proto_parts.specs.Views.{field_of};
 ghost use Rattle.proto_numbers.specs.NumberFlaws.{bound_of, enum_range_of, first_of_signed, most_field, most_value, number_of_field, number_of_value, range_of};
 
@@ -94,7 +94,7 @@ fn number_of_value(scene: &Scene, value: &Value) -> NumberAt
 {
     NumberAt {
         token: first_token(value.number),
-        number: scene.signed(value.number),
+        number: scene.signed_number(value.number),
     }
 }
 
@@ -115,10 +115,10 @@ pub fn value_numbers(
 }
 
 fn value_bound(scene: &Scene, end: &RangeEnd<Signed>) -> i128
-    ensures { result ≡ bound_of most_value (signed_at scene.now) end.now }
+    ensures { result ≡ bound_of most_value (signed_value scene.now) end.now }
 {
     match end {
-        RangeEnd::Number(number) => scene.signed(*number),
+        RangeEnd::Number(number) => scene.signed_number(*number),
         RangeEnd::Max(_) => MOST_VALUE,
     }
 }
@@ -126,7 +126,7 @@ fn value_bound(scene: &Scene, end: &RangeEnd<Signed>) -> i128
 fn enum_range_of(scene: &Scene, range: &Range<Signed>) -> RangeAt
     ensures { result ≡ enum_range_of scene.now range.now }
 {
-    let first = scene.signed(range.first);
+    let first = scene.signed_number(range.first);
     let last = match &range.up_to {
         Some(up_to) => value_bound(scene, &up_to.end),
         None => first,

@@ -6,7 +6,7 @@ ghost use Rattle.proto_faults.specs.declared.fault.FaultKind.TheVariants as kind
 ghost use Rattle.proto_numbers.specs.Flaws.{earlier, after_earlier, marked};
 ghost use Rattle.proto_numbers.specs.NumberFlaws.{is_within, is_field_number, is_value_number, is_sound_range, is_inside, most_value, least_value, outside, broken_ranges, reserved_numbers, share, overlaps, repeated_numbers, field_number_flaws};
 ghost use Rattle.proto_parts.specs.declared.ranges.RangeAt.{RangeAt as RangeOf};
-ghost use Rattle.proto_numbers.specs.RangeIndex.{IsIndexOf};
+ghost use Rattle.proto_numbers.specs.RangeIndex.{IsRangeIndexOf};
 
 use crate::flaw::{Flaw, add_if, add_marked, repeats};
 use crate::range_index::{has_numbers, index_of, shares};
@@ -113,7 +113,7 @@ fn alone(at: NumberAt) -> RangeAt
 
 /// Whether a number is inside one of the ranges that are indexed.
 pub fn is_covered(index: &[RangeAt], at: NumberAt) -> bool
-    ensures { (rs : List RangeOf) → IsIndexOf rs index.now
+    ensures { (rs : List RangeOf) → IsRangeIndexOf rs index.now
         → result ≡ list_any (is_inside at.number) rs }
 {
     shares(index, alone(at))
@@ -124,7 +124,7 @@ fn add_inside(
     index: &[RangeAt],
     numbers: &[NumberAt],
 ) -> Result<(), NoMemory>
-    ensures { OnOk result ((rs : List RangeOf) → IsIndexOf rs index.now
+    ensures { OnOk result ((rs : List RangeOf) → IsRangeIndexOf rs index.now
         → found.new.items ≡ found.old.items ++ reserved_numbers rs numbers.now) }
 {
     for at in numbers {
@@ -175,7 +175,7 @@ fn sharing_of_few(alloc: Global, ranges: &[RangeAt]) -> Result<Vec<bool>, NoMemo
 
 /// Whether a range shares a number with one that is indexed, or is known to share one.
 fn shares_again(index: &[RangeAt], range: RangeAt, is_known: bool) -> bool
-    ensures { (rs : List RangeOf) → IsIndexOf rs index.now
+    ensures { (rs : List RangeOf) → IsRangeIndexOf rs index.now
         → result ≡ (list_any (λ r. share r range) rs || is_known) }
 {
     shares(index, range) || is_known
@@ -190,7 +190,7 @@ fn add_sharing(
     known: &[bool],
 ) -> Result<(), NoMemory>
     requires { known.now ≡ after_earlier share ranges.now }
-    ensures { OnOk result ((rs : List RangeOf) → IsIndexOf rs index.now
+    ensures { OnOk result ((rs : List RangeOf) → IsRangeIndexOf rs index.now
         → flags.new.items ≡ flags.old.items ++ earlier share rs ranges.now) }
 {
     for i in 0..ranges.len() {
@@ -250,7 +250,7 @@ pub fn number_tokens(alloc: Global, numbers: &[NumberAt]) -> Result<Vec<u32>, No
 }
 
 /// For each number, in order, whether an earlier one is equal.
-pub fn repeated(alloc: Global, numbers: &[NumberAt]) -> Result<Vec<bool>, NoMemory>
+pub fn repeated_flags(alloc: Global, numbers: &[NumberAt]) -> Result<Vec<bool>, NoMemory>
     ensures { IfOk result (λ flags. flags.items ≡ repeated_numbers numbers.now) }
 {
     let keys = values(alloc, numbers)?;
@@ -267,7 +267,7 @@ pub(crate) fn add_repeated_fields(
         (map (λ n. n.token) numbers.now) (repeated_numbers numbers.now)) }
 {
     let tokens = number_tokens(alloc, numbers)?;
-    let flags = repeated(alloc, numbers)?;
+    let flags = repeated_flags(alloc, numbers)?;
     add_marked(found, FaultKind::DuplicateNumber, &tokens, &flags)
 }
 

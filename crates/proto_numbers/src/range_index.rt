@@ -5,7 +5,7 @@ ghost use Rattle.std.specs.List.{list_any, filter};
 ghost use Rattle.std.specs.List.Sorted.{IsPermutation, IsPartitionPoint};
 ghost use Rattle.proto_parts.specs.declared.ranges.RangeAt.{RangeAt as RangeOf};
 ghost use Rattle.proto_numbers.specs.NumberFlaws.{share};
-ghost use Rattle.proto_numbers.specs.RangeIndex.{has_numbers, AreInOrder, AreRaised, IsIndexOf, reaches};
+ghost use Rattle.proto_numbers.specs.RangeIndex.{has_numbers, RangesAreInOrder, AreRaised, IsRangeIndexOf, range_reaches};
 
 use proto_faults::NoMemory;
 use proto_parts::RangeAt;
@@ -30,7 +30,7 @@ fn with_numbers(alloc: Global, ranges: &[RangeAt]) -> Result<Vec<RangeAt>, Alloc
 
 fn in_order(ranges: Vec<RangeAt>) -> Vec<RangeAt>
     ensures same { IsPermutation ranges.items result.items }
-    ensures order { AreInOrder result.items }
+    ensures order { RangesAreInOrder result.items }
 {
     let mut sorted = ranges;
     sorted.sort_unstable_by_key(|range| range.first);
@@ -40,7 +40,8 @@ fn in_order(ranges: Vec<RangeAt>) -> Vec<RangeAt>
 /// A range that ends where it or the one before it ends last.
 fn raised_range(before: Option<RangeAt>, range: RangeAt) -> RangeAt
     ensures first { result.first ≡ range.first }
-    ensures last { (n : ℤ) → int_le n result.last ≡ (reaches n before || int_le n range.last) }
+    ensures last { (n : ℤ) → int_le n result.last
+        ≡ (range_reaches n before || int_le n range.last) }
 {
     match before {
         Some(other) => {
@@ -57,7 +58,7 @@ fn raised_range(before: Option<RangeAt>, range: RangeAt) -> RangeAt
     }
 }
 
-fn raised(alloc: Global, ranges: &[RangeAt]) -> Result<Vec<RangeAt>, NoMemory>
+fn raised_ranges(alloc: Global, ranges: &[RangeAt]) -> Result<Vec<RangeAt>, NoMemory>
     ensures { IfOk result (λ raised. AreRaised ranges.now raised.items) }
 {
     let mut raised = Vec::new(alloc);
@@ -73,16 +74,17 @@ fn raised(alloc: Global, ranges: &[RangeAt]) -> Result<Vec<RangeAt>, NoMemory>
 /// An index of ranges, by which `shares` and `is_covered` look them up. Fails only for want of
 /// memory.
 pub fn index_of(alloc: Global, ranges: &[RangeAt]) -> Result<Vec<RangeAt>, NoMemory>
-    ensures { IfOk result (λ index. IsIndexOf ranges.now index.items) }
+    ensures { IfOk result (λ index. IsRangeIndexOf ranges.now index.items) }
 {
     let sorted = in_order(with_numbers(alloc, ranges)?);
-    raised(alloc, &sorted)
+    raised_ranges(alloc, &sorted)
 }
 
 /// How many of the ranges begin before another ends.
-fn begun(index: &[RangeAt], range: RangeAt) -> usize
+fn count_begun(index: &[RangeAt], range: RangeAt) -> usize
     ensures bound { result ≤ length index.now }
-    ensures place { AreInOrder index.now → IsPartitionPoint (λ r. int_le r.first range.last ≡ true)
+    ensures place { RangesAreInOrder index.now → IsPartitionPoint
+        (λ r. int_le r.first range.last ≡ true)
         (λ r. int_le r.first range.last ≡ false) index.now result }
 {
     index.partition_point(|other| other.first <= range.last)
@@ -98,9 +100,9 @@ fn reach_before(index: &[RangeAt], place: usize, range: RangeAt) -> bool
 
 /// Whether one of the ranges that are indexed shares a number with a range.
 pub(crate) fn shares(index: &[RangeAt], range: RangeAt) -> bool
-    ensures { (rs : List RangeOf) → IsIndexOf rs index.now
+    ensures { (rs : List RangeOf) → IsRangeIndexOf rs index.now
         → result ≡ list_any (λ r. share r range) rs }
 {
-    let place = begun(index, range);
+    let place = count_begun(index, range);
     has_numbers(range) && reach_before(index, place, range)
 }

@@ -12,11 +12,11 @@ use Rattle.proto_output.specs.declared.status.Status.TheVariants.{Done}
 use Rattle.proto_store.specs.Stores.{Held}
 
 -- the text that an answer prints
-abbrev pub text_of : Answer → List ℕ
-text_of (Text text status) = string_bytes text
-text_of (Changed entry) = changed_lines entry
-text_of (Recovery recovered) = recovery_line recovered
-text_of (Migration migrated) = migration_line migrated
+abbrev pub printed_text : Answer → List ℕ
+printed_text (Text text status) = string_bytes text
+printed_text (Changed entry) = changed_lines entry
+printed_text (Recovery recovered) = recovery_line recovered
+printed_text (Migration migrated) = migration_line migrated
 
 -- how the command of an answer ends; changes, recoveries and migrations end well
 abbrev pub status_of : Answer → Status
@@ -29,7 +29,7 @@ status_of (Migration migrated) = Done
 -- call failed, which may have cut it; or want of memory, which leaves the store.
 abbrev pub IsAnswer : (List ℕ → Status → Type 0) → Type 0
     → Option Held → Option Held → Result Answer RunFault → Type 0
-IsAnswer Prints Cut before after (Ok answer) = Prints (text_of answer) (status_of answer)
+IsAnswer Prints Cut before after (Ok answer) = Prints (printed_text answer) (status_of answer)
 IsAnswer Prints Cut before after (Err Store) = Cut
 IsAnswer Prints Cut before after (Err NoMemory) = after ≡ before
 IsAnswer Prints Cut before after (Err Output) = ⊥

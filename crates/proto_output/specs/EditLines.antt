@@ -7,7 +7,7 @@ use Rattle.proto_entries.specs.declared.refusal.Refusal.{Refusal}
 use Rattle.proto_entries.specs.declared.refusal.Refusal.TheVariants as refusal
 use Rattle.proto_faults.specs.Texts.{Path, Text}
 use Rattle.proto_files.specs.GivenFiles.{FileOf}
-use Rattle.proto_output.specs.FoundLines.{text_at}
+use Rattle.proto_output.specs.FoundLines.{text_of_path}
 use Rattle.proto_records.specs.FaultTable as journals
 use Rattle.proto_records.specs.declared.fault.JournalFault.{JournalFault}
 use Rattle.proto_text.specs.Lines.{column_at, line_at}
@@ -24,8 +24,8 @@ changed_lines entry = flat_map changed_line entry
 abbrev pub place_text : List FileOf → Path → ℕ → Text
 place_text files path offset =
     codes " " ++ (path
-    ++ (codes ":" ++ (decimal (line_at (text_at path files) offset)
-    ++ (codes ":" ++ decimal (column_at (text_at path files) offset)))))
+    ++ (codes ":" ++ (decimal (line_at (text_of_path path files) offset)
+    ++ (codes ":" ++ decimal (column_at (text_of_path path files) offset)))))
 
 -- the place of the reference that is captured or needed
 abbrev pub reference_text : List FileOf → Refusal → Text
@@ -36,11 +36,12 @@ reference_text files _ = []
 -- `refused: NUMBER NAME`, and the place of the reference
 abbrev pub refused_line : List FileOf → Refusal → Text
 refused_line files r =
-    codes "refused: " ++ (decimal (refusals.number_of r) ++ (codes " " ++ (refusals.name_of r
+    codes "refused: " ++ (decimal (refusals.refusal_number r)
+    ++ (codes " " ++ (refusals.refusal_name r
     ++ (reference_text files r ++ codes "\n"))))
 
 -- `journal: NUMBER NAME`
 abbrev pub faulty_line : JournalFault → Text
 faulty_line fault =
-    codes "journal: " ++ (decimal (journals.number_of fault)
-    ++ (codes " " ++ (journals.name_of fault ++ codes "\n")))
+    codes "journal: " ++ (decimal (journals.journal_fault_number fault)
+    ++ (codes " " ++ (journals.journal_fault_name fault ++ codes "\n")))

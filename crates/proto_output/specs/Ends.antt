@@ -13,10 +13,10 @@ code_of Done = 0
 code_of Problem = 1
 
 -- the name of what stops a command
-abbrev pub fault_name : RunFault → Text
-fault_name Store = codes "Store"
-fault_name NoMemory = codes "NoMemory"
-fault_name Output = codes "Output"
+abbrev pub run_fault_name : RunFault → Text
+run_fault_name Store = codes "Store"
+run_fault_name NoMemory = codes "NoMemory"
+run_fault_name Output = codes "Output"
 
 -- the line for standard error
 abbrev pub fault_text : RunFault → Text

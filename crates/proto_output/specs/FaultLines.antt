@@ -3,7 +3,7 @@ use Rattle.std.specs.Prelude.{◌≡◌, ℕ, List, [], ◌++◌, codes, decimal
 use Rattle.std.specs.Option.{unwrap_or}
 use Rattle.proto_files.specs.GivenFiles.{FileOf}
 use Rattle.proto_files.specs.Faults.{FaultAt}
-use Rattle.proto_faults.specs.FaultTable.{name_of, number_of}
+use Rattle.proto_faults.specs.FaultTable.{kind_name, kind_number}
 use Rattle.proto_faults.specs.Texts.{Text}
 use Rattle.proto_text.specs.Lines.{column_at, line_at}
 use Rattle.proto_store.specs.Stores.{Held, bytes_at}
@@ -12,24 +12,24 @@ use Rattle.proto_store.specs.Stores.{Held, bytes_at}
 abbrev pub line_of : FaultAt → ℕ → ℕ → Text
 line_of fault line column =
     fault.path ++ (codes ":" ++ (decimal line ++ (codes ":" ++ (decimal column
-    ++ (codes ": " ++ (decimal (number_of fault.kind)
-    ++ (codes " " ++ (name_of fault.kind ++ codes "\n"))))))))
+    ++ (codes ": " ++ (decimal (kind_number fault.kind)
+    ++ (codes " " ++ (kind_name fault.kind ++ codes "\n"))))))))
 
 -- the line and the column of a fault of the files
-abbrev pub IsPlace : List FileOf → FaultAt → ℕ → ℕ → Type 0
-IsPlace files fault line column =
+abbrev pub IsLineAndColumn : List FileOf → FaultAt → ℕ → ℕ → Type 0
+IsLineAndColumn files fault line column =
     let bytes = unwrap_or (bytes_at fault.path files) [] in
     (line ≡ line_at bytes fault.offset) × (column ≡ column_at bytes fault.offset)
 
 -- the line of a fault of the files
 abbrev pub IsLine : List FileOf → FaultAt → Text → Type 0
 IsLine files fault text = (line : ℕ) × (column : ℕ)
-    × IsPlace files fault line column × (text ≡ line_of fault line column)
+    × IsLineAndColumn files fault line column × (text ≡ line_of fault line column)
 
 -- the line and the column of a fault of a store's files; of unknown holdings nothing is said
 abbrev pub IsPlaceOver : Option Held → FaultAt → ℕ → ℕ → Type 0
 IsPlaceOver None fault line column = Unit {0}
-IsPlaceOver (Some held) fault line column = IsPlace held.files fault line column
+IsPlaceOver (Some held) fault line column = IsLineAndColumn held.files fault line column
 
 -- the line of a fault of a store's files; of unknown holdings nothing is said
 abbrev pub IsLineOver : Option Held → FaultAt → Text → Type 0

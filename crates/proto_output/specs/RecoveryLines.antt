@@ -2,7 +2,7 @@
 -- this program.
 use Rattle.std.specs.Prelude.{◌++◌, Bool, true, false, codes, decimal}
 use Rattle.proto_faults.specs.Texts.{Text}
-use Rattle.proto_entries.specs.RefusalTable.{name_of, number_of}
+use Rattle.proto_entries.specs.RefusalTable.{refusal_name, refusal_number}
 use Rattle.proto_entries.specs.declared.refusal.Refusal.{Refusal}
 
 -- whether a store was recovered: `recovered`, or `nothing to recover`
@@ -18,4 +18,5 @@ migration_line false = codes "nothing to migrate\n"
 -- `refused: NUMBER NAME`, of a refusal that tells of no reference
 abbrev pub plain_refused_line : Refusal → Text
 plain_refused_line r =
-    codes "refused: " ++ (decimal (number_of r) ++ (codes " " ++ (name_of r ++ codes "\n")))
+    codes "refused: " ++ (decimal (refusal_number r)
+    ++ (codes " " ++ (refusal_name r ++ codes "\n")))

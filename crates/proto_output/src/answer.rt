@@ -2,7 +2,7 @@
 
 ghost use Rattle.std.specs.Prelude.{◌≡◌, IfOk, OnErr};
 ghost use Rattle.std.specs.Io.KnownBytes.{Appends};
-ghost use Rattle.proto_output.specs.Answers.{status_of, text_of};
+ghost use Rattle.proto_output.specs.Answers.{status_of, printed_text};
 ghost use Rattle.proto_output.specs.Writing.{AppendsBeginning};
 
 use crate::edit_lines::write_changed;
@@ -31,10 +31,10 @@ pub enum Answer {
 /// Writes what an answer prints, and tells how the command ends. It takes no memory.
 pub fn write_answer<W: Write>(writer: &mut W, answer: &Answer) -> Result<Status, OutputFault>
     ensures ok { IfOk result (λ status. Appends
-        (W.contents writer.old) (W.contents writer.new) (text_of answer.now)
+        (W.contents writer.old) (W.contents writer.new) (printed_text answer.now)
         × (status ≡ status_of answer.now)) }
     ensures err { OnErr result (AppendsBeginning
-        (W.contents writer.old) (W.contents writer.new) (text_of answer.now)) }
+        (W.contents writer.old) (W.contents writer.new) (printed_text answer.now)) }
 {
     match answer {
         Answer::Text(text, status) => {

@@ -4,7 +4,7 @@ ghost use Rattle.std.specs.Prelude.{◌≡◌, ◌++◌, ℕ, List, flat_map, ma
 ghost use Rattle.std.specs.String.{string_bytes};
 ghost use Rattle.proto_files.specs.GivenFiles.{file_at};
 ghost use Rattle.proto_findings.specs.Views.{finding_of};
-ghost use Rattle.proto_output.specs.FoundLines.{found_line, line_of, text_at};
+ghost use Rattle.proto_output.specs.FoundLines.{found_line, finding_line, text_of_path};
 ghost use Rattle.proto_output.specs.Places.{IsCursorIn};
 ghost use Rattle.proto_text.specs.Lines.{column_at, line_at};
 
@@ -41,7 +41,7 @@ fn add_line(
     place: Place,
 ) -> Result<(), NoMemory>
     ensures { OnOk result (string_bytes text.new
-        ≡ string_bytes text.old ++ line_of (finding_of finding.now) place.line place.column) }
+        ≡ string_bytes text.old ++ finding_line (finding_of finding.now) place.line place.column) }
 {
     let path = finding.path.as_str();
     let rule = finding.rule.name();
@@ -94,9 +94,9 @@ impl Spot {
     fn moved_to(self, files: &Files, path: &str, offset: u32) -> Spot
         requires { IsCursorIn (file_at files.now self.file).bytes self.cursor }
         ensures there { IsCursorIn (file_at files.now result.file).bytes result.cursor }
-        ensures line { result.cursor.place.line ≡ line_at (text_at path.now files.now) offset }
+        ensures line { result.cursor.place.line ≡ line_at (text_of_path path.now files.now) offset }
         ensures column { result.cursor.place.column
-            ≡ column_at (text_at path.now files.now) offset }
+            ≡ column_at (text_of_path path.now files.now) offset }
     {
         let file = number_of(files, self.file, path);
         self.in_file(files, file, offset)
@@ -116,7 +116,7 @@ fn text_of(files: &Files, file: usize) -> &[u8]
 
 // The text of the file at a path; empty where there is none.
 pub(crate) fn text_named<'a>(files: &'a Files, path: &str) -> &'a [u8]
-    ensures { result.now ≡ text_at path.now files.now }
+    ensures { result.now ≡ text_of_path path.now files.now }
 {
     text_of(files, number_of(files, 0, path))
 }
@@ -124,7 +124,7 @@ pub(crate) fn text_named<'a>(files: &'a Files, path: &str) -> &'a [u8]
 // The number of the file at a path, which is looked for from a number on and then before it; the
 // count of the files where there is none.
 fn number_of(files: &Files, start: usize, path: &str) -> usize
-    ensures { (file_at files.now result).bytes ≡ text_at path.now files.now }
+    ensures { (file_at files.now result).bytes ≡ text_of_path path.now files.now }
 {
     let count = files.len();
     match file_named(files, start, path) {

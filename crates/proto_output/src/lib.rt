@@ -22,7 +22,7 @@ pub use locations::{Location, locations_of_references, place_of_fault};
 pub use log_lines::lines_of_records;
 pub use place::{Cursor, Place, place_at};
 pub use recovery_lines::{plain_refusal_line, write_migration, write_recovery};
-pub use reporting::reported;
+pub use reporting::fault_answer;
 pub use run_fault::{RunFault, fault_line};
 pub use schema_lines::schema_line;
 pub use status::Status;

@@ -5,7 +5,7 @@ ghost use Rattle.std.specs.Option.{unwrap_or};
 ghost use Rattle.proto_files.specs.Faults.{fault_at};
 ghost use Rattle.proto_files.specs.FilesRead.{AreRead, ReadOf, read_at};
 ghost use Rattle.proto_files.specs.GivenFiles.{file_at, files_of};
-ghost use Rattle.proto_output.specs.FaultLines.{IsPlace};
+ghost use Rattle.proto_output.specs.FaultLines.{IsLineAndColumn};
 ghost use Rattle.proto_output.specs.Locations.{location_at, location_of, reference_location};
 ghost use Rattle.proto_output.specs.Places.{IsCursorIn};
 ghost use Rattle.proto_store.specs.Stores.{bytes_at};
@@ -105,7 +105,7 @@ fn path_of(files: &Files, file: usize) -> &str
 /// opened. Of two files at its path the first is looked at, and without one it is line 1, column 1.
 /// Takes no memory.
 pub fn place_of_fault(files: &[(String, Vec<u8>)], fault: &Fault) -> Place
-    ensures { IsPlace (files_of files.now) (fault_at fault.now) result.line result.column }
+    ensures { IsLineAndColumn (files_of files.now) (fault_at fault.now) result.line result.column }
 {
     place_at(bytes_given(files, fault.path.as_str()), fault.offset)
 }

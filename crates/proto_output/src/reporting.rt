@@ -2,7 +2,7 @@
 
 ghost use Rattle.std.specs.Prelude.{◌≡◌, ◌-◌, ◌^◌, ◌<◌, IfOk, IsErrOf, string_bytes};
 ghost use Rattle.proto_files.specs.Faults.{fault_at};
-ghost use Rattle.proto_output.specs.Answers.{status_of, text_of};
+ghost use Rattle.proto_output.specs.Answers.{status_of, printed_text};
 ghost use Rattle.proto_output.specs.Ends.{CountsStore};
 ghost use Rattle.proto_output.specs.FaultLines.{IsLineOver, IsPlaceOver};
 ghost use Rattle.proto_store.specs.Stores.{Counts, IsListed};
@@ -20,12 +20,16 @@ use std::alloc::Global;
 /// line, and a problem. Where the offset alone does not tell the line and
 /// the column, the file is read again. It ends with `Store` where that
 /// fails, and with `NoMemory` where memory runs out; the store is as before.
-pub fn reported<S: Store>(alloc: Global, store: &mut S, fault: &Fault) -> Result<Answer, RunFault>
+pub fn fault_answer<S: Store>(
+    alloc: Global,
+    store: &mut S,
+    fault: &Fault,
+) -> Result<Answer, RunFault>
     requires room { S.failure_count store.old < 2 ^ 64 - 1 }
     requires listed { 0 < fault.now.offset → IsListed
         (S.holds store.old) (string_bytes fault.now.path) }
     ensures text { IfOk result (λ answer. IsLineOver
-        (S.holds store.old) (fault_at fault.now) (text_of answer)) }
+        (S.holds store.old) (fault_at fault.now) (printed_text answer)) }
     ensures status { IfOk result (λ answer. status_of answer ≡ Status.Problem) }
     ensures unwritten { IsErrOf result RunFault.Output → ⊥ }
     ensures same { S.holds store.new ≡ S.holds store.old }

@@ -1,7 +1,7 @@
 //! Why a command has no answer.
 
 ghost use Rattle.std.specs.Prelude.{◌≡◌};
-ghost use Rattle.proto_output.specs.Ends.{fault_name, fault_text};
+ghost use Rattle.proto_output.specs.Ends.{run_fault_name, fault_text};
 
 use crate::writing::OutputFault;
 use proto_faults::NoMemory;
@@ -30,7 +30,7 @@ impl RunFault {
 
     /// The name of the fault.
     pub fn name(self) -> &'static str
-        ensures { result.now ≡ fault_name self }
+        ensures { result.now ≡ run_fault_name self }
     {
         match self {
             RunFault::Store => "Store",

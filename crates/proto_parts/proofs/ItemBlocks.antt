@@ -12,7 +12,7 @@ use Rattle.proto_tree.specs.declared.tree.MethodItem.TheVariants as method_item
 use Rattle.proto_tree.specs.declared.tree.ServiceItem.{ServiceItem}
 use Rattle.proto_tree.specs.declared.tree.ServiceItem.TheVariants as service_item
 use Rattle.proto_tree.specs.declared.tree.Signature.{Signature}
-use Rattle.proto_tree.proofs.Common.{enum_item_tree, method_by, method_item_tree, service_item_tree, trees, Tree, joined}
+use Rattle.proto_tree.proofs.Common.{enum_item_tree, method_by, method_item_tree, service_item_tree, trees, Tree, joined_trees}
 use Rattle.proto_parts.specs.Parts.{BlockOf, blocks_in}
 use Rattle.proto_parts.proofs.JoinedTrees.{blocks_joined}
 
@@ -34,7 +34,7 @@ module _ (wanted : Header → Bool) where
   abbrev wanted_in : Tree → List BlockOf
   wanted_in tree = filter (λ b. wanted b.header) (blocks_in tree)
 
-  wanted_joined : (t u : Tree) → wanted_in (joined t u) ≡ wanted_in t ++ wanted_in u
+  wanted_joined : (t u : Tree) → wanted_in (joined_trees t u) ≡ wanted_in t ++ wanted_in u
   wanted_joined t u = ap (filter (λ b. wanted b.header)) (blocks_joined t u) ∙ filter-append (λ b. wanted b.header) (blocks_in t) (blocks_in u)
 
   -- those of one element more

@@ -5,11 +5,11 @@ use Rattle.proto_tree.specs.declared.piece.Statement.{Statement}
 use Rattle.proto_tree.specs.declared.piece.Header.TheVariants as header
 use Rattle.proto_tree.specs.declared.tree.Item.{Item}
 use Rattle.proto_tree.specs.declared.tree.Member.{Member}
-use Rattle.proto_tree.proofs.Common.{item_tree, member_tree, trees, Tree, End, Leaf, Block, joined}
+use Rattle.proto_tree.proofs.Common.{item_tree, member_tree, trees, Tree, End, Leaf, Block, joined_trees}
 use Rattle.proto_parts.specs.Common.{FieldOf, statements, fields_from, statement_fields, oneof_count, is_proto3, is_proto3_statement}
 use Rattle.proto_parts.proofs.JoinedTrees.{statements_joined}
 
-pub parts_joined : {A : Type 0} (part : Statement → List A) (t u : Tree) → flat_map part (statements (joined t u)) ≡ flat_map part (statements t) ++ flat_map part (statements u)
+pub parts_joined : {A : Type 0} (part : Statement → List A) (t u : Tree) → flat_map part (statements (joined_trees t u)) ≡ flat_map part (statements t) ++ flat_map part (statements u)
 parts_joined part t u = ap (flat_map part) (statements_joined t u) ∙ flat_map-append part (statements t) (statements u)
 
 -- the parts of one element more
@@ -33,7 +33,7 @@ pub pushed_before : {X A : Type 0} (read : X → A) (xs ys : List X) (x : X) (be
 pushed_before read xs ys x behind rest is same =
     ap (λ ps. ps ++ behind) (pushed read xs ys x is) ∙ append_assoc (map read xs) (read x ∷ []) behind ∙ ap (λ ps. map read xs ++ (read x ∷ ps)) same
 
-pub fields_joined : (n : ℕ) (t u : Tree) → fields_from n (joined t u) ≡ fields_from n t ++ fields_from (n + oneof_count t) u
+pub fields_joined : (n : ℕ) (t u : Tree) → fields_from n (joined_trees t u) ≡ fields_from n t ++ fields_from (n + oneof_count t) u
 fields_joined n End u = ap (λ (k : ℕ). fields_from k u) (omega arith)
 fields_joined n (Leaf s rest) u = ap (λ fs. statement_fields None s ++ fs) (fields_joined n rest u) ∙ sym (append_assoc (statement_fields None s) (fields_from n rest) (fields_from (n + oneof_count rest) u))
 fields_joined n (Block (header.Oneof h) i within j rest) u =
@@ -54,7 +54,7 @@ fields_turn ms i n k m found next whole lt is count new before =
     ∙ ap (λ fs. found ++ fs) (sym (fields_joined n (member_tree m) rest))
     ∙ ap (λ (xs : List Member). found ++ fields_from n (trees member_tree xs)) (sym parted) ∙ before
 
-pub is_proto3_joined : (value : ℕ → List ℕ) (t u : Tree) → is_proto3 value (joined t u) ≡ is_proto3 value t || is_proto3 value u
+pub is_proto3_joined : (value : ℕ → List ℕ) (t u : Tree) → is_proto3 value (joined_trees t u) ≡ is_proto3 value t || is_proto3 value u
 is_proto3_joined value t u = ap (list_any (is_proto3_statement value)) (statements_joined t u) ∙ list_any-append (is_proto3_statement value) (statements t) (statements u)
 
 -- whether a file is proto3, by what is left of it and by the next of its items

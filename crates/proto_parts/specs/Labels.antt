@@ -6,10 +6,10 @@ use Rattle.proto_parts.specs.Parts.{FieldOf}
 use Rattle.proto_parts.specs.Scenes.{Scene, text}
 
 -- whether there is a label and it is this word
-abbrev pub is_label : Scene → Text → Option ℕ → Bool
-is_label scene label None = false
-is_label scene label (Some t) = bytes_eq (text scene t) label
+abbrev pub is_label_word : Scene → Text → Option ℕ → Bool
+is_label_word scene label None = false
+is_label_word scene label (Some t) = bytes_eq (text scene t) label
 
 -- whether a field has this label
 abbrev pub has_label : Scene → Text → FieldOf → Bool
-has_label scene label f = is_label scene label f.label
+has_label scene label f = is_label_word scene label f.label

@@ -11,15 +11,15 @@ is_hexadecimal (z ∷ x ∷ digits) = z == ascii.zero && (x == ascii.lower_x || 
 is_hexadecimal _ = false
 
 -- whether it begins with `0`: octal, where it is not hexadecimal
-abbrev pub is_octal : Text → Bool
-is_octal (z ∷ digits) = z == ascii.zero
-is_octal [] = false
+abbrev pub is_octal_number : Text → Bool
+is_octal_number (z ∷ digits) = z == ascii.zero
+is_octal_number [] = false
 
 -- what a number token stands for
-abbrev pub number_of : Text → ℕ
-number_of w =
+abbrev pub number_value : Text → ℕ
+number_value w =
     if is_hexadecimal w then number_in 16 0 (drop 2 w)
-    else (if is_octal w then number_in 8 0 w
+    else (if is_octal_number w then number_in 8 0 w
     else number_in 10 0 w)
 
 -- a number past every limit of the language

@@ -64,10 +64,10 @@ value_kind_of element.Method name =
 -- ---- values
 
 -- the text that a value is: the values of its strings, one behind the other
-abbrev pub text_of : (ℕ → Text) → Constant → Option Text
-text_of value (constant.Text j) = Some (flat_map value (j.first ∷ j.rest))
-text_of value (constant.Word w) = None
-text_of value (constant.Number n) = None
+abbrev pub text_of_constant : (ℕ → Text) → Constant → Option Text
+text_of_constant value (constant.Text j) = Some (flat_map value (j.first ∷ j.rest))
+text_of_constant value (constant.Word w) = None
+text_of_constant value (constant.Number n) = None
 
 -- the word that a value is
 abbrev pub word_of : (ℕ → Text) → Constant → Option Text
@@ -96,14 +96,14 @@ is_word_of names None = false
 is_word_of names (Some w) = is_one_of names w
 
 -- whether a value is a text
-abbrev pub is_text : Constant → Bool
-is_text (constant.Text j) = true
-is_text (constant.Word w) = false
-is_text (constant.Number n) = false
+abbrev pub is_text_value : Constant → Bool
+is_text_value (constant.Text j) = true
+is_text_value (constant.Word w) = false
+is_text_value (constant.Number n) = false
 
 -- whether a value is of the kind (what may be a default, the field's type says)
 abbrev pub is_of_kind : (ℕ → Text) → ValueKind → Constant → Bool
-is_of_kind text value_kind.Text c = is_text c
+is_of_kind text value_kind.Text c = is_text_value c
 is_of_kind text value_kind.Truth c = is_some (truth_of text c)
 is_of_kind text value_kind.OptimizeMode c = is_word_of optimize_modes (word_of text c)
 is_of_kind text value_kind.IdempotencyLevel c = is_word_of idempotency_levels (word_of text c)
@@ -139,4 +139,4 @@ word_option text name options = option_and_then (word_of text) (value_named text
 -- the same where it is a text
 abbrev pub text_option : (ℕ → Text) → (ℕ → Text) → Text → List OptionOf → Option Text
 text_option text value name options =
-    option_and_then (text_of value) (value_named text name options)
+    option_and_then (text_of_constant value) (value_named text name options)

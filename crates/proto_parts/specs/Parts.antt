@@ -126,9 +126,9 @@ ranges_of (reserved_list.Names names) = []
 ranges_of (reserved_list.Ranges ranges) = separated ranges
 
 -- the tokens of the names of a reserved list
-abbrev pub names_of : {N : Type 0} → ReservedList N → List ℕ
-names_of (reserved_list.Names names) = separated names
-names_of (reserved_list.Ranges ranges) = []
+abbrev pub reserved_names_of : {N : Type 0} → ReservedList N → List ℕ
+reserved_names_of (reserved_list.Names names) = separated names
+reserved_names_of (reserved_list.Ranges ranges) = []
 
 -- the ranges that a statement of a message reserves
 abbrev pub reserved_ranges : Statement → List (Range ℕ)
@@ -151,8 +151,8 @@ enum_ranges _ = []
 
 -- the tokens of reserved names, of a message or of an enum
 abbrev pub reserved_names : Statement → List ℕ
-reserved_names (statement.Reserved r) = names_of r.list
-reserved_names (statement.EnumReserved r) = names_of r.list
+reserved_names (statement.Reserved r) = reserved_names_of r.list
+reserved_names (statement.EnumReserved r) = reserved_names_of r.list
 reserved_names _ = []
 
 -- the tokens of the reserved names of a block, in order

@@ -16,7 +16,7 @@ use Rattle.proto_tree.specs.declared.piece.Statement.{Statement}
 use Rattle.proto_tree.specs.declared.piece.Statement.TheVariants as statement
 use Rattle.proto_tree.specs.Tree.{Tree}
 use Rattle.proto_tree.specs.References.{first_of}
-use Rattle.proto_parts.specs.Numbers.{number_of, signed_by}
+use Rattle.proto_parts.specs.Numbers.{number_value, signed_by}
 use Rattle.proto_parts.specs.Parts.{statements}
 
 -- what is read of an enum: whether its file is proto3, whether it has a first value that is not 0,
@@ -70,23 +70,23 @@ abbrev pub value : Scene → ℕ → Text
 value scene token = value_in scene.lexemes token
 
 -- a number, or the cap where there is one and the number is past it
-abbrev pub up_to : Option ℕ → ℕ → ℕ
-up_to None n = n
-up_to (Some cap) n = min cap n
+abbrev pub up_to_cap : Option ℕ → ℕ → ℕ
+up_to_cap None n = n
+up_to_cap (Some cap) n = min cap n
 
 -- what the text of a number token stands for
-abbrev pub number : Scene → Text → ℕ
-number scene w = up_to scene.cap (number_of w)
+abbrev pub number_in_text : Scene → Text → ℕ
+number_in_text scene w = up_to_cap scene.cap (number_value w)
 
 -- ---- what a scene says
 
 -- what a number token stands for
 abbrev pub number_at : Scene → ℕ → ℤ
-number_at scene token = pos (number scene (text scene token))
+number_at scene token = pos (number_in_text scene (text scene token))
 
 -- what a number with its sign stands for
-abbrev pub signed_at : Scene → Signed → ℤ
-signed_at scene s = signed_by (number scene) (text scene) s
+abbrev pub signed_value : Scene → Signed → ℤ
+signed_value scene s = signed_by (number_in_text scene) (text scene) s
 
 -- what the reference means
 abbrev pub meant_by : Scene → Reference → Option MeantOf

@@ -2,7 +2,7 @@
 
 ghost use Rattle.std.specs.Prelude.{◌≡◌, ◌≤◌, min};
 ghost use Rattle.proto_text.specs.Strings.{number_in, digit_value};
-ghost use Rattle.proto_parts.specs.Numbers.{past, number_of};
+ghost use Rattle.proto_parts.specs.Numbers.{past, number_value};
 
 // Past every limit of the language.
 const PAST: u128 = 1 << 64;
@@ -36,7 +36,7 @@ fn number_in(base: u32, digits: &[u8]) -> u128
 
 /// What the text of a number token stands for, or 2^64 where that is less.
 pub fn number_of(text: &str) -> u128
-    ensures { result ≡ min past (number_of text.now) }
+    ensures { result ≡ min past (number_value text.now) }
 {
     match text.as_bytes() {
         [b'0', b'x' | b'X', digits @ ..] => number_in(16, digits),

@@ -2,7 +2,7 @@
 
 ghost use Rattle.std.specs.Prelude.{◌≡◌, ◌∷◌, ◌++◌, find, flat_map, map, option_map, IfOk, OnOk};
 ghost use Rattle.std.specs.String.{string_bytes};
-ghost use Rattle.proto_parts.specs.Options.{is_allowed, is_named, idempotency_levels, is_of_kind, is_word_of, optimize_modes, text_of, text_option, truth_named, truth_of, truth_option, word_of, word_option};
+ghost use Rattle.proto_parts.specs.Options.{is_allowed, is_named, idempotency_levels, is_of_kind, is_word_of, optimize_modes, text_of_constant, text_option, truth_named, truth_of, truth_option, word_of, word_option};
 ghost use Rattle.proto_parts.specs.Scenes.{text, value};
 ghost use Rattle.proto_parts.specs.Views.{option_of};
 
@@ -121,7 +121,7 @@ pub fn text_value(
     constant: &Constant,
 ) -> Result<Option<String>, NoMemory>
     ensures { IfOk result (λ text. option_map string_bytes text
-        ≡ text_of (value scene.now) constant.now) }
+        ≡ text_of_constant (value scene.now) constant.now) }
 {
     match constant {
         Constant::Text(joined) => Ok(Some(joined_text(alloc, scene, joined)?)),

@@ -2,7 +2,7 @@
 
 ghost use Rattle.std.specs.Prelude.{◌≡◌, ◌++◌, IfOk, OnOk};
 ghost use Rattle.proto_tree.specs.File.{enum_item_tree, member_tree, trees};
-ghost use Rattle.proto_parts.specs.Parts.{names_of, reserved_names_in};
+ghost use Rattle.proto_parts.specs.Parts.{reserved_names_of, reserved_names_in};
 
 use crate::separated::push_tokens;
 use proto_faults::NoMemory;
@@ -10,7 +10,7 @@ use proto_tree::{EnumItem, Member, ReservedList};
 use std::alloc::Global;
 
 fn push_names<N: Drop>(found: &mut Vec<u32>, list: &ReservedList<N>) -> Result<(), NoMemory>
-    ensures { OnOk result (found.new.items ≡ found.old.items ++ names_of list.now) }
+    ensures { OnOk result (found.new.items ≡ found.old.items ++ reserved_names_of list.now) }
 {
     match list {
         ReservedList::Names(names) => push_tokens(found, names),

@@ -3,7 +3,7 @@
 ghost use Rattle.std.specs.Prelude.{◌≡◌, ◌<◌, ◌==◌, AllPairs, Some, map, find, option_map, IfOk};
 ghost use Rattle.std.specs.String.{string_bytes};
 ghost use Rattle.proto_parts.specs.Numbers.{past};
-ghost use Rattle.proto_parts.specs.Scenes.{number_at, signed_at, meant_by, enum_meant, text, value};
+ghost use Rattle.proto_parts.specs.Scenes.{number_at, signed_value, meant_by, enum_meant, text, value};
 ghost use Rattle.proto_parts.specs.Views.{enum_of, meant_of};
 
 use crate::numbers::number_of;
@@ -112,8 +112,8 @@ impl<'a> Scene<'a> {
     }
 
     /// The same of a number with its sign.
-    pub fn signed(&self, signed: Signed) -> i128
-        ensures { result ≡ signed_at self.now signed }
+    pub fn signed_number(&self, signed: Signed) -> i128
+        ensures { result ≡ signed_value self.now signed }
     {
         let number = self.number(signed.number);
         if signed.minus.is_some() {
@@ -131,7 +131,7 @@ impl<'a> Scene<'a> {
     }
 
     /// What a reference means; none for one that is not the file's.
-    pub fn meant(&self, reference: &Reference) -> Option<MeantAt<'a>>
+    pub fn meaning(&self, reference: &Reference) -> Option<MeantAt<'a>>
         ensures { option_map meant_of result ≡ meant_by self.now reference.now }
     {
         let first = reference.dot.unwrap_or(reference.words.first);
@@ -142,6 +142,6 @@ impl<'a> Scene<'a> {
     pub fn enum_meant(&self, reference: &Reference) -> Option<EnumAt<'a>>
         ensures { option_map enum_of result ≡ enum_meant self.now reference.now }
     {
-        self.meant(reference)?.enumeration
+        self.meaning(reference)?.enumeration
     }
 }

@@ -1,5 +1,5 @@
 -- What proofs of the crates above name of this crate, passed on from one place. Declares nothing.
-pub use Rattle.proto_records.specs.FaultTable.{fault_of}
+pub use Rattle.proto_records.specs.FaultTable.{fault_of_refusal}
 pub use Rattle.proto_records.specs.Journals.{IsJournal, IsJournalIn, IsRecord, IsTold, is_last_open, is_open, journal_limit, journal_text}
 pub use Rattle.proto_records.specs.Known.{CountsFault, IsSettled, Over, OverBoth}
 pub use Rattle.proto_records.specs.Laws.{IsReadInOneWay, JournalsGrow, JournalsMigrate, JournalsShrink, StatesKeepLength}

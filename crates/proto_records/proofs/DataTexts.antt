@@ -8,7 +8,7 @@ use Rattle.json.specs.Written.{Written, Writes}
 use Rattle.serde_json.specs.Data.{Data, array}
 use Rattle.serde_json.specs.View.{items_of}
 use Rattle.serde_json.specs.Written.{items_outline}
-use Rattle.proto_records.specs.DataTokens.{Adds, data_tokens}
+use Rattle.proto_records.specs.DataTokens.{AddsTokens, data_tokens}
 
 -- the tokens of data, one after another
 abbrev pub all_tokens : List Data → List Token
@@ -23,19 +23,19 @@ closed : (ds : List Data) → items_tokens (items_outline (items_of ds)) ≡ all
 closed [] = refl
 closed (d ∷ ds) = ap (λ t. data_tokens d ++ t) (closed ds) ∙ sym (append_assoc (data_tokens d) (all_tokens ds) (end_array ∷ []))
 
-pub adds_one : {E : Type 0} {r : Result (Unit {0}) E} {x : Unit {0}} {a b : Written} {t : Token} → Writes r a b t → r ≡ Ok x → Adds a b (t ∷ [])
+pub adds_one : {E : Type 0} {r : Result (Unit {0}) E} {x : Unit {0}} {a b : Written} {t : Token} → Writes r a b t → r ≡ Ok x → AddsTokens a b (t ∷ [])
 adds_one {r = Ok y} w is = record { before = w.room.0; tokens = w.ok }
 adds_one {r = Err e} w is = cc
 
-pub adds_both : {a b c : Written} {xs ys : List Token} → Adds a b xs → Adds b c ys → Adds a c (xs ++ ys)
+pub adds_both : {a b c : Written} {xs ys : List Token} → AddsTokens a b xs → AddsTokens b c ys → AddsTokens a c (xs ++ ys)
 adds_both {a = a} {xs = xs} {ys = ys} front back = record { before = back.before ∙ front.before; tokens = back.tokens ∙ ap (λ t. t ++ ys) front.tokens ∙ append_assoc a.tokens xs ys }
 
-pub adds_then : {E : Type 0} (r : Result (Unit {0}) E) {a b : Written} {xs : List Token} (c : Written) (ys : List Token) → Adds a b xs → OnOk r (Adds b c ys) → OnOk r (Adds a c (xs ++ ys))
+pub adds_then : {E : Type 0} (r : Result (Unit {0}) E) {a b : Written} {xs : List Token} (c : Written) (ys : List Token) → AddsTokens a b xs → OnOk r (AddsTokens b c ys) → OnOk r (AddsTokens a c (xs ++ ys))
 adds_then (Ok x) c ys front back = adds_both front back
 adds_then (Err e) c ys front back = tt
 
 -- an array is written up to one item more
-pub adds_item : (a b c : Written) (ds es : List Data) (d : Data) → Adds a b (begin_array ∷ all_tokens ds) → Adds b c (data_tokens d) → es ≡ ds ++ d ∷ [] → Adds a c (begin_array ∷ all_tokens es)
+pub adds_item : (a b c : Written) (ds es : List Data) (d : Data) → AddsTokens a b (begin_array ∷ all_tokens ds) → AddsTokens b c (data_tokens d) → es ≡ ds ++ d ∷ [] → AddsTokens a c (begin_array ∷ all_tokens es)
 adds_item a b c ds es d front here e = record {
   before = here.before ∙ front.before;
   tokens = here.tokens ∙ ap (λ t. t ++ data_tokens d) front.tokens ∙ append_assoc a.tokens (begin_array ∷ all_tokens ds) (data_tokens d)
@@ -43,7 +43,7 @@ adds_item a b c ds es d front here e = record {
 }
 
 -- and to its end
-pub adds_array : {E : Type 0} (r : Result (Unit {0}) E) (a b c : Written) (ds es : List Data) → Adds a b (begin_array ∷ all_tokens ds) → ds ≡ es → Writes r b c end_array → OnOk r (Adds a c (data_tokens (array (items_of es))))
+pub adds_array : {E : Type 0} (r : Result (Unit {0}) E) (a b c : Written) (ds es : List Data) → AddsTokens a b (begin_array ∷ all_tokens ds) → ds ≡ es → Writes r b c end_array → OnOk r (AddsTokens a c (data_tokens (array (items_of es))))
 adds_array (Ok x) a b c ds es front e end = record {
   before = end.room.0 ∙ front.before;
   tokens = end.ok ∙ ap (λ t. t ++ end_array ∷ []) front.tokens ∙ append_assoc a.tokens (begin_array ∷ all_tokens ds) (end_array ∷ [])

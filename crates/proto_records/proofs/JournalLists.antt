@@ -2,7 +2,7 @@
 use Rattle.std.proofs.Common.{◌≡◌, ◌≢◌, ℕ, zero, suc, ◌<◌, ◌≤◌, List, [], ◌∷◌, ◌++◌, length, get_or, Bool, true, false, ◌==◌, refl, sym, ap, ap₂, ◌∙◌, subst, arith, append_assoc, append-nil, length-append, eq-eqb, All, true≢false, eqb-true}
 use Rattle.proto_faults.proofs.Common.{flat_map_more, All-nil, All-cons, All-head, All-tail, All-push}
 use Rattle.serde_json.specs.Written.{compact_text}
-use Rattle.proto_records.specs.Common.{journal_limit, State, Open, Done, record_data, record_text, IsRecord, is_open, is_last_open, AreInOrder, journal_text, IsJournal, IsFirstLine, Version, First, Second, RecordOf, IsNoted, IsJournalIn}
+use Rattle.proto_records.specs.Common.{journal_limit, State, Open, Done, record_data, record_text, IsRecord, is_open, is_last_open, RecordsAreInOrder, journal_text, IsJournal, IsFirstLine, Version, First, Second, RecordOf, IsNoted, IsJournalIn}
 use Rattle.proto_records.proofs.Lines.{EndsLine, IsReadBack, same_line, ends_append, ends_with_feed, back_end}
 use Rattle.proto_records.proofs.RecordTexts.{text_of_one, no_feed_record, version_of_text}
 
@@ -21,18 +21,18 @@ closed_is_done Open e = cc
 closed_is_done Done e = refl
 
 -- records in order before a further one
-order_push : (rs : List RecordOf) (r : RecordOf) → AreInOrder rs → is_last_open rs ≡ false → AreInOrder (rs ++ r ∷ [])
+order_push : (rs : List RecordOf) (r : RecordOf) → RecordsAreInOrder rs → is_last_open rs ≡ false → RecordsAreInOrder (rs ++ r ∷ [])
 order_push [] r order closed = ((λ some. absurd (some refl)), tt)
 order_push (x ∷ []) r order closed = ((λ some. closed_is_done x.state closed), ((λ some. absurd (some refl)), tt))
 order_push (x ∷ y ∷ rs) r order closed = ((λ some. order.0 (λ e. cc)), order_push (y ∷ rs) r order.1 closed)
 
-order_before : (rs more : List RecordOf) → AreInOrder (rs ++ more) → AreInOrder rs
+order_before : (rs more : List RecordOf) → RecordsAreInOrder (rs ++ more) → RecordsAreInOrder rs
 order_before [] more order = tt
 order_before (x ∷ []) more order = ((λ some. absurd (some refl)), tt)
 order_before (x ∷ y ∷ rs) more order = ((λ some. order.0 (λ e. cc)), order_before (y ∷ rs) more order.1)
 
 -- what stands before a further record is not open
-closed_before : (rs : List RecordOf) (r : RecordOf) (more : List RecordOf) → AreInOrder (rs ++ r ∷ more) → is_last_open rs ≡ false
+closed_before : (rs : List RecordOf) (r : RecordOf) (more : List RecordOf) → RecordsAreInOrder (rs ++ r ∷ more) → is_last_open rs ≡ false
 closed_before [] r more order = refl
 closed_before (x ∷ []) r more order = ap is_open (order.0 (λ e. cc))
 closed_before (x ∷ y ∷ rs) r more order = closed_before (y ∷ rs) r more order.1
@@ -49,7 +49,7 @@ last_open (x ∷ y ∷ rs) (suc k) r l e = last_open (y ∷ rs) k r (omega arith
 -- the bytes begin with the texts of these records, and so does every journal that they are
 pub record IsReadTo (v : Version) (bytes : List ℕ) (records : List RecordOf) (left : List ℕ) : Type 0 where
   pub text : bytes ≡ journal_text v records ++ left
-  pub order : AreInOrder records
+  pub order : RecordsAreInOrder records
   pub entries : All (IsRecord v) records
   pub again : (all : List RecordOf) → IsJournalIn v bytes all → (rest : List RecordOf) × (all ≡ records ++ rest) × (left ≡ journal_text v rest)
 
@@ -122,7 +122,7 @@ module _ (v : Version) where
     where
       go : (others : List RecordOf) → all ≡ records ++ others → left ≡ journal_text v others → ⊥
       go [] e f = some f
-      go (r ∷ more) e f = true≢false (sym last ∙ closed_before records r more (subst AreInOrder e j.order))
+      go (r ∷ more) e f = true≢false (sym last ∙ closed_before records r more (subst RecordsAreInOrder e j.order))
 
   pub too_long : (bytes : List ℕ) (all : List RecordOf) → journal_limit < length bytes → IsJournalIn v bytes all → ⊥
   too_long bytes all long j = let short = j.short in omega (arith, short, long)

@@ -2,7 +2,7 @@
 use Rattle.std.proofs.Common.{◌≡◌, ◌≢◌, ◌⊎◌, inl, inr, ℕ, Bool, true, false, List, [], ◌∷◌, length, Option, Some, None, Result, Ok, Err, refl, sym, ap, ◌∙◌, subst, arith}
 use Rattle.std.specs.Prelude.{option_map}
 use Rattle.std.specs.Global.{Vec}
-use Rattle.proto_records.specs.Common.{JournalFault, Version, First, Second, RecordOf, IsJournal, IsJournalIn, is_last_open, journal_text, CountsFault, IsSettled, IsReadInOneWay, IsMigrant, IsMigrated, IsOpenFirst, IsSecond, IsTooLong, MigrateOutcome, MigrationsAreOne, SecondOutcome}
+use Rattle.proto_records.specs.Common.{JournalFault, Version, First, Second, RecordOf, IsJournal, IsJournalIn, is_last_open, journal_text, CountsFault, IsSettled, IsReadInOneWay, IsMigrant, IsMigrated, IsOpenFirst, IsSecond, IsMigrationTooLong, MigrateOutcome, MigrationsAreOne, SecondOutcome}
 use Rattle.proto_records.specs.declared.fault.JournalFault.TheVariants as fault
 use Rattle.proto_store.specs.Stores.{Held, HoldsJournal, with_journal}
 use Rattle.proto_records.proofs.Outcomes.{over_journal}
@@ -19,7 +19,7 @@ not_migrated old new journal fault.BadJournal same there o = (same, over_journal
 not_migrated old new journal fault.NothingToUndo same there o = absurd o
 not_migrated old new journal fault.OpenEntry same there o = (same, over_journal old journal IsOpenFirst there o)
 not_migrated old new journal fault.Store same there o = absurd o
-not_migrated old new journal fault.JournalFull same there o = (same, over_journal old journal IsTooLong there o)
+not_migrated old new journal fault.JournalFull same there o = (same, over_journal old journal IsMigrationTooLong there o)
 not_migrated old new journal fault.NoMemory same there o = same
 not_migrated old new journal (fault.Refused r) same there o = absurd o
 
@@ -88,7 +88,7 @@ module _ (one_way : IsReadInOneWay) (old : Held) (new now : Option Held) where
   migrant_open : {P : Type 0} (rs : List RecordOf) → IsMigrant old.journal rs → IsOpenFirst old.journal → P
   migrant_open rs m o = both (is_last_open rs) (ap is_last_open (one_way old.journal First First rs o.0 m.first o.1).0 ∙ o.2) m.closed
 
-  migrated_long : {P : Type 0} (rs : List RecordOf) (h : Held) → IsMigrant old.journal rs → IsJournalIn Second h.journal rs → IsTooLong old.journal → P
+  migrated_long : {P : Type 0} (rs : List RecordOf) (h : Held) → IsMigrant old.journal rs → IsJournalIn Second h.journal rs → IsMigrationTooLong old.journal → P
   migrated_long rs h m j l =
       let same : rs ≡ l.0 = (one_way old.journal First First rs l.0 m.first l.1.first).0 in
       let text : journal_text Second l.0 ≡ h.journal = ap (journal_text Second) (sym same) ∙ sym j.text in

@@ -4,7 +4,7 @@ use Rattle.proto_faults.proofs.Common.{Vec, map_more, take-map, cases_Bool, byte
 use Rattle.proto_files.proofs.Common.{FileOf, file_of, files_of, IsBefore, never_before_itself}
 use Rattle.proto_entries.proofs.Common.{AreRising, ChangeOf, contains_none, rises_from}
 use Rattle.proto_store.proofs.Common.{Held, IsListed, bytes_at, with_bytes, with_file, with_journal, bytes_at-with_bytes, bytes_at-with_bytes-other, is_some-with_bytes, paths_of-with_bytes}
-use Rattle.proto_records.specs.Common.{ArePartlyBack, ArePutBack, IsPutBack, IsUnnamed, AreListed, AreOldFiles, ArePartlyIn, GoesBackTo, StaysAt, with_all, with_files}
+use Rattle.proto_records.specs.Common.{ArePartlyBack, ArePutBack, IsPutBack, IsUnnamed, AreListedInStore, AreOldFiles, ArePartlyIn, GoesBackTo, StaysAt, with_all, with_files}
 
 -- ---- the changes of an entry are of distinct paths
 
@@ -191,7 +191,7 @@ module _ (files : List (String Global × Vec ℕ)) (old : Option Held) where
 
   -- the file at a place is listed still
   pub next_listed : (i : ℕ) (file : String Global × Vec ℕ) (path : List ℕ) (mid : Option Held) → i < length files → file ≡ get_or files i file → path ≡ string_bytes file.0
-      → mid ≡ option_map (with_files (files_of (take i files))) old → AreListed old (files_of files) → IsListed mid path
+      → mid ≡ option_map (with_files (files_of (take i files))) old → AreListedInStore old (files_of files) → IsListed mid path
   next_listed i file path mid lt here p m all =
       let there : IsListed old (string_bytes file.0) = all (file_of file) (contains_map file_of files file (i, lt, sym here)) in
       subst (λ (z : List ℕ). IsListed mid z) (sym p) (still_listed old mid (files_of (take i files)) (string_bytes file.0) m there)

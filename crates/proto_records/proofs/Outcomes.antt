@@ -3,7 +3,7 @@ use Rattle.std.proofs.Common.{◌≡◌, ◌⊎◌, inl, inr, ℕ, true, List, [
 use Rattle.std.proofs.lemmas.List.Elements.{recursion_from_All}
 use Rattle.proto_files.specs.GivenFiles.{FileOf}
 use Rattle.proto_entries.proofs.Common.{ChangeOf, IsEntry, Asked}
-use Rattle.proto_records.specs.Common.{JournalFault, State, IsJournal, IsRecord, is_last_open, is_open, journal_text, opened, JournalsShrink, CountsFault, Over, ArePutBack, IsRecovered, IsRecovering, RecoverOutcome, AreListed, AreOldFiles, ArePartlyIn, OpenOutcome, with_files, IsTorn, HasStaleFile, IsStaleOnly, IsEitherWay, Version, RecordOf, IsJournalIn}
+use Rattle.proto_records.specs.Common.{JournalFault, State, IsJournal, IsRecord, is_last_open, is_open, journal_text, opened, JournalsShrink, CountsFault, Over, ArePutBack, IsRecovered, IsRecovering, RecoverOutcome, AreListedInStore, AreOldFiles, ArePartlyIn, OpenOutcome, with_files, IsTorn, HasStaleFile, IsStaleOnly, IsEitherWay, Version, RecordOf, IsJournalIn}
 use Rattle.proto_records.specs.declared.fault.JournalFault.TheVariants as fault
 use Rattle.proto_records.specs.declared.record.State.TheVariants as state
 use Rattle.proto_store.specs.Stores.{Held, HoldsJournal, IsListed, with_journal}
@@ -119,6 +119,6 @@ module _ (journal short : List ℕ) (entry : List ChangeOf) (olds : List FileOf)
       subst (λ (z : Option Held). RecoverOutcome (Some h) z (Err fault.Store)) (sym e) (inr (o.0, o.1, entry, inr (done h there o f)))
 
 -- what is put back is listed
-pub all_listed : (old mid : Option Held) (entry : List ChangeOf) (olds : List FileOf) → mid ≡ old → Over old (λ h. AreOldFiles entry h.files olds) → AreListed mid olds
+pub all_listed : (old mid : Option Held) (entry : List ChangeOf) (olds : List FileOf) → mid ≡ old → Over old (λ h. AreOldFiles entry h.files olds) → AreListedInStore mid olds
 all_listed None mid entry olds same f x k = subst (λ (z : Option Held). IsListed z x.path) (sym same) tt
 all_listed (Some h) mid entry olds same f x k = subst (λ (z : Option Held). IsListed z x.path) (sym same) (olds_listed entry h.files olds f x k)

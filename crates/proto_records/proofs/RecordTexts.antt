@@ -10,7 +10,7 @@ use Rattle.serde_json.specs.Read.{of_json}
 use Rattle.serde_json.specs.Written.{compact_text, members_text, outline}
 use Rattle.proto_text.specs.declared.splice.Splice.{Splice}
 use Rattle.proto_entries.specs.declared.entry.Change.{Change}
-use Rattle.proto_text.proofs.Common.{Edit, edit_of, edits, Each, IsRun, is_run, run_is, extends_word, is_digit, is_identifier, is_letter, is_mark, is_space, class_of}
+use Rattle.proto_text.proofs.Common.{Edit, edit_of, edits, EachByte, IsRun, is_run, run_is, extends_word, is_digit, is_identifier, is_letter, is_mark, is_space, class_of}
 use Rattle.proto_files.specs.WorkspacePaths.{is_path_byte, is_path_part, IsWorkspacePath}
 use Rattle.proto_entries.proofs.Common.{ChangeOf, change_of, IsChange, Asked, rename, delete_field, add_import, drop_import, IsDotted, IsNotable}
 use Rattle.proto_records.specs.Common.{State, Open, Done, splice_data, change_data, record_data, record_text, state_name, IsTextual, AreTextual, IsRecord, done, opened, HasNoFeed, Version, First, Second, RecordOf, IsNoted, asked_data, edit_data}
@@ -85,7 +85,7 @@ ascii_letter b h = elim (letter_or_digit (is_space b) (is_letter b) (is_digit b)
   | inr d ↦ digit_ascii b d
 ]
 
-ascii_letters : (bytes : List ℕ) → Each is_identifier bytes → are_ascii bytes ≡ true
+ascii_letters : (bytes : List ℕ) → EachByte is_identifier bytes → are_ascii bytes ≡ true
 ascii_letters [] h = refl
 ascii_letters (b ∷ bytes) h = both (nat_lt b 128) (are_ascii bytes) (ascii_letter b h.0) (ascii_letters bytes h.1)
 

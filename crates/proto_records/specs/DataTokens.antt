@@ -7,7 +7,7 @@ use Rattle.serde_json.specs.Data.{Data}
 use Rattle.serde_json.specs.Written.{outline}
 
 -- these tokens came behind those that stood there
-pub record Adds (old new : Written) (more : List Token) : Type 0 where
+pub record AddsTokens (old new : Written) (more : List Token) : Type 0 where
   pub before : new.before ≡ old.before
   pub tokens : new.tokens ≡ old.tokens ++ more
 

@@ -7,29 +7,29 @@ use Rattle.proto_records.specs.declared.fault.JournalFault.{JournalFault}
 use Rattle.proto_records.specs.declared.fault.JournalFault.TheVariants.{BadJournal, NothingToUndo, OpenEntry, Store, JournalFull, NoMemory, Refused}
 
 -- the number of a journal's fault; a refusal has its own number, and has 0 here
-abbrev pub number_of : JournalFault → ℕ
-number_of BadJournal = 1
-number_of NothingToUndo = 2
-number_of OpenEntry = 3
-number_of Store = 4
-number_of JournalFull = 5
-number_of NoMemory = 6
-number_of (Refused refusal) = 0
+abbrev pub journal_fault_number : JournalFault → ℕ
+journal_fault_number BadJournal = 1
+journal_fault_number NothingToUndo = 2
+journal_fault_number OpenEntry = 3
+journal_fault_number Store = 4
+journal_fault_number JournalFull = 5
+journal_fault_number NoMemory = 6
+journal_fault_number (Refused refusal) = 0
 
 -- the name of a journal's fault; a refusal has its own name, beside this one
-abbrev pub name_of : JournalFault → Text
-name_of BadJournal = codes "BadJournal"
-name_of NothingToUndo = codes "NothingToUndo"
-name_of OpenEntry = codes "OpenEntry"
-name_of Store = codes "Store"
-name_of JournalFull = codes "JournalFull"
-name_of NoMemory = codes "NoMemory"
-name_of (Refused refusal) = codes "Refused"
+abbrev pub journal_fault_name : JournalFault → Text
+journal_fault_name BadJournal = codes "BadJournal"
+journal_fault_name NothingToUndo = codes "NothingToUndo"
+journal_fault_name OpenEntry = codes "OpenEntry"
+journal_fault_name Store = codes "Store"
+journal_fault_name JournalFull = codes "JournalFull"
+journal_fault_name NoMemory = codes "NoMemory"
+journal_fault_name (Refused refusal) = codes "Refused"
 
 -- refusal 18 is want of memory
 abbrev pub is_no_memory : Refusal → Bool
-is_no_memory refusal = refusals.number_of refusal == 18
+is_no_memory refusal = refusals.refusal_number refusal == 18
 
 -- what a journal's call answers for a refusal: want of memory is its own fault, and never a refusal
-abbrev pub fault_of : Refusal → JournalFault
-fault_of refusal = if is_no_memory refusal then NoMemory else Refused refusal
+abbrev pub fault_of_refusal : Refusal → JournalFault
+fault_of_refusal refusal = if is_no_memory refusal then NoMemory else Refused refusal

@@ -46,9 +46,9 @@ is_last_open (r ∷ []) = is_open r.state
 is_last_open (r ∷ s ∷ rs) = is_last_open (s ∷ rs)
 
 -- each record that another one follows is done
-abbrev pub AreInOrder : List RecordOf → Type 0
-AreInOrder [] = Unit {0}
-AreInOrder (r ∷ rs) = (rs ≢ [] → r.state ≡ Done) × AreInOrder rs
+abbrev pub RecordsAreInOrder : List RecordOf → Type 0
+RecordsAreInOrder [] = Unit {0}
+RecordsAreInOrder (r ∷ rs) = (rs ≢ [] → r.state ≡ Done) × RecordsAreInOrder rs
 
 -- how many bytes a journal has at most
 abbrev pub journal_limit : ℕ
@@ -61,7 +61,7 @@ journal_text version rs = flat_map (record_text version) rs
 -- the bytes are a journal of this version, and these are its records
 pub record IsJournalIn (version : Version) (bytes : Text) (records : List RecordOf) : Type 0 where
   pub text : bytes ≡ journal_text version records
-  pub order : AreInOrder records
+  pub order : RecordsAreInOrder records
   pub entries : All (IsRecord version) records
   pub short : length bytes ≤ journal_limit
 

@@ -18,9 +18,9 @@ CountsFault before after fault.Store = after ≡ before + 1
 CountsFault before after _ = after ≡ before
 
 -- the same of the answer of a call: where it is well, no call of the store failed
-abbrev pub CountsStore : {T : Type 0} → ℕ → ℕ → Result T JournalFault → Type 0
-CountsStore before after (Ok value) = after ≡ before
-CountsStore before after (Err f) = CountsFault before after f
+abbrev pub CountsJournal : {T : Type 0} → ℕ → ℕ → Result T JournalFault → Type 0
+CountsJournal before after (Ok value) = after ≡ before
+CountsJournal before after (Err f) = CountsFault before after f
 
 -- no call of the store failed, and memory was there
 abbrev pub IsSettled : {T : Type 0} → Result T JournalFault → Type 0

@@ -29,8 +29,8 @@ IsOpenFirst journal = (records : List RecordOf)
     × IsJournalIn First journal records × (is_last_open records ≡ true)
 
 -- the journal is of the first version, and its text in the second would pass the limit
-abbrev pub IsTooLong : Text → Type 0
-IsTooLong journal = (records : List RecordOf)
+abbrev pub IsMigrationTooLong : Text → Type 0
+IsMigrationTooLong journal = (records : List RecordOf)
     × IsMigrant journal records × (journal_limit < length (journal_text Second records))
 
 -- the text of the second version that a journal gets, if any; or why it gets none
@@ -43,7 +43,7 @@ SecondOutcome journal (Err fault.BadJournal) =
 SecondOutcome journal (Err fault.NothingToUndo) = ⊥
 SecondOutcome journal (Err fault.OpenEntry) = IsOpenFirst journal
 SecondOutcome journal (Err fault.Store) = ⊥
-SecondOutcome journal (Err fault.JournalFull) = IsTooLong journal
+SecondOutcome journal (Err fault.JournalFull) = IsMigrationTooLong journal
 SecondOutcome journal (Err fault.NoMemory) = Unit {0}
 SecondOutcome journal (Err (fault.Refused _)) = ⊥
 
@@ -66,7 +66,7 @@ MigrateOutcome old new (Err fault.OpenEntry) =
     (new ≡ old) × Over old (λ held. IsOpenFirst held.journal)
 MigrateOutcome old new (Err fault.Store) = (new ≡ old) ⊎ OverBoth old new IsMigrated
 MigrateOutcome old new (Err fault.JournalFull) =
-    (new ≡ old) × Over old (λ held. IsTooLong held.journal)
+    (new ≡ old) × Over old (λ held. IsMigrationTooLong held.journal)
 MigrateOutcome old new (Err fault.NoMemory) = new ≡ old
 MigrateOutcome old new (Err (fault.Refused _)) = ⊥
 

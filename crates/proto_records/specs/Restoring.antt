@@ -103,8 +103,8 @@ abbrev pub with_files : List FileOf → Held → Held
 with_files fs held = record held { files = with_all fs held.files }
 
 -- a file of the store stands at the path of each of these
-abbrev pub AreListed : Option Held → List FileOf → Type 0
-AreListed held fs = (f : FileOf) → Contains fs f → IsListed held f.path
+abbrev pub AreListedInStore : Option Held → List FileOf → Type 0
+AreListedInStore held fs = (f : FileOf) → Contains fs f → IsListed held f.path
 
 -- the first of these files are in their places
 abbrev pub ArePartlyIn : List FileOf → Option Held → Option Held → Type 0

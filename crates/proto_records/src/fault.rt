@@ -1,7 +1,7 @@
 //! What may be wrong with a journal.
 
 ghost use Rattle.std.specs.Prelude.{◌≡◌};
-ghost use Rattle.proto_records.specs.FaultTable.{number_of, name_of};
+ghost use Rattle.proto_records.specs.FaultTable.{journal_fault_number, journal_fault_name};
 
 use proto_entries::Refusal;
 use std::alloc::{AllocError, AllocFailed};
@@ -36,7 +36,7 @@ impl JournalFault {
     /// The number in the table of these faults, from 1
     /// to 6; 0 for a refusal, which has its own number.
     pub fn number(&self) -> u32
-        ensures { result ≡ number_of self.now }
+        ensures { result ≡ journal_fault_number self.now }
     {
         match self {
             JournalFault::BadJournal => 1,
@@ -51,7 +51,7 @@ impl JournalFault {
 
     /// The name in the table of these faults.
     pub fn name(&self) -> &'static str
-        ensures { result.now ≡ name_of self.now }
+        ensures { result.now ≡ journal_fault_name self.now }
     {
         match self {
             JournalFault::BadJournal => "BadJournal",
@@ -96,9 +96,9 @@ impl<T: Drop> From<AllocFailed<T>> for JournalFault {
 }
 
 impl From<Refusal> for JournalFault {
-    ghost use Rattle.proto_records.specs.FaultTable.{fault_of};
+    ghost use Rattle.proto_records.specs.FaultTable.{fault_of_refusal};
 
-    ghost from_gives = { λ refusal e. e ≡ fault_of refusal };
+    ghost from_gives = { λ refusal e. e ≡ fault_of_refusal refusal };
 
     fn from(refusal: Refusal) -> JournalFault {
         match refusal {

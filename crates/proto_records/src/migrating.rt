@@ -1,7 +1,7 @@
 //! The move of a journal to the second version.
 
 ghost use Rattle.std.specs.Prelude.{◌-◌, ◌^◌, ◌<◌};
-ghost use Rattle.proto_records.specs.Known.{CountsStore};
+ghost use Rattle.proto_records.specs.Known.{CountsJournal};
 ghost use Rattle.proto_records.specs.Migration.{MigrateOutcome, SecondOutcome};
 
 use crate::fault::JournalFault;
@@ -13,7 +13,7 @@ use proto_store::{Store, StoreFault};
 use std::alloc::Global;
 
 // The text of a journal in the second version, where it is of the first.
-fn migrated(alloc: Global, journal: &[u8]) -> Result<Option<Vec<u8>>, JournalFault>
+fn migrated_text(alloc: Global, journal: &[u8]) -> Result<Option<Vec<u8>>, JournalFault>
     ensures { SecondOutcome journal.now result }
 {
     let (version, records) = read_journal(alloc, journal)?;
@@ -43,13 +43,13 @@ fn migrated(alloc: Global, journal: &[u8]) -> Result<Option<Vec<u8>>, JournalFau
 pub fn migrate<S: Store>(alloc: Global, store: &mut S) -> Result<bool, JournalFault>
     requires { S.failure_count store.old < 2 ^ 64 - 1 }
     ensures outcome { MigrateOutcome (S.holds store.old) (S.holds store.new) result }
-    ensures count { CountsStore (S.failure_count store.old) (S.failure_count store.new) result }
+    ensures count { CountsJournal (S.failure_count store.old) (S.failure_count store.new) result }
 {
     let journal = match store.read_journal() {
         Ok(journal) => journal,
         Err(StoreFault::Failed) => return Err(JournalFault::Store),
     };
-    let Some(text) = migrated(alloc, journal.as_slice())? else {
+    let Some(text) = migrated_text(alloc, journal.as_slice())? else {
         return Ok(false);
     };
     match store.replace_journal(text.as_slice()) {

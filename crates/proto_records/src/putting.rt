@@ -2,7 +2,7 @@
 
 ghost use Rattle.std.specs.Prelude.{◌≡◌, ◌⊎◌, ◌-◌, ◌^◌, ◌<◌, OnErr, OnOk, option_map};
 ghost use Rattle.proto_files.specs.GivenFiles.{files_of};
-ghost use Rattle.proto_records.specs.Restoring.{AreListed, ArePartlyIn, with_files};
+ghost use Rattle.proto_records.specs.Restoring.{AreListedInStore, ArePartlyIn, with_files};
 ghost use Rattle.proto_store.specs.Stores.{Counts, with_journal};
 
 use proto_store::{Store, StoreFault};
@@ -10,7 +10,7 @@ use proto_store::{Store, StoreFault};
 // Puts the files in their places, one after the other.
 fn put_files<S: Store>(store: &mut S, files: &[(String, Vec<u8>)]) -> Result<(), StoreFault>
     requires room { S.failure_count store.old < 2 ^ 64 - 1 }
-    requires listed { AreListed (S.holds store.old) (files_of files.now) }
+    requires listed { AreListedInStore (S.holds store.old) (files_of files.now) }
     ensures ok { OnOk result (S.holds store.new
         ≡ option_map (with_files (files_of files.now)) (S.holds store.old)) }
     ensures err { OnErr result
@@ -31,7 +31,7 @@ pub(crate) fn put_back<S: Store>(
     journal: &[u8],
 ) -> Result<(), StoreFault>
     requires room { S.failure_count store.old < 2 ^ 64 - 1 }
-    requires listed { AreListed (S.holds store.old) (files_of files.now) }
+    requires listed { AreListedInStore (S.holds store.old) (files_of files.now) }
     ensures ok { OnOk result (S.holds store.new
         ≡ option_map (with_journal journal.now)
         (option_map (with_files (files_of files.now)) (S.holds store.old))) }

@@ -1,7 +1,7 @@
 //! Recovery of a torn store.
 
 ghost use Rattle.std.specs.Prelude.{◌-◌, ◌^◌, ◌<◌};
-ghost use Rattle.proto_records.specs.Known.{CountsStore};
+ghost use Rattle.proto_records.specs.Known.{CountsJournal};
 ghost use Rattle.proto_records.specs.Recovery.{RecoverOutcome};
 ghost use Rattle.proto_records.specs.Restoring.{OpenOutcome};
 
@@ -41,7 +41,7 @@ fn open_entry(alloc: Global, journal: &[u8]) -> Result<Option<Entry>, JournalFau
 pub fn recover<S: Store>(alloc: Global, store: &mut S) -> Result<bool, JournalFault>
     requires { S.failure_count store.old < 2 ^ 64 - 1 }
     ensures outcome { RecoverOutcome (S.holds store.old) (S.holds store.new) result }
-    ensures count { CountsStore (S.failure_count store.old) (S.failure_count store.new) result }
+    ensures count { CountsJournal (S.failure_count store.old) (S.failure_count store.new) result }
 {
     let journal = match store.read_journal() {
         Ok(journal) => journal,

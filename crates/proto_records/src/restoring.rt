@@ -7,7 +7,7 @@ ghost use Rattle.std.specs.String.{string_bytes};
 ghost use Rattle.proto_files.specs.GivenFiles.{file_of, files_of};
 ghost use Rattle.proto_entries.specs.Entries.{ChangeOf, IsChange, change_of, inverted, turned_round};
 ghost use Rattle.proto_entries.specs.Putting.{IsChangedText};
-ghost use Rattle.proto_records.specs.Known.{CountsStore, Over};
+ghost use Rattle.proto_records.specs.Known.{CountsJournal, Over};
 ghost use Rattle.proto_records.specs.Restoring.{AddsOldFiles, AreOldFiles, IsAskedFor, IsNeither, IsOldFile, IsOldText, IsStaleOnly};
 ghost use Rattle.proto_records.specs.Torn.{IsEitherWay};
 
@@ -20,7 +20,11 @@ use proto_text::{SpliceFault, apply_splices};
 use std::alloc::Global;
 
 // What a change makes of a text. None where the text is not as before it.
-fn changed(alloc: Global, change: &Change, text: &[u8]) -> Result<Option<Vec<u8>>, NoMemory>
+fn text_with_change(
+    alloc: Global,
+    change: &Change,
+    text: &[u8],
+) -> Result<Option<Vec<u8>>, NoMemory>
     ensures { IfOk result (λ found. IsChangedText text.now (change_of change.now) found) }
 {
     if text.len() != change.before as usize {
@@ -48,10 +52,10 @@ fn old_text(
     ensures ok { IfOk result (IsOldText (change_of change.now) text.now) }
     ensures err { IfErr result (IsNeither (change_of change.now) text.now) }
 {
-    if changed(alloc, change, text)?.is_some() {
+    if text_with_change(alloc, change, text)?.is_some() {
         return Ok(None);
     }
-    match changed(alloc, back, text)? {
+    match text_with_change(alloc, back, text)? {
         Some(old) => Ok(Some(old)),
         None => Err(JournalFault::Refused(Refusal::Stale)),
     }
@@ -88,7 +92,7 @@ fn old_file<S: Store>(
     ensures err { IfErr result (IsStaleOnly (Over (S.holds store.old)
         (λ held. IsEitherWay held.files (change_of change.now) → ⊥))) }
     ensures same { S.holds store.new ≡ S.holds store.old }
-    ensures count { CountsStore (S.failure_count store.old) (S.failure_count store.new) result }
+    ensures count { CountsJournal (S.failure_count store.old) (S.failure_count store.new) result }
 {
     let path = change.path.as_str();
     if !known.contains(path) {
@@ -123,7 +127,7 @@ fn add_each<S: Store>(
     ensures err { IfErr result (IsStaleOnly (Over (S.holds store.old) (λ held.
         (c : ChangeOf) × Contains entry.now c × (IsEitherWay held.files c → ⊥)))) }
     ensures same { S.holds store.new ≡ S.holds store.old }
-    ensures count { CountsStore (S.failure_count store.old) (S.failure_count store.new) result }
+    ensures count { CountsJournal (S.failure_count store.old) (S.failure_count store.new) result }
 {
     let changes = entry.changes();
     for place in 0..changes.len() {
@@ -147,7 +151,7 @@ fn add_old_files<S: Store>(
     ensures err { IfErr result (IsStaleOnly (Over (S.holds store.old) (λ held.
         (c : ChangeOf) × Contains entry.now c × (IsEitherWay held.files c → ⊥)))) }
     ensures same { S.holds store.new ≡ S.holds store.old }
-    ensures count { CountsStore (S.failure_count store.old) (S.failure_count store.new) result }
+    ensures count { CountsJournal (S.failure_count store.old) (S.failure_count store.new) result }
 {
     let paths = match store.list() {
         Ok(paths) => paths,
@@ -170,7 +174,7 @@ pub(crate) fn old_files<S: Store>(
     ensures err { IfErr result (IsStaleOnly (Over (S.holds store.old) (λ held.
         (c : ChangeOf) × Contains entry.now c × (IsEitherWay held.files c → ⊥)))) }
     ensures same { S.holds store.new ≡ S.holds store.old }
-    ensures count { CountsStore (S.failure_count store.old) (S.failure_count store.new) result }
+    ensures count { CountsJournal (S.failure_count store.old) (S.failure_count store.new) result }
 {
     let mut files = Vec::new(alloc);
     add_old_files(alloc, store, entry, &mut files)?;

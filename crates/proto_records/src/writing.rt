@@ -10,7 +10,7 @@ ghost use Rattle.proto_entries.specs.EditsAsked.{Asked, asked};
 ghost use Rattle.proto_entries.specs.Entries.{change_of, IsEntry};
 ghost use Rattle.proto_records.specs.declared.record.Version.TheVariants.{First as first, Second as second};
 ghost use Rattle.proto_records.specs.RecordText.{asked_data, splice_data, change_data, edit_data, record_data, record_text, state_name};
-ghost use Rattle.proto_records.specs.DataTokens.{Adds, data_tokens};
+ghost use Rattle.proto_records.specs.DataTokens.{AddsTokens, data_tokens};
 ghost use Rattle.proto_records.specs.Journals.{IsTextual, IsTold, AreTextual, IsRecord};
 
 use crate::record::{Record, State, Version};
@@ -24,7 +24,7 @@ use std::alloc::{AllocError, Global};
 const LINE_ROOM: usize = 256;
 
 fn write_text(writer: &mut Writer, key: &str, text: &str) -> Result<(), AllocError>
-    ensures { OnOk result (Adds writer.old writer.new
+    ensures { OnOk result (AddsTokens writer.old writer.new
         (key_token key.now ∷ string text.now ∷ [])) }
 {
     writer.key(key)?;
@@ -32,7 +32,7 @@ fn write_text(writer: &mut Writer, key: &str, text: &str) -> Result<(), AllocErr
 }
 
 fn write_number(writer: &mut Writer, key: &str, n: u32) -> Result<(), AllocError>
-    ensures { OnOk result (Adds writer.old writer.new
+    ensures { OnOk result (AddsTokens writer.old writer.new
         (key_token key.now ∷ number (decimal n) ∷ [])) }
 {
     writer.key(key)?;
@@ -42,7 +42,7 @@ fn write_number(writer: &mut Writer, key: &str, n: u32) -> Result<(), AllocError
 #[tactic(auto, unfolding(crate::specs::RecordText::splice_data))]
 fn write_splice(writer: &mut Writer, splice: &Splice) -> Result<(), AllocError>
     ensures { OnOk result
-        (Adds writer.old writer.new (data_tokens (splice_data (edit_of splice.now)))) }
+        (AddsTokens writer.old writer.new (data_tokens (splice_data (edit_of splice.now)))) }
 {
     writer.begin_object()?;
     write_number(writer, "at", splice.at)?;
@@ -52,7 +52,7 @@ fn write_splice(writer: &mut Writer, splice: &Splice) -> Result<(), AllocError>
 }
 
 fn write_splices(writer: &mut Writer, splices: &[Splice]) -> Result<(), AllocError>
-    ensures { OnOk result (Adds writer.old writer.new
+    ensures { OnOk result (AddsTokens writer.old writer.new
         (data_tokens (array (items_of (map splice_data (edits splices.now)))))) }
 {
     writer.begin_array()?;
@@ -64,7 +64,7 @@ fn write_splices(writer: &mut Writer, splices: &[Splice]) -> Result<(), AllocErr
 
 // The splices of a change, which are texts.
 fn write_edits(writer: &mut Writer, splices: &Splices) -> Result<(), AllocError>
-    ensures written { OnOk result (Adds writer.old writer.new
+    ensures written { OnOk result (AddsTokens writer.old writer.new
         (data_tokens (array (items_of (map splice_data splices.now))))) }
     ensures texts { All IsTextual splices.now }
 {
@@ -74,7 +74,7 @@ fn write_edits(writer: &mut Writer, splices: &Splices) -> Result<(), AllocError>
 #[tactic(auto, unfolding(crate::specs::RecordText::change_data))]
 fn write_change(writer: &mut Writer, change: &Change) -> Result<(), AllocError>
     ensures written { OnOk result
-        (Adds writer.old writer.new (data_tokens (change_data (change_of change.now)))) }
+        (AddsTokens writer.old writer.new (data_tokens (change_data (change_of change.now)))) }
     ensures texts { OnOk result (All IsTextual change.now.splices) }
 {
     writer.begin_object()?;
@@ -87,7 +87,7 @@ fn write_change(writer: &mut Writer, change: &Change) -> Result<(), AllocError>
 }
 
 fn write_changes(writer: &mut Writer, changes: &[Change]) -> Result<(), AllocError>
-    ensures written { OnOk result (Adds writer.old writer.new
+    ensures written { OnOk result (AddsTokens writer.old writer.new
         (data_tokens (array (items_of (map change_data (map change_of changes.now)))))) }
     ensures texts { OnOk result (AreTextual (map change_of changes.now)) }
 {
@@ -110,7 +110,7 @@ pub fn state_text(state: State) -> &'static str
 
 // The changes of an entry.
 fn write_files(writer: &mut Writer, entry: &Entry) -> Result<(), AllocError>
-    ensures written { OnOk result (Adds writer.old writer.new
+    ensures written { OnOk result (AddsTokens writer.old writer.new
         (data_tokens (array (items_of (map change_data entry.now))))) }
     ensures texts { OnOk result (AreTextual entry.now) }
     ensures entry { IsEntry entry.now }
@@ -124,7 +124,7 @@ fn write_pair(
     first: (&str, &str),
     last: (&str, &str),
 ) -> Result<(), AllocError>
-    ensures { OnOk result (Adds writer.old writer.new (begin_object
+    ensures { OnOk result (AddsTokens writer.old writer.new (begin_object
         ∷ key_token first.entry.0.now ∷ string first.entry.1.now
         ∷ key_token last.entry.0.now ∷ string last.entry.1.now ∷ end_object ∷ [])) }
 {
@@ -141,7 +141,7 @@ fn write_three(
     middle: (&str, &str),
     last: (&str, &str),
 ) -> Result<(), AllocError>
-    ensures { OnOk result (Adds writer.old writer.new (begin_object
+    ensures { OnOk result (AddsTokens writer.old writer.new (begin_object
         ∷ key_token first.entry.0.now ∷ string first.entry.1.now
         ∷ key_token middle.entry.0.now ∷ string middle.entry.1.now
         ∷ key_token last.entry.0.now ∷ string last.entry.1.now ∷ end_object ∷ [])) }
@@ -156,7 +156,7 @@ fn write_three(
 #[tactic(auto, unfolding(crate::specs::RecordText::asked_data))]
 fn write_asked(writer: &mut Writer, edit: &Edit) -> Result<(), AllocError>
     ensures { OnOk result
-        (Adds writer.old writer.new (data_tokens (asked_data (asked edit.now)))) }
+        (AddsTokens writer.old writer.new (data_tokens (asked_data (asked edit.now)))) }
 {
     match edit {
         Edit::Rename { name, to } => {
@@ -184,7 +184,7 @@ fn write_asked(writer: &mut Writer, edit: &Edit) -> Result<(), AllocError>
 
 #[tactic(auto, unfolding(crate::specs::RecordText::edit_data))]
 fn write_edit(writer: &mut Writer, edit: Option<&Edit>) -> Result<(), AllocError>
-    ensures { OnOk result (Adds writer.old writer.new
+    ensures { OnOk result (AddsTokens writer.old writer.new
         (data_tokens (edit_data (option_map (λ e. asked e.now) edit.entry)))) }
 {
     match edit {
@@ -200,7 +200,7 @@ fn write_rest(
     entry: &Entry,
     version: u32,
 ) -> Result<(), AllocError>
-    ensures written { OnOk result (Adds writer.old writer.new
+    ensures written { OnOk result (AddsTokens writer.old writer.new
         (key_token (codes "files") ∷ (data_tokens (array (items_of (map change_data entry.now)))
         ++ key_token (codes "state") ∷ string (state_name state)
         ∷ key_token (codes "version") ∷ number (decimal version) ∷ end_object ∷ []))) }
@@ -216,7 +216,8 @@ fn write_rest(
 
 #[tactic(auto, unfolding(crate::specs::RecordText::record_data))]
 fn write_first(writer: &mut Writer, state: State, entry: &Entry) -> Result<(), AllocError>
-    ensures written { OnOk result ((edit : Option Asked) → Adds writer.old writer.new (data_tokens
+    ensures written { OnOk result ((edit : Option Asked) → AddsTokens writer.old writer.new
+        (data_tokens
         (record_data first (record { state = state; entry = entry.now; edit = edit })))) }
     ensures texts { OnOk result (AreTextual entry.now) }
     ensures entry { OnOk result (IsEntry entry.now) }
@@ -232,7 +233,7 @@ fn write_second(
     entry: &Entry,
     edit: Option<&Edit>,
 ) -> Result<(), AllocError>
-    ensures written { OnOk result (Adds writer.old writer.new
+    ensures written { OnOk result (AddsTokens writer.old writer.new
         (data_tokens (record_data second (record {
           state = state;
           entry = entry.now;
@@ -254,7 +255,7 @@ fn write_record(
     entry: &Entry,
     edit: Option<&Edit>,
 ) -> Result<(), AllocError>
-    ensures written { OnOk result (Adds writer.old writer.new
+    ensures written { OnOk result (AddsTokens writer.old writer.new
         (data_tokens (record_data version (record {
           state = state;
           entry = entry.now;

@@ -10,12 +10,12 @@ use Rattle.proto_tree.proofs.Common.{first_of, Tree}
 use Rattle.proto_files.proofs.Common.{FileOf, file_at, AreRead, ReadOf, read_at, IsTreeOf, same_tree}
 use Rattle.proto_meaning.proofs.Common.{at, ArePlain, joined, same_name, Used, name_from_same, same_from_name, joined_apart, meant}
 use Rattle.proto_imports.proofs.Common.{names_of_files, text_of, used_named, uses_of, names_are_plain}
-use Rattle.proto_names.proofs.Common.{IsLinkRead, TextMeant, meant_by_link, meant_by_use, LinkOf, row_at, text_at}
+use Rattle.proto_names.proofs.Common.{IsLinkRead, TextMeant, meant_by_link, meant_by_use, LinkOf, row_at, name_text}
 use Rattle.proto_names.specs.declared.references.Meant.{Meant}
 use Rattle.proto_parts.proofs.Common.{BlockOf, FieldOf, blocks_in, Scene, text}
 use Rattle.proto_rename_laws.proofs.Common.{meaning_of, default_words, fields_of_block, fields_of_file, meaning_from, means_value, renamed_default, type_meaning}
 use Rattle.proto_members.proofs.Common.{holders_in, may_hold, IsReadAs}
-use Rattle.proto_rename.specs.Defaults.{defaults_in, defaults_of, is_text, spelled, type_means}
+use Rattle.proto_rename.specs.Defaults.{defaults_in, defaults_of, is_found_name, spelled, type_means}
 
 -- ---- lists
 
@@ -78,7 +78,7 @@ by_meaning word enum old (Some m) ws = go (same_name m enum)
 module _ (files : List FileOf) (reads : List ReadOf) (are : AreRead files reads) (l : LinkOf) (link : IsLinkRead files reads l) (file : ℕ) (within : file < length files) (enum : List (List ℕ)) (plain : ArePlain enum) where
   -- the link's answer for a first token
   same_texts : (ms : List Meant) (us : List (Used ℕ)) (first : ℕ) → map (meant_by_link l) ms ≡ map (meant_by_use files reads file) us
-      → option_and_then (text_at l) (row_at ms first) ≡ option_map joined (option_and_then (meaning_of files reads file) (find (λ (u : Used ℕ). u.first == first) us))
+      → option_and_then (name_text l) (row_at ms first) ≡ option_map joined (option_and_then (meaning_of files reads file) (find (λ (u : Used ℕ). u.first == first) us))
   same_texts [] [] first e = refl
   same_texts [] (u ∷ us) first e = absurd cc
   same_texts (m ∷ ms) [] first e = absurd cc
@@ -87,9 +87,9 @@ module _ (files : List FileOf) (reads : List ReadOf) (are : AreRead files reads)
       let on : map (meant_by_link l) ms ≡ map (meant_by_use files reads file) us = cc in
       go (m.token == first) (u.first == first) (ap (λ (z : TextMeant). z.token == first) here) (ap (λ (z : TextMeant). z.text) here) (same_texts ms us first on)
     where
-      go : (b d : Bool) → b ≡ d → text_at l m.row ≡ option_map joined (meaning_of files reads file u)
-          → option_and_then (text_at l) (row_at ms first) ≡ option_map joined (option_and_then (meaning_of files reads file) (find (λ (x : Used ℕ). x.first == first) us))
-          → option_and_then (text_at l) (option_map (λ (x : Meant). x.row) (cond b (Some m) (find (λ (x : Meant). x.token == first) ms)))
+      go : (b d : Bool) → b ≡ d → name_text l m.row ≡ option_map joined (meaning_of files reads file u)
+          → option_and_then (name_text l) (row_at ms first) ≡ option_map joined (option_and_then (meaning_of files reads file) (find (λ (x : Used ℕ). x.first == first) us))
+          → option_and_then (name_text l) (option_map (λ (x : Meant). x.row) (cond b (Some m) (find (λ (x : Meant). x.token == first) ms)))
           ≡ option_map joined (option_and_then (meaning_of files reads file) (cond d (Some u) (find (λ (x : Used ℕ). x.first == first) us)))
       go true true e now more = now
       go false false e now more = more
@@ -106,9 +106,9 @@ module _ (files : List FileOf) (reads : List ReadOf) (are : AreRead files reads)
   same_type (field_type.Scalar t) = refl
   same_type (field_type.Reference r) =
       let first = first_of r.dot r.words in
-      ap (is_text (joined enum)) (same_texts (get_or l.meant file []) (uses_of reads file) first (link.means file within).texts) ∙ go (meaning_from files reads file first) (plain_meaning (find (λ (u : Used ℕ). u.first == first) (uses_of reads file)))
+      ap (is_found_name (joined enum)) (same_texts (get_or l.meant file []) (uses_of reads file) first (link.means file within).texts) ∙ go (meaning_from files reads file first) (plain_meaning (find (λ (u : Used ℕ). u.first == first) (uses_of reads file)))
     where
-      go : (o : Option (List (List ℕ))) → ((m : List (List ℕ)) → o ≡ Some m → ArePlain m) → is_text (joined enum) (option_map joined o) ≡ is_enum enum o
+      go : (o : Option (List (List ℕ))) → ((m : List (List ℕ)) → o ≡ Some m → ArePlain m) → is_found_name (joined enum) (option_map joined o) ≡ is_enum enum o
       go None p = refl
       go (Some m) p = says_same m enum (p m refl) plain
 

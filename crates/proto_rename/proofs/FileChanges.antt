@@ -6,7 +6,7 @@ use Rattle.proto_text.proofs.Common.{new_len, old_len, token_edits, AreTokens, o
 use Rattle.proto_files.proofs.Common.{FileOf, file_at, ReadOf, AreRead, read_at}
 use Rattle.proto_entries.specs.Entries.{ChangeOf, change_of}
 use Rattle.proto_entries.specs.declared.entry.Change.{Change}
-use Rattle.proto_rename_laws.proofs.Common.{change_by, IsTooLong, splices_in, NewWords, in_file}
+use Rattle.proto_rename_laws.proofs.Common.{change_by, IsRewordedTooLong, splices_in, NewWords, words_of_file}
 use Rattle.proto_rename.specs.Common.{TooLarge, bytes_in, IsChangeAt, IsRewordFault, marked_from, marked_tokens, PutsAt, StandInOrder, word_put}
 use Rattle.proto_rename.proofs.PlacedWords.{edits_are, marked_length, marked_there, there_marked}
 use Rattle.proto_rename.proofs.TokensInOrder.{marked_in_order, put_new_len, put_old_len, tokens_in_order}
@@ -45,20 +45,20 @@ module _ (files : List FileOf) (file : ℕ) (within : file < length files) (toke
 
   -- the splices of a change of words are the words at the marked tokens
   module _ (reads : List ReadOf) (are : AreRead files reads) (c : NewWords) (puts : PutsAt c file places to) where
-    on : (i : ℕ) → i < length tokens → get_or marks i false ≡ true → in_file c file (0 + i) ≡ Some to
-    on i l h = ap (in_file c file) {x = 0 + i} {y = i} (omega arith) ∙ elim (cases_Bool (list_any (λ p. p == i) places)) [
+    on : (i : ℕ) → i < length tokens → get_or marks i false ≡ true → words_of_file c file (0 + i) ≡ Some to
+    on i l h = ap (words_of_file c file) {x = 0 + i} {y = i} (omega arith) ∙ elim (cases_Bool (list_any (λ p. p == i) places)) [
       | inl t ↦ (let r = any_to (λ p. p == i) places t in puts.placed i (subst (Contains places) (eqb-true r.0 i r.2) r.1))
       | inr f ↦ absurd (both_ways (get_or marks i false) (there_marked (replicate (length tokens) false) places i (blank (length tokens) i) (λ d. both_ways (list_any (λ p. p == i) places) f (any_from (λ p. p == i) places i d (eq-eqb i i refl)))) h)
     ]
 
-    off : (i : ℕ) → i < length tokens → get_or marks i false ≡ false → in_file c file (0 + i) ≡ None
-    off i l h = ap (in_file c file) {x = 0 + i} {y = i} (omega arith)
+    off : (i : ℕ) → i < length tokens → get_or marks i false ≡ false → words_of_file c file (0 + i) ≡ None
+    off i l h = ap (words_of_file c file) {x = 0 + i} {y = i} (omega arith)
         ∙ puts.others i (λ d. both_ways (get_or marks i false) h (marked_there (replicate (length tokens) false) places i (omega (arith, l, long)) d))
 
     splices_are : splices_in c files reads file ≡ map (word_put bytes to) (chosen tokens places)
     splices_are =
-        ap (λ (z : List Token). token_edits bytes (in_file c file) 0 z) (one_token_list bytes (read_at reads file).tokens tokens (are.tokens file within) lexed)
-        ∙ edits_are bytes to (in_file c file) 0 tokens marks (marks_are_as_many tokens places) on off
+        ap (λ (z : List Token). token_edits bytes (words_of_file c file) 0 z) (one_token_list bytes (read_at reads file).tokens tokens (are.tokens file within) lexed)
+        ∙ edits_are bytes to (words_of_file c file) 0 tokens marks (marks_are_as_many tokens places) on off
 
     module _ (ts : List Token) (is : ts ≡ chosen tokens places) where
       splices : splices_in c files reads file ≡ map (word_put bytes to) ts
@@ -73,10 +73,10 @@ module _ (files : List FileOf) (file : ℕ) (within : file < length files) (toke
       new : new_len (splices_in c files reads file) ≡ length ts * length to
       new = ap new_len splices ∙ put_new_len bytes to ts
 
-      too_long : text_limit + bytes_in ts < length bytes + length ts * length to → IsTooLong c files reads file
+      too_long : text_limit + bytes_in ts < length bytes + length ts * length to → IsRewordedTooLong c files reads file
       too_long h = let a = old in let b = new in omega (arith, a, b, h)
 
-      not_too_long : length bytes + length ts * length to ≤ text_limit + bytes_in ts → IsTooLong c files reads file → ⊥
+      not_too_long : length bytes + length ts * length to ≤ text_limit + bytes_in ts → IsRewordedTooLong c files reads file → ⊥
       not_too_long h k = let a = old in let b = new in omega (arith, a, b, h, k)
 
   -- ---- what is answered

@@ -7,7 +7,7 @@ use Rattle.proto_files.proofs.Common.{FileOf, file_at, AreRead, ReadOf, read_at,
 use Rattle.proto_meaning.proofs.Common.{at, file_placed}
 use Rattle.proto_listing.specs.FromTree.{items_in}
 use Rattle.proto_parts.proofs.Common.{json_name_of, json_word, written_or, text_option, FieldOf, blocks_in, Scene, text, value, value_in}
-use Rattle.proto_rename_laws.proofs.Common.{scene_of, Clashes}
+use Rattle.proto_rename_laws.proofs.Common.{scene_of, JsonNameClashes}
 use Rattle.proto_members.proofs.Common.{holders_in, may_hold, IsReadAs, clash_in, fields_by, is_made, is_other, is_unwritten}
 use Rattle.proto_members.proofs.MemberTests.{block_declared, field_from, field_to}
 
@@ -29,7 +29,7 @@ module _ (files : List FileOf) (reads : List ReadOf) (are : AreRead files reads)
   tree_is : (read_at reads file).tree ≡ tree
   tree_is = same_tree files reads file tree are within of_file
 
-  pub clash_to : scene.is_proto3 ≡ true → list_any (clash_in scene token name) (holders_in tree) ≡ true → Clashes files reads (at file token) word
+  pub clash_to : scene.is_proto3 ≡ true → list_any (clash_in scene token name) (holders_in tree) ≡ true → JsonNameClashes files reads (at file token) word
   clash_to version e =
       let x = any_to (clash_in scene token name) (holders_in tree) e in
       let fs = fields_by x.0.header x.0.within in
@@ -52,10 +52,10 @@ module _ (files : List FileOf) (reads : List ReadOf) (are : AreRead files reads)
         same = sym named ∙ sym (word_from_same (json_name_of scene o.0) name op.1) ∙ same_name o.0;
       }
 
-  pub clash_version : Clashes files reads (at file token) word → scene.is_proto3 ≡ true
+  pub clash_version : JsonNameClashes files reads (at file token) word → scene.is_proto3 ≡ true
   clash_version r = as_read.version ∙ r.proto3
 
-  pub clash_from : Clashes files reads (at file token) word → list_any (clash_in scene token name) (holders_in tree) ≡ true
+  pub clash_from : JsonNameClashes files reads (at file token) word → list_any (clash_in scene token name) (holders_in tree) ≡ true
   clash_from r =
       let fs = fields_by r.b.header r.b.within in
       let d = block_declared files reads are file within r.b r.field.block in

@@ -5,7 +5,7 @@ use Rattle.proto_text.specs.Words.{is_run}
 use Rattle.proto_files.proofs.Common.{ReadOf, FileOf}
 use Rattle.proto_meaning.proofs.Common.{Collides, At, joined, Symbol, Used}
 use Rattle.proto_imports.specs.Links.{names_of_files, text_of}
-use Rattle.proto_rename_laws.proofs.Common.{Captures, Clashes, IsUnknown, RenameCase, Reserves, is_keyword_of, unknown_target, kind_not_allowed, not_an_identifier, keyword_name, same_name, collision, captured, name_reserved, json_clash, too_large, IsTooLong, Target, IsNamed, may_rename, name_map, renamed_words}
+use Rattle.proto_rename_laws.proofs.Common.{Captures, JsonNameClashes, IsUnknown, RenameCase, ReservesWord, is_keyword_of, unknown_target, kind_not_allowed, not_an_identifier, keyword_name, same_name, collision, captured, name_reserved, json_clash, too_large, IsRewordedTooLong, Target, IsNamed, may_rename, name_map, renamed_words}
 use Rattle.proto_rename.specs.Common.{IsFreeBefore, IsLeastRenameCase, IsRenameCase}
 
 module _ (files : List FileOf) (name to : List ℕ) where
@@ -69,11 +69,11 @@ module _ (files : List FileOf) (name to : List ℕ) where
     pub from_7 : RenameCase files reads name to 7 → (t : Target) × (u : Used At) × IsNamed files reads name t × Captures files reads t to u
     from_7 (captured t u n h) = (t, u, n, h)
 
-    pub from_8 : RenameCase files reads name to 8 → (t : Target) × IsNamed files reads name t × Reserves files reads t.token to
+    pub from_8 : RenameCase files reads name to 8 → (t : Target) × IsNamed files reads name t × ReservesWord files reads t.token to
     from_8 (name_reserved t n h) = (t, n, h)
 
-    pub from_9 : RenameCase files reads name to 9 → (t : Target) × IsNamed files reads name t × Clashes files reads t.token to
+    pub from_9 : RenameCase files reads name to 9 → (t : Target) × IsNamed files reads name t × JsonNameClashes files reads t.token to
     from_9 (json_clash t n h) = (t, n, h)
 
-    pub from_16 : RenameCase files reads name to 16 → (t : Target) × (k : ℕ) × IsNamed files reads name t × (k < length files) × IsTooLong (renamed_words files reads t to) files reads k
+    pub from_16 : RenameCase files reads name to 16 → (t : Target) × (k : ℕ) × IsNamed files reads name t × (k < length files) × IsRewordedTooLong (renamed_words files reads t to) files reads k
     from_16 (too_large t k n l h) = (t, k, n, l, h)

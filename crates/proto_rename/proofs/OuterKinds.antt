@@ -5,7 +5,7 @@ use Rattle.proto_case.specs.Camel.{entry_name}
 use Rattle.proto_files.proofs.Common.{HasNoFault, FileOf, ReadOf, AreRead}
 use Rattle.proto_meaning.specs.declared.kind.Kind.{Kind}
 use Rattle.proto_meaning.specs.declared.kind.Kind.TheVariants.{Package, Message, Entry, Enum, Service, Field, EntryField, Oneof, Value, Method, Extension}
-use Rattle.proto_meaning.proofs.Common.{Renaming, target, At, IsLinked, Symbol, Workspace, is_outer, is_type, meaning, Token, Used, name_of, reference_of, spell, symbol_of, name_from_same, map_append, has_meaning, meant, front_of, one_symbol}
+use Rattle.proto_meaning.proofs.Common.{Renaming, target, At, IsLinked, Symbol, Workspace, is_outer, is_type, meaning, Token, Used, name_of, reference_of, spell, symbol_of, name_from_same, map_append, has_meaning, meant, front_or_same, one_symbol}
 use Rattle.proto_imports.specs.Links.{LinkFaults, link_skeleton, names_of_files, text_of}
 use Rattle.proto_rename_laws.proofs.Common.{front_of as front_before, standing, Target, IsNamed, may_rename, name_map, files_are_linked, from_flat_map, stands_at, meaning_parts}
 
@@ -49,7 +49,7 @@ module _ (files : List FileOf) (reads : List ReadOf) (linked : IsLinked (names_o
 
   -- a front of a type, or the type itself
   outer : (s : Symbol) → Contains w.symbols s → is_type s.kind ≡ true → (rest : List (List ℕ)) → s.name ≡ target e ++ rest → is_outer t.aim.kind ≡ true
-  outer s cs type rest n = elim (front_of w.symbols linked.nested (target e) rest s cs n (omega (arith, length-append e.parent (e.old ∷ [])))) [
+  outer s cs type rest n = elim (front_or_same w.symbols linked.nested (target e) rest s cs n (omega (arith, length-append e.parent (e.old ∷ [])))) [
     | inl none ↦ elim (one_symbol w.symbols linked.unique s aim_symbol cs there (n ∙ ap (λ z. target e ++ z) none ∙ append-nil (target e) ∙ sym aim_name)) [
       | inl same ↦ type_is_outer t.aim.kind (sym (ap (λ (z : Symbol). is_type z.kind) same) ∙ type)
       | inr both ↦ absurd (no_package both.1)

@@ -6,7 +6,7 @@ use Rattle.proto_files.proofs.Common.{ReadOf, AreRead, read_at, FileOf}
 use Rattle.proto_meaning.proofs.Common.{At, at, joined, ArePlain, symbol_of}
 use Rattle.proto_imports.proofs.Common.{link_skeleton, text_of, names_are_plain}
 use Rattle.proto_parts.specs.Parts.{FieldOf}
-use Rattle.proto_rename_laws.proofs.Common.{defaults_from, default_words, fields_of_file, means_value, renamed_default, renamed_defaults, type_meaning, same_at, standing, HasEnum, Target, name_map, renamed_words, from_flat_map, is_listed, listed}
+use Rattle.proto_rename_laws.proofs.Common.{defaults_from, default_words, fields_of_file, means_value, renamed_default, renamed_defaults, type_meaning, same_at, standing, HasEnum, Target, name_map, renamed_words, from_flat_map, listed_is_there, listed}
 use Rattle.proto_rename.specs.Common.{ArePlacesIn, HasDefaultsIn, IsChangeIn, IsFaultIn, IsValueOf, or_own, places_of, IsChangeAt, IsRewordFault, PutsAt, RewordFault, TooLarge, NoMemory}
 use Rattle.proto_rename.specs.StandingTokens.{IsStandingIn}
 use Rattle.proto_entries.specs.declared.entry.Change.{Change}
@@ -144,7 +144,7 @@ puts_at files a file places are reads r t aimed to =
     let all = places_of files reads t to in
     record {
       placed = λ i c. cond-true (list_any (same_at (at file i)) all) (Some to) None (listed (at file i) all ((are reads r t aimed to i).0 c));
-      others = λ i none. cond-false (list_any (same_at (at file i)) all) (Some to) None (false_from_ne_true (list_any (same_at (at file i)) all) (λ h. none ((are reads r t aimed to i).1 (is_listed (at file i) all h))));
+      others = λ i none. cond-false (list_any (same_at (at file i)) all) (Some to) None (false_from_ne_true (list_any (same_at (at file i)) all) (λ h. none ((are reads r t aimed to i).1 (listed_is_there (at file i) all h))));
     }
 
 pub change_is : (files : List FileOf) (a : Aim) (file : ℕ) (places to : List ℕ) → ArePlacesIn files a file places → (found : Option Change) → IsChangeAt files file places to found → IsChangeIn files a file to found

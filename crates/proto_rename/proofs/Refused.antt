@@ -13,7 +13,7 @@ use Rattle.proto_imports.specs.Links.{LinkFaults, link_skeleton, names_in, names
 use Rattle.proto_names.specs.declared.link.RefId.{RefId}
 use Rattle.proto_captures.proofs.Common.{IsCapturedPlace, IsAimOf, IsAimedAt, IsNoTarget}
 use Rattle.proto_captures.specs.FirstCaptured.{IsFirstCaptured}
-use Rattle.proto_rename_laws.proofs.Common.{Clashes, Reserves, is_keyword_of, unknown_target, kind_not_allowed, not_an_identifier, keyword_name, same_name, collision, captured, name_reserved, json_clash, too_large, Target, name_map}
+use Rattle.proto_rename_laws.proofs.Common.{JsonNameClashes, ReservesWord, is_keyword_of, unknown_target, kind_not_allowed, not_an_identifier, keyword_name, same_name, collision, captured, name_reserved, json_clash, too_large, Target, name_map}
 use Rattle.proto_rename.specs.Common.{IsFreeBefore, AreChangesOf, IsChangesFault, IsFaultIn, IsLeastRenameCase, IsRenameCase, IsRenameRefusal, IsRenamed, RewordFault}
 use Rattle.proto_rename.proofs.LeastCases.{all_free, first_free, from_1, from_16, from_2, from_3, from_4, from_5, from_6, from_7, from_8, from_9, last_free, least, next_free}
 use Rattle.proto_rename.proofs.OneAim.{aimed_one, same_kind}
@@ -87,10 +87,10 @@ module _ (files : List FileOf) (clean : HasNoFault (LinkFaults files)) (a : Aim)
     pub collision_refused : Tests b (λ reads t. Collides (name_map files reads t to) (names_of_files files reads)) → IsFreeBefore files a.name.now to 6 → IsLeastRenameCase files a.name.now to 6
     collision_refused test free = let t = aim reads r in least files a.name.now to 6 free (reads, r, collision t.0 t.1.named ((test reads r t.0 t.1).0 e))
 
-    pub reserved_refused : Tests b (λ reads t. Reserves files reads t.token to) → IsFreeBefore files a.name.now to 8 → IsLeastRenameCase files a.name.now to 8
+    pub reserved_refused : Tests b (λ reads t. ReservesWord files reads t.token to) → IsFreeBefore files a.name.now to 8 → IsLeastRenameCase files a.name.now to 8
     reserved_refused test free = let t = aim reads r in least files a.name.now to 8 free (reads, r, name_reserved t.0 t.1.named ((test reads r t.0 t.1).0 e))
 
-    pub clash_refused : Tests b (λ reads t. Clashes files reads t.token to) → IsFreeBefore files a.name.now to 9 → IsLeastRenameCase files a.name.now to 9
+    pub clash_refused : Tests b (λ reads t. JsonNameClashes files reads t.token to) → IsFreeBefore files a.name.now to 9 → IsLeastRenameCase files a.name.now to 9
     clash_refused test free = let t = aim reads r in least files a.name.now to 9 free (reads, r, json_clash t.0 t.1.named ((test reads r t.0 t.1).0 e))
 
   module _ (b : Bool) (e : b ≡ false) where
@@ -101,11 +101,11 @@ module _ (files : List FileOf) (clean : HasNoFault (LinkFaults files)) (a : Aim)
     collision_free test free = next_free files a.name.now to 6 7 (omega arith) free (λ k.
         (let t = from_6 files a.name.now to k.0 k.2 in true≢false (sym ((test k.0 k.1 t.0 (aimed_one files k.0 k.1 clean a aim t.0 t.1)).1 t.2) ∙ e)))
 
-    pub reserved_free : Tests b (λ reads t. Reserves files reads t.token to) → IsFreeBefore files a.name.now to 8 → IsFreeBefore files a.name.now to 9
+    pub reserved_free : Tests b (λ reads t. ReservesWord files reads t.token to) → IsFreeBefore files a.name.now to 8 → IsFreeBefore files a.name.now to 9
     reserved_free test free = next_free files a.name.now to 8 9 (omega arith) free (λ k.
         (let t = from_8 files a.name.now to k.0 k.2 in true≢false (sym ((test k.0 k.1 t.0 (aimed_one files k.0 k.1 clean a aim t.0 t.1)).1 t.2) ∙ e)))
 
-    pub clash_free : Tests b (λ reads t. Clashes files reads t.token to) → IsFreeBefore files a.name.now to 9 → IsFreeBefore files a.name.now to 10
+    pub clash_free : Tests b (λ reads t. JsonNameClashes files reads t.token to) → IsFreeBefore files a.name.now to 9 → IsFreeBefore files a.name.now to 10
     clash_free test free = next_free files a.name.now to 9 10 (omega arith) free (λ k.
         (let t = from_9 files a.name.now to k.0 k.2 in true≢false (sym ((test k.0 k.1 t.0 (aimed_one files k.0 k.1 clean a aim t.0 t.1)).1 t.2) ∙ e)))
 

@@ -8,7 +8,7 @@ use Rattle.proto_listing.proofs.Common.{file_names, used_by}
 use Rattle.proto_listing.specs.declared.listing.Use.{Use}
 use Rattle.proto_meaning.proofs.Common.{Renaming, target, At, at, used_in, ArePlain, joined, IsLinked, Workspace, meaning, same_name, Token, Skeleton, Used, name_of, reference_of, spell, symbol_of, Placed, name_from_same, same_from_name, map_append, has_meaning, meant}
 use Rattle.proto_imports.proofs.Common.{LinkFaults, link_skeleton, names_in, names_of_files, text_of, used_named, uses_of, names_are_plain}
-use Rattle.proto_names.proofs.Common.{from_use, use_there, IsLinkRead, TextMeant, meant_by_link, meant_by_use, LinkOf, text_at}
+use Rattle.proto_names.proofs.Common.{from_use, use_there, IsLinkRead, TextMeant, meant_by_link, meant_by_use, LinkOf, name_text}
 use Rattle.proto_names.specs.declared.references.Meant.{Meant}
 use Rattle.proto_rename_laws.proofs.Common.{front_of, standing, stands, Target, IsNamed, name_map, files_are_linked, from_flat_map, stands_at, to_flat_map, meaning_parts}
 use Rattle.proto_rename.specs.StandingTokens.{counted, from_end, standing_tokens, words_behind}
@@ -123,9 +123,9 @@ module _ (files : List FileOf) (reads : List ReadOf) (are : AreRead files reads)
 
   module _ (ds : List Placed) where
     abbrev one : Use → Meant → List ℕ
-    one u m = option_to_list (counted name (dotted u.reference.now.words) (text_at l m.row))
+    one u m = option_to_list (counted name (dotted u.reference.now.words) (name_text l m.row))
 
-    text_meant : (u : Use) (m : Meant) (x : List (List ℕ)) → meant_by_link l m ≡ meant_by_use files reads file (used_by ds u) → meaning w (used_named text file (used_by ds u)) ≡ Some x → text_at l m.row ≡ Some (joined x)
+    text_meant : (u : Use) (m : Meant) (x : List (List ℕ)) → meant_by_link l m ≡ meant_by_use files reads file (used_by ds u) → meaning w (used_named text file (used_by ds u)) ≡ Some x → name_text l m.row ≡ Some (joined x)
     text_meant u m x h is = ap (λ (z : TextMeant). z.text) h ∙ ap (option_map joined) is
 
     forth : (us : List Use) (ms : List Meant) → ((u : Use) → Contains us u → Contains (uses_of reads file) (used_by ds u)) → map (meant_by_link l) ms ≡ map (meant_by_use files reads file) (map (used_by ds) us)

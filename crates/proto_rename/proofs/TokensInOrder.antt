@@ -4,7 +4,7 @@ use Rattle.proto_faults.proofs.Common.{at_drop_more, text_limit}
 use Rattle.proto_text.specs.declared.kind.PieceKind.{PieceKind}
 use Rattle.proto_text.specs.declared.kind.PieceKind.TheVariants.{Blank, LineComment, BlockComment, Solid}
 use Rattle.proto_text.specs.declared.lexer.Token.{Token}
-use Rattle.proto_text.proofs.Common.{AreShort, old_len, new_len, Piece, IsLexeme, ArePieces, text_of, text_at, AreTokens, token_at, tokens_from, not_empty}
+use Rattle.proto_text.proofs.Common.{AreShort, old_len, new_len, Piece, IsLexeme, ArePieces, pieces_text, text_at, AreTokens, token_at, tokens_from, not_empty}
 use Rattle.proto_rename.specs.MadeChanges.{bytes_in, marked_tokens, StandInOrder, word_put}
 
 -- ---- in order
@@ -20,18 +20,18 @@ piece_in_order BlockComment bytes at to ts is h = earlier (at + length bytes) to
 piece_in_order (Solid kind) [] at to ts is h = absurd (not_empty (Solid kind) is)
 piece_in_order (Solid kind) (b ∷ bytes) at to ts is h = (omega arith, omega arith, h)
 
-pieces_in_order : (ps : List Piece) (at : ℕ) → ArePieces ps [] → StandInOrder at (at + length (text_of ps)) (tokens_from at ps)
+pieces_in_order : (ps : List Piece) (at : ℕ) → ArePieces ps [] → StandInOrder at (at + length (pieces_text ps)) (tokens_from at ps)
 pieces_in_order [] at is = omega arith
 pieces_in_order (p ∷ ps) at is =
-    let long = length-append p.bytes (text_of ps) in
-    let ends : (at + length p.bytes) + length (text_of ps) ≡ at + length (p.bytes ++ text_of ps) = omega (arith, long) in
-    piece_in_order p.kind p.bytes at (at + length (p.bytes ++ text_of ps)) (tokens_from (at + length p.bytes) ps) is.0
+    let long = length-append p.bytes (pieces_text ps) in
+    let ends : (at + length p.bytes) + length (pieces_text ps) ≡ at + length (p.bytes ++ pieces_text ps) = omega (arith, long) in
+    piece_in_order p.kind p.bytes at (at + length (p.bytes ++ pieces_text ps)) (tokens_from (at + length p.bytes) ps) is.0
     (subst (λ (z : ℕ). StandInOrder (at + length p.bytes) z (tokens_from (at + length p.bytes) ps)) ends (pieces_in_order ps (at + length p.bytes) is.2))
 
 pub tokens_in_order : (text : List ℕ) (tokens : List Token) → AreTokens text tokens → StandInOrder 0 (length text) tokens
 tokens_in_order text tokens are =
-    let whole : text ≡ text_of are.0 = are.1.1 ∙ append-nil (text_of are.0) in
-    let ends : 0 + length (text_of are.0) ≡ length text = let e = ap length whole in omega (arith, e) in
+    let whole : text ≡ pieces_text are.0 = are.1.1 ∙ append-nil (pieces_text are.0) in
+    let ends : 0 + length (pieces_text are.0) ≡ length text = let e = ap length whole in omega (arith, e) in
     subst (λ (z : List Token). StandInOrder 0 (length text) z) (sym are.2) (subst (λ (z : ℕ). StandInOrder 0 z (tokens_from 0 are.0)) ends (pieces_in_order are.0 0 are.1.0))
 
 pub marked_in_order : (from to : ℕ) (ts : List Token) (ms : List Bool) → StandInOrder from to ts → StandInOrder from to (marked_tokens ts ms)

@@ -8,13 +8,13 @@ use Rattle.proto_meaning.specs.Grown.{At, at}
 use Rattle.proto_meaning.specs.Joined.{joined, ArePlain}
 use Rattle.proto_entries.specs.Entries.{ChangeOf}
 use Rattle.proto_imports.specs.Links.{link_skeleton, text_of}
-use Rattle.proto_rename_laws.specs.Changes.{IsTooLong, change_by, changes_of_words, splices_in}
+use Rattle.proto_rename_laws.specs.Changes.{IsRewordedTooLong, change_by, changes_of_words, splices_in}
 use Rattle.proto_rename_laws.specs.Defaults.{fields_of_file, renamed_default, renamed_defaults}
 use Rattle.proto_rename_laws.specs.Places.{renamed_places}
 use Rattle.proto_rename_laws.specs.Rewording.{NewWords}
 use Rattle.proto_rename_laws.specs.Targets.{Target, name_map, renamed_words}
 use Rattle.proto_entries.specs.declared.entry.Change.{Change}
-use Rattle.proto_rename.specs.MadeChanges.{IsMade}
+use Rattle.proto_rename.specs.MadeChanges.{IsFileChange}
 use Rattle.proto_rename.specs.declared.changing.RewordFault.{RewordFault}
 use Rattle.proto_rename.specs.declared.changing.RewordFault.TheVariants.{TooLarge, NoMemory}
 use Rattle.proto_captures.specs.Aims.{IsAimedAt}
@@ -45,7 +45,7 @@ changes_up_to c files reads (suc n) =
 pub record AreWholeChanges
     (files : List FileOf) (reads : List ReadOf) (c : NewWords) (cs : List ChangeOf) : Type 0 where
   pub changes : cs ≡ changes_of_words c files reads
-  pub short : (k : ℕ) → k < length files → IsTooLong c files reads k → ⊥
+  pub short : (k : ℕ) → k < length files → IsRewordedTooLong c files reads k → ⊥
 
 -- the same of each reading of the files
 abbrev pub AreChangesOf : List FileOf → Aim → Text → List ChangeOf → Type 0
@@ -61,7 +61,8 @@ IsChangesFault files aim to TooLarge = (reads : List ReadOf)
     → AreRead files reads
     → (t : Target)
     → IsAimedAt files reads aim t
-    → (k : ℕ) × (k < length files) × IsTooLong (renamed_words files reads t to) files reads k
+    → (k : ℕ) × (k < length files) × IsRewordedTooLong
+    (renamed_words files reads t to) files reads k
 IsChangesFault files aim to NoMemory = Unit {0}
 
 -- ---- the tokens of a file
@@ -96,7 +97,7 @@ IsChangeIn files aim file to found = (reads : List ReadOf)
     → AreRead files reads
     → (t : Target)
     → IsAimedAt files reads aim t
-    → IsMade files reads (renamed_words files reads t to) file found
+    → IsFileChange files reads (renamed_words files reads t to) file found
 
 -- it gets too long, or memory is wanting
 abbrev pub IsFaultIn : List FileOf → Aim → ℕ → Text → RewordFault → Type 0
@@ -104,5 +105,5 @@ IsFaultIn files aim file to TooLarge = (reads : List ReadOf)
     → AreRead files reads
     → (t : Target)
     → IsAimedAt files reads aim t
-    → IsTooLong (renamed_words files reads t to) files reads file
+    → IsRewordedTooLong (renamed_words files reads t to) files reads file
 IsFaultIn files aim file to NoMemory = Unit {0}

@@ -6,25 +6,25 @@ use Rattle.proto_faults.specs.Texts.{Text}
 use Rattle.proto_tree.specs.declared.tree.FieldType.{FieldType}
 use Rattle.proto_tree.specs.declared.tree.FieldType.TheVariants as field_type
 use Rattle.proto_tree.specs.References.{first_of}
-use Rattle.proto_names.specs.Linking.{LinkOf, meant_at, text_at}
+use Rattle.proto_names.specs.Linking.{LinkOf, meant_at, name_text}
 use Rattle.proto_parts.specs.Parts.{BlockOf, FieldOf}
 use Rattle.proto_rename_laws.specs.Defaults.{default_words, fields_of_block}
 use Rattle.proto_rename.specs.declared.defaults.Asked.{Asked}
 
 -- the text of the name that the reference with this first token means
 abbrev pub text_meant : LinkOf → ℕ → ℕ → Option Text
-text_meant l file first = option_and_then (text_at l) (meant_at l file first)
+text_meant l file first = option_and_then (name_text l) (meant_at l file first)
 
 -- a text was found, and it is the name
-abbrev pub is_text : Text → Option Text → Bool
-is_text name None = false
-is_text name (Some found) = bytes_eq found name
+abbrev pub is_found_name : Text → Option Text → Bool
+is_found_name name None = false
+is_found_name name (Some found) = bytes_eq found name
 
 -- the type is a reference that means the name
 abbrev pub type_means : LinkOf → ℕ → Text → FieldType → Bool
 type_means l file name (field_type.Scalar t) = false
 type_means l file name (field_type.Reference r) =
-    is_text name (text_meant l file (first_of r.dot r.words))
+    is_found_name name (text_meant l file (first_of r.dot r.words))
 
 -- those of these words that have the text
 abbrev pub spelled : (ℕ → Text) → Text → List ℕ → List ℕ

@@ -10,7 +10,7 @@ use Rattle.proto_files.specs.FilesRead.{ReadOf, AreRead}
 use Rattle.proto_meaning.specs.Grown.{at}
 use Rattle.proto_entries.specs.Entries.{change_of}
 use Rattle.proto_entries.specs.declared.entry.Change.{Change}
-use Rattle.proto_rename_laws.specs.Changes.{splices_in, IsTooLong, change_by}
+use Rattle.proto_rename_laws.specs.Changes.{splices_in, IsRewordedTooLong, change_by}
 use Rattle.proto_rename_laws.specs.Rewording.{NewWords}
 use Rattle.proto_rename.specs.declared.changing.RewordFault.{RewordFault}
 use Rattle.proto_rename.specs.declared.changing.RewordFault.TheVariants.{TooLarge, NoMemory}
@@ -22,12 +22,12 @@ pub record PutsAt (c : NewWords) (file : ℕ) (places : List ℕ) (to : Text) : 
 
 -- what is found is the change that the new words make of the file, or none where there is none,
 -- and the file does not get too long
-pub record IsMade
+pub record IsFileChange
     (files : List FileOf) (reads : List ReadOf) (c : NewWords) (file : ℕ) (found : Option Change)
     : Type 0 where
   pub change : map change_of (option_to_list found)
       ≡ change_by (file_at files file) (splices_in c files reads file)
-  pub short : IsTooLong c files reads file → ⊥
+  pub short : IsRewordedTooLong c files reads file → ⊥
 
 -- the same of each reading and each change of words that puts the word at these tokens
 abbrev pub IsChangeAt : List FileOf → ℕ → List ℕ → Text → Option Change → Type 0
@@ -35,7 +35,7 @@ IsChangeAt files file places to found = (reads : List ReadOf)
     → AreRead files reads
     → (c : NewWords)
     → PutsAt c file places to
-    → IsMade files reads c file found
+    → IsFileChange files reads c file found
 
 -- it gets too long, or memory is wanting
 abbrev pub IsRewordFault : List FileOf → ℕ → List ℕ → Text → RewordFault → Type 0
@@ -43,7 +43,7 @@ IsRewordFault files file places to TooLarge = (reads : List ReadOf)
     → AreRead files reads
     → (c : NewWords)
     → PutsAt c file places to
-    → IsTooLong c files reads file
+    → IsRewordedTooLong c files reads file
 IsRewordFault files file places to NoMemory = Unit {0}
 
 -- ---- how it is made

@@ -7,7 +7,7 @@ use Rattle.proto_files.specs.GivenFiles.{FileOf}
 use Rattle.proto_entries.specs.declared.refusal.Refusal.{Refusal}
 use Rattle.proto_entries.specs.declared.refusal.Refusal.TheVariants as refusal
 use Rattle.proto_entries.specs.Entries.{ChangeOf}
-use Rattle.proto_entries.specs.RefusalTable.{number_of}
+use Rattle.proto_entries.specs.RefusalTable.{refusal_number}
 use Rattle.proto_rename_laws.specs.Cases.{Captures, IsFirstPlace, RenameCase}
 use Rattle.proto_rename_laws.specs.Changes.{changes_of_words}
 use Rattle.proto_rename_laws.specs.Targets.{Target, IsNamed, renamed_words}
@@ -38,7 +38,7 @@ IsRenameRefusal files name to refusal.NoMemory = Unit {0}
 IsRenameRefusal files name to (refusal.Captured path offset) = IsLeastRenameCase files name to 7
     × IsCapturedAt files name to (string_bytes path) offset
 IsRenameRefusal files name to (refusal.Needed path offset) = ⊥
-IsRenameRefusal files name to r = IsLeastRenameCase files name to (number_of r)
+IsRenameRefusal files name to r = IsLeastRenameCase files name to (refusal_number r)
 
 -- no case refuses it, and these are the changes of its new words
 pub record IsRenamed (files : List FileOf) (name to : Text) (cs : List ChangeOf) : Type 0 where

@@ -10,7 +10,7 @@ use Rattle.proto_files.specs.FilesRead.{ReadOf, AreRead}
 use Rattle.proto_listing.specs.declared.listing.Use.{Use}
 use Rattle.proto_meaning.specs.Grown.{at}
 use Rattle.proto_imports.specs.Links.{text_of, link_skeleton}
-use Rattle.proto_names.specs.Linking.{LinkOf, text_at}
+use Rattle.proto_names.specs.Linking.{LinkOf, name_text}
 use Rattle.proto_names.specs.declared.references.Meant.{Meant}
 use Rattle.proto_rename_laws.specs.Places.{standing}
 use Rattle.proto_rename_laws.specs.Targets.{Target, name_map}
@@ -70,4 +70,5 @@ abbrev pub standing_tokens : LinkOf → Text → List Use → List Meant → Lis
 standing_tokens l name [] ms = []
 standing_tokens l name (u ∷ us) [] = []
 standing_tokens l name (u ∷ us) (m ∷ ms) = option_to_list
-    (counted name (dotted u.reference.now.words) (text_at l m.row)) ++ standing_tokens l name us ms
+    (counted name (dotted u.reference.now.words) (name_text l m.row))
+    ++ standing_tokens l name us ms

@@ -28,7 +28,7 @@ fn refusal_of(files: &Files, name: &str, cause: NoTarget) -> Refusal
 }
 
 /// What the name aims at: cases 1 and 2.
-pub(crate) fn aimed<'a>(
+pub(crate) fn aim_of_name<'a>(
     alloc: Global,
     files: &Files,
     link: &Link,

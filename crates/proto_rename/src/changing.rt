@@ -86,7 +86,7 @@ fn marked_at(alloc: Global, tokens: &[Token], places: &[u32]) -> Result<Vec<Toke
         ≡ marked_tokens tokens.now (marked_from (replicate (length tokens.now) false) places.now)) }
 {
     let marks = marks_of(alloc, tokens.len(), places)?;
-    marked(alloc, tokens, &marks)
+    tokens_with_marks(alloc, tokens, &marks)
 }
 
 /// So many marks, of which these are set; what is past them is left out.
@@ -109,7 +109,11 @@ fn mark(marks: &mut Vec<bool>, place: usize)
 }
 
 /// The tokens that are marked, in order.
-fn marked(alloc: Global, tokens: &[Token], marks: &[bool]) -> Result<Vec<Token>, NoMemory>
+fn tokens_with_marks(
+    alloc: Global,
+    tokens: &[Token],
+    marks: &[bool],
+) -> Result<Vec<Token>, NoMemory>
     requires { length marks.now ≡ length tokens.now }
     ensures { IfOk result (λ found. found.items ≡ marked_tokens tokens.now marks.now) }
 {

@@ -10,7 +10,7 @@ ghost use Rattle.proto_captures.specs.Aims.{IsAimOf};
 ghost use Rattle.proto_text.specs.Words.{is_run};
 
 use crate::json_names::clashes;
-use proto_captures::{Aim, captured, collides, first_captured, has_name, is_keyword};
+use proto_captures::{Aim, captured_refusal, collides, first_captured, has_name, is_keyword};
 use proto_entries::Refusal;
 use proto_files::{Files, are_read};
 use proto_members::is_reserved;
@@ -64,7 +64,7 @@ pub(crate) fn check_names<'a>(
     }
     match first_captured(alloc, files, link, &aim, to)? {
         None => Ok(()),
-        Some(reference) => Err(captured(alloc, files, reference.file, reference.token)?),
+        Some(reference) => Err(captured_refusal(alloc, files, reference.file, reference.token)?),
     }
 }
 

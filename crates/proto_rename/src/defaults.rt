@@ -5,14 +5,14 @@ ghost use Rattle.proto_tree.specs.declared.tree.FieldType.TheVariants as field_t
 ghost use Rattle.proto_files.specs.FilesRead.{AreRead, ReadOf, read_at};
 ghost use Rattle.proto_meaning.specs.Joined.{ArePlain, joined};
 ghost use Rattle.proto_names.specs.LinkOfFiles.{IsLinkOf};
-ghost use Rattle.proto_names.specs.Linking.{text_at};
+ghost use Rattle.proto_names.specs.Linking.{name_text};
 ghost use Rattle.proto_parts.specs.Options.{is_named};
 ghost use Rattle.proto_parts.specs.Scenes.{text};
 ghost use Rattle.proto_parts.specs.Views.{field_of, option_of};
 ghost use Rattle.proto_rename_laws.specs.Renamed.{constant_tokens};
 ghost use Rattle.proto_rename_laws.specs.Defaults.{fields_of_file, renamed_default};
 ghost use Rattle.proto_members.specs.Blocks.{block_of};
-ghost use Rattle.proto_rename.specs.Defaults.{asked_defaults, asked_type, defaults_in, is_text, spelled, text_meant};
+ghost use Rattle.proto_rename.specs.Defaults.{asked_defaults, asked_type, defaults_in, is_found_name, spelled, text_meant};
 
 use proto_faults::NoMemory;
 use proto_files::Files;
@@ -35,7 +35,7 @@ pub(crate) struct Asked<'a> {
 // ---- types
 
 fn has_name(link: &Link, id: SymbolId, name: &str) -> bool
-    ensures { result ≡ is_text name.now (text_at link.now id.row) }
+    ensures { result ≡ is_found_name name.now (name_text link.now id.row) }
 {
     match link.name_of(id) {
         Some(text) => text == name,
@@ -45,9 +45,9 @@ fn has_name(link: &Link, id: SymbolId, name: &str) -> bool
 
 /// Whether the reference with this first token means the name.
 fn means(link: &Link, file: u32, first: u32, name: &str) -> bool
-    ensures { result ≡ is_text name.now (text_meant link.now file first) }
+    ensures { result ≡ is_found_name name.now (text_meant link.now file first) }
 {
-    match link.meant(file, first) {
+    match link.meaning(file, first) {
         Some(id) => has_name(link, id, name),
         None => false,
     }

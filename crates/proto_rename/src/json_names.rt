@@ -4,7 +4,7 @@ ghost use Rattle.std.specs.Prelude.{◌≡◌, ◌↔◌, List, map, IfOk, IsTru
 ghost use Rattle.std.specs.List.{list_any};
 ghost use Rattle.proto_files.specs.FilesRead.{AreRead, ReadOf};
 ghost use Rattle.proto_parts.specs.Views.{field_of};
-ghost use Rattle.proto_rename_laws.specs.Cases.{Clashes};
+ghost use Rattle.proto_rename_laws.specs.Cases.{JsonNameClashes};
 ghost use Rattle.proto_rename_laws.specs.Targets.{Target};
 ghost use Rattle.proto_captures.specs.Aims.{IsAimOf, IsAimedAt};
 ghost use Rattle.proto_members.specs.Blocks.{block_of};
@@ -138,7 +138,7 @@ pub(crate) fn clashes(alloc: Global, files: &Files, aim: Aim, word: &str) -> Res
     requires { IsAimOf files.now aim }
     ensures { IfOk result (λ b. (reads : List ReadOf)
         → AreRead files.now reads → (t : Target) → IsAimedAt files.now reads aim.entry t
-        → IsTrue b ↔ Clashes files.now reads t.token word.now) }
+        → IsTrue b ↔ JsonNameClashes files.now reads t.token word.now) }
 {
     are_read(files);
     let scene = scene(alloc, files, aim.file);

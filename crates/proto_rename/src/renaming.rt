@@ -10,7 +10,7 @@ ghost use Rattle.proto_rename.specs.Changes.{IsChangesFault};
 ghost use Rattle.proto_rename.specs.Renames.{IsRenamed, IsRenameRefusal};
 ghost use Rattle.proto_captures.specs.Aims.{IsAimOf};
 
-use crate::aimed::aimed;
+use crate::aimed::aim_of_name;
 use crate::changes::changes;
 use crate::changing::RewordFault;
 use crate::checks::{check_members, check_names, check_word};
@@ -36,7 +36,7 @@ fn refusal_of(files: &Files, aim: Aim, to: &str, fault: RewordFault) -> Refusal
 }
 
 /// What the rename of what is aimed at changes, where no case but the last may refuse it.
-fn changed(
+fn changes_or_refusal(
     alloc: Global,
     files: &Files,
     link: &Link,
@@ -61,7 +61,7 @@ fn changed(
 
 /// What the rename of what is aimed at changes, or the least of
 /// the cases from 3 on that refuses it.
-fn renamed<'a>(
+fn changes_of_rename<'a>(
     alloc: Global,
     files: &'a Files,
     link: &Link,
@@ -80,7 +80,7 @@ fn renamed<'a>(
     check_word(files, aim, to)?;
     check_names(alloc, files, link, aim, to)?;
     check_members(alloc, files, aim, to)?;
-    changed(alloc, files, link, aim, to)
+    changes_or_refusal(alloc, files, link, aim, to)
 }
 
 /// What the rename of a full name, without a leading dot, to a new simple name changes, file by
@@ -99,6 +99,6 @@ pub fn rename(
     ensures ok { IfOk result (λ cs. IsRenamed files.now name.now to.now (map change_of cs.items)) }
     ensures err { IfErr result (IsRenameRefusal files.now name.now to.now) }
 {
-    let aim = aimed(alloc, files, link, name)?;
-    renamed(alloc, files, link, aim, to)
+    let aim = aim_of_name(alloc, files, link, name)?;
+    changes_of_rename(alloc, files, link, aim, to)
 }

@@ -6,7 +6,7 @@ ghost use Rattle.proto_faults.specs.Ascii as ascii;
 ghost use Rattle.proto_tree.specs.References.{dotted};
 ghost use Rattle.proto_files.specs.Faults.{HasNoFault};
 ghost use Rattle.proto_imports.specs.Links.{LinkFaults};
-ghost use Rattle.proto_names.specs.Linking.{text_at};
+ghost use Rattle.proto_names.specs.Linking.{name_text};
 ghost use Rattle.proto_names.specs.LinkOfFiles.{IsLinkOf};
 ghost use Rattle.proto_rename.specs.StandingTokens.{IsStandingIn, words_in, words_behind, from_end, counted, standing_tokens};
 
@@ -74,7 +74,7 @@ fn push_some(found: &mut Vec<u32>, token: Option<u32>) -> Result<(), NoMemory>
 
 /// The word of a reference that stands for the name, if one does.
 fn standing_word(link: &Link, name: &str, words: &Dotted, meant: Meant) -> Option<u32>
-    ensures { result ≡ counted name.now (dotted words.now) (text_at link.now meant.row) }
+    ensures { result ≡ counted name.now (dotted words.now) (name_text link.now meant.row) }
 {
     let text = link.name_of(meant.symbol())?;
     let behind = words_behind(name.as_bytes(), text.as_bytes())?;

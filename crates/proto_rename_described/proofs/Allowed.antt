@@ -12,16 +12,16 @@ use Rattle.proto_files.proofs.Common.{HasNoFault, FileOf, ReadOf, read_at, read_
 use Rattle.proto_meaning.proofs.Common.{IsCaptured, At, at, reference_of}
 use Rattle.proto_meaning.specs.declared.kind.Kind.TheVariants.{Package, Entry}
 use Rattle.proto_imports.specs.Links.{LinkFaults, text_of, link_skeleton, names_of_files}
-use Rattle.proto_parts.proofs.Common.{is_named, value_named, text_of as text_value, BlockOf, FieldOf, OptionOf, blocks_in, fields_in, reserved_names_in, values_in, Scene, text, value, json_name_of, json_word}
+use Rattle.proto_parts.proofs.Common.{is_named, value_named, text_of_constant as text_value, BlockOf, FieldOf, OptionOf, blocks_in, fields_in, reserved_names_in, values_in, Scene, text, value, json_name_of, json_word}
 use Rattle.proto_numbers.specs.declared.flaw.Flaw.{Flaw}
 use Rattle.proto_checks.proofs.Common.{default_flaws, file_flaws, json_clashes, name_flaws}
 use Rattle.proto_extensions.specs.Common.{workspace_flaws}
 use Rattle.proto_checks_laws.proofs.Common.{asked_tokens, flaws_of_block, is_of_names, flaws_of_names, no_flaw_comes_in}
 use Rattle.proto_checks_laws.proofs.RenamedFlaws.{names_decide_three_kinds}
-use Rattle.proto_rename_laws.proofs.Common.{scene_of, collision, captured, name_reserved, json_clash, keyword_name, not_an_identifier, fields_of_block, AreReworded, SuitFiles, Names, Uses, TokensHaveRoles, IsRename, Target, may_rename, name_map, renamed_words, places_are_suited, tokens_are_inside, files_are_linked, files_are_woven, no_link_fault, other_texts_stay, texts_are_changed, places_respelled, find_agree, scenes_are_apart, trees_at, values_stay, version_stays}
-use Rattle.proto_desc.specs.Checked.{CheckFaults, of_flaw, fault_of, flaws_of}
+use Rattle.proto_rename_laws.proofs.Common.{scene_of, collision, captured, name_reserved, json_clash, keyword_name, not_an_identifier, fields_of_block, AreReworded, SuitFiles, Names, Uses, TokensHaveRenameRoles, IsRename, Target, may_rename, name_map, renamed_words, places_are_suited, tokens_are_inside, files_are_linked, files_are_woven, no_link_fault, other_texts_stay, texts_are_changed, places_respelled, find_agree, scenes_are_apart, trees_at, values_stay, version_stays}
+use Rattle.proto_desc.specs.Checked.{CheckFaults, of_flaw, fault_of_flaw, flaws_of}
 use Rattle.proto_rename_roles.proofs.TokenRoles.{tokens_have_roles}
-use Rattle.proto_rename_described.specs.Allowed.{DefaultsFit, IsAllowed}
+use Rattle.proto_rename_described.specs.Allowed.{DefaultsFit, IsAllowedRename}
 use Rattle.proto_rename_described.specs.NamesKept.{AreKept, written}
 use Rattle.proto_rename_described.proofs.ExtensionsStay.{workspace_stays}
 use Rattle.proto_rename_described.proofs.NamesKept.{empty_parts, json_names_stay, reserved_names_stay}
@@ -64,11 +64,11 @@ may_is_no_package k h = ((λ e. differ (sym h ∙ ap may_rename e)), λ e. diffe
     differ z = cc
 
 -- the tokens have their roles
-pub allowed_roles : (files : List FileOf) (reads : List ReadOf) (name to : List ℕ) (t : Target) → IsAllowed files reads name to t → TokensHaveRoles files reads t to
+pub allowed_roles : (files : List FileOf) (reads : List ReadOf) (name to : List ℕ) (t : Target) → IsAllowedRename files reads name to t → TokensHaveRenameRoles files reads t to
 allowed_roles files reads name to t a = tokens_have_roles files reads name to t a.read a.link a.named
 
 -- The new word suits its places, since neither case 3 nor case 4 refuses it.
-pub words_suit : (files : List FileOf) (reads : List ReadOf) (name to : List ℕ) (t : Target) → IsAllowed files reads name to t → SuitFiles (renamed_words files reads t to) reads
+pub words_suit : (files : List FileOf) (reads : List ReadOf) (name to : List ℕ) (t : Target) → IsAllowedRename files reads name to t → SuitFiles (renamed_words files reads t to) reads
 words_suit files reads name to t a =
     places_are_suited files reads name to t (files_are_linked files reads a.read a.link) a.named (allowed_roles files reads name to t a).tokens.wants (run_is to word) (λ h. a.admissible 4 (keyword_name t a.named h))
   where
@@ -76,7 +76,7 @@ words_suit files reads name to t a =
     word = elim (cases_Bool (is_run to)) [ inl y ↦ y | inr n ↦ absurd (a.admissible 3 (not_an_identifier n)) ]
 
 module _ (files : List FileOf) (reads : List ReadOf) (name to : List ℕ) (t : Target) (after : List FileOf) (seen : List ReadOf)
-    (a : IsAllowed files reads name to t) (w : AreReworded (renamed_words files reads t to) files reads after seen) where
+    (a : IsAllowedRename files reads name to t) (w : AreReworded (renamed_words files reads t to) files reads after seen) where
   abbrev c : At → Option (List ℕ)
   c = renamed_words files reads t to
 
@@ -121,7 +121,7 @@ module _ (files : List FileOf) (reads : List ReadOf) (name to : List ℕ) (t : T
     tree = (read_at reads file).tree
 
     pub clean : file_flaws old tree ≡ []
-    clean = none_listed (file_flaws old tree) (λ f h. a.checks (fault_of files reads file f) (of_flaw reads file f a.read l (Contains-append_left (file_flaws old tree) _ f h)))
+    clean = none_listed (file_flaws old tree) (λ f h. a.checks (fault_of_flaw files reads file f) (of_flaw reads file f a.read l (Contains-append_left (file_flaws old tree) _ f h)))
 
     -- the renamed token in this file, or one past all
     abbrev here : ℕ
@@ -242,7 +242,7 @@ module _ (files : List FileOf) (reads : List ReadOf) (name to : List ℕ) (t : T
   numbers_clean : (file : ℕ) → file < length files → workspace_flaws None after seen file ≡ []
   numbers_clean file l =
       workspace_stays files reads c after seen t.token t.above t.aim t.is_map to is_rename (λ f m i ci. All-contains (λ i. is_some (c (at f i)) ≡ false) (asked_tokens (scene_of None files reads f) (read_at reads f).tree) i ((allowed_roles files reads name to t a).tokens.asked f m) ci) file l
-      ∙ none_listed (workspace_flaws None files reads file) (λ f h. a.checks (fault_of files reads file f) (of_flaw reads file f a.read l (Contains-append_right (file_flaws (scene_of None files reads file) (read_at reads file).tree) (workspace_flaws None files reads file) f h)))
+      ∙ none_listed (workspace_flaws None files reads file) (λ f h. a.checks (fault_of_flaw files reads file f) (of_flaw reads file f a.read l (Contains-append_right (file_flaws (scene_of None files reads file) (read_at reads file).tree) (workspace_flaws None files reads file) f h)))
 
   checks_clean : DefaultsFit after seen → HasNoFault (CheckFaults after)
   checks_clean fit x (of_flaw others file f are l h) =
@@ -257,7 +257,7 @@ module _ (files : List FileOf) (reads : List ReadOf) (name to : List ℕ) (t : T
 
 -- no fault comes in where the defaults fit
 pub no_fault_beside_defaults : (files : List FileOf) (reads : List ReadOf) (name to : List ℕ) (t : Target) (after : List FileOf) (seen : List ReadOf)
-    → IsAllowed files reads name to t → AreReworded (renamed_words files reads t to) files reads after seen → DefaultsFit after seen → HasNoFault (LinkFaults after) × HasNoFault (CheckFaults after)
+    → IsAllowedRename files reads name to t → AreReworded (renamed_words files reads t to) files reads after seen → DefaultsFit after seen → HasNoFault (LinkFaults after) × HasNoFault (CheckFaults after)
 no_fault_beside_defaults files reads name to t after seen a w fit = (
   no_link_fault files reads (renamed_words files reads t to) after seen t.token t.above t.aim t.is_map to (is_rename files reads name to t after seen a w) a.link,
   checks_clean files reads name to t after seen a w fit,

@@ -11,9 +11,9 @@ use Rattle.proto_text.specs.declared.kind.PieceKind.TheVariants.{Blank, LineComm
 use Rattle.proto_text.specs.declared.kind.TokenKind.TheVariants.{Word, Number, Text, Punctuation}
 use Rattle.proto_text.specs.declared.lexer.Token.{Token}
 use Rattle.proto_text.specs.First.{BeginsWith}
-use Rattle.proto_text.proofs.Common.{IsFault, IsAllowed, AreTokens, IsFaultAt, token_at, meaning_from, meaning_again, meaning_sound}
-use Rattle.proto_text.specs.Scan.{Found, piece_at}
-use Rattle.proto_text.proofs.Begins.{accept_other, accept_string, fault_sound, found_some, inside, refuse_string}
+use Rattle.proto_text.proofs.Common.{IsFault, IsAllowed, AreTokens, IsFaultAt, token_at, meaning_behind, meaning_again, meaning_sound}
+use Rattle.proto_text.specs.Scan.{PieceFound, piece_at}
+use Rattle.proto_text.proofs.Begins.{accept_other, accept_string, fault_sound, found_some, between_quotes, refuse_string}
 use Rattle.proto_text.proofs.Sequence.{IsLexedUpTo, lexed_all, lexed_fault, lexed_more, lexed_none}
 use Rattle.proto_tree.specs.declared.class.Class.{Class}
 use Rattle.proto_tree.specs.declared.class.Class.TheVariants as class
@@ -24,7 +24,7 @@ use Rattle.proto_tree.specs.declared.context.Kind.TheVariants as piece_kind
 use Rattle.proto_tree.specs.declared.piece.Piece.{Piece}
 use Rattle.proto_tree.specs.declared.piece.Piece.TheVariants as piece
 use Rattle.proto_tree.proofs.Common.{Fit, flat_piece, IsShallow, IsTooDeep, open_after, open_in, Reads, classed, place_at, Tree, Spells, allows, kind_of, last_of, Fit-join, same_pieces, stuck_no_tree, stuck_place, tree_of_walk, walk_of, laws, nested_walk, walk_append, flats, flats-append, last_outer, pieces}
-use Rattle.proto_tree.specs.Walk.{IsStuck, Walk, moved, piece_in}
+use Rattle.proto_tree.specs.Walk.{IsStuck, Walk, moved_contexts, piece_in}
 use Rattle.proto_tree.proofs.Depth.{before_more, now_more}
 use Rattle.proto_files.proofs.Common.{HasNoFault, ReadOf, read_at, FileOf, file_at, IsGrammarFault, IsText, IsTextFault, ReadFaults}
 use Rattle.proto_rename_described.specs.CleanFiles.{CleanFilesAreRead}
@@ -32,9 +32,9 @@ use Rattle.proto_rename_described.specs.CleanFiles.{CleanFilesAreRead}
 -- ---- a text has tokens, or a fault
 
 allowed_or_not : (body : List ℕ) → IsAllowed body ⊎ (IsAllowed body → ⊥)
-allowed_or_not body = by (meaning_from 0 body) refl
+allowed_or_not body = by (meaning_behind 0 body) refl
   where
-    by : (o : Option (List ℕ)) → meaning_from 0 body ≡ o → IsAllowed body ⊎ (IsAllowed body → ⊥)
+    by : (o : Option (List ℕ)) → meaning_behind 0 body ≡ o → IsAllowed body ⊎ (IsAllowed body → ⊥)
     by None q = inr (λ a. none-some a.0 (sym q ∙ meaning_again body a.0 a.1))
     by (Some values) q = elim (cases_Bool (is_utf8 values)) [
       | inl t ↦ inl (values, meaning_sound body values q, IsUtf8-from_is_utf8 values t)
@@ -60,10 +60,10 @@ record IsFirst (bytes : List ℕ) : Type 0 where
 first_or_fault : (bytes : List ℕ) → 0 < length bytes → IsFirst bytes ⊎ ((f : LexFault) × IsFault f bytes)
 first_or_fault bytes some = by (piece_at bytes) refl
   where
-    by : (r : Found) → piece_at bytes ≡ r → IsFirst bytes ⊎ ((f : LexFault) × IsFault f bytes)
+    by : (r : PieceFound) → piece_at bytes ≡ r → IsFirst bytes ⊎ ((f : LexFault) × IsFault f bytes)
     by (Err fault) q = inr (fault, fault_sound bytes fault some q)
     by (Ok found) q = elim (text_or_not found.0) [
-      | inl text ↦ elim (allowed_or_not (inside found.1 bytes)) [
+      | inl text ↦ elim (allowed_or_not (between_quotes found.1 bytes)) [
         | inl a ↦ inl (record { kind = found.0; n = found.1; some = found_some bytes (Ok found) (sym q); begins = accept_string found.0 bytes found.1 text q a })
         | inr refused ↦ inr (lex.BadEscape, refuse_string found.0 bytes found.1 text q refused)
       ]
@@ -170,20 +170,20 @@ module _ (s : List Lexeme) where
   step : (n : ℕ) (us : List Piece) (front rest : List Lexeme) (c : Context) (outer : List Context) → length rest < suc n → IsWalked us front rest (c ∷ outer) → Known n → Answer
   step n us front rest c outer l w behind = by (piece_in c rest) refl
     where
-      more : (u : Piece) (text r : List Lexeme) → allows c (kind_of u) ≡ true → rest ≡ text ++ r → Fit (flat_piece u) text → IsWalked (us ++ u ∷ []) (front ++ text) r (moved c u outer)
+      more : (u : Piece) (text r : List Lexeme) → allows c (kind_of u) ≡ true → rest ≡ text ++ r → Fit (flat_piece u) text → IsWalked (us ++ u ∷ []) (front ++ text) r (moved_contexts c u outer)
       more u text r ok e fit = record {
         parts = w.parts ∙ ap (λ (z : List Lexeme). front ++ z) e ∙ sym (append_assoc front text r);
         fits = subst (λ ms. Fit ms (front ++ text)) (sym (flats-append us (u ∷ []))) (Fit-join (flats us) (flats (u ∷ [])) front text w.fits (subst (λ ms. Fit ms text) (sym (append-nil (flat_piece u))) fit));
-        walk = walk_append us (u ∷ []) start (c ∷ outer) (moved c u outer) w.walk (ok, refl);
+        walk = walk_append us (u ∷ []) start (c ∷ outer) (moved_contexts c u outer) w.walk (ok, refl);
       }
 
       -- a brace is closed only where one is open
-      closes : (u : Piece) → allows c (kind_of u) ≡ true → moved c u outer ≡ [] → ⊥
+      closes : (u : Piece) → allows c (kind_of u) ≡ true → moved_contexts c u outer ≡ [] → ⊥
       closes (piece.Close i) ok q = differ (sym ok ∙ outermost us front rest c (subst (λ z. IsWalked us front rest (c ∷ z)) q w))
       closes (piece.Statement s) ok q = cc
       closes (piece.Open h i) ok q = cc
 
-      on : (u : Piece) (text r : List Lexeme) → allows c (kind_of u) ≡ true → rest ≡ text ++ r → Fit (flat_piece u) text → (to : List Context) → moved c u outer ≡ to → Answer
+      on : (u : Piece) (text r : List Lexeme) → allows c (kind_of u) ≡ true → rest ≡ text ++ r → Fit (flat_piece u) text → (to : List Context) → moved_contexts c u outer ≡ to → Answer
       on u text r ok e fit [] q = absurd (closes u ok q)
       on u text r ok e fit (d ∷ to) q =
           let solid = (laws c).solid u ok text fit in
@@ -193,7 +193,7 @@ module _ (s : List Lexeme) where
       by None q = stopped us front rest c outer w q
       by (Some found) q =
           let x = (laws c).sound rest found.0 found.1 q in
-          on found.0 x.1 found.1 x.0 x.2 x.3 (moved c found.0 outer) refl
+          on found.0 x.1 found.1 x.0 x.2 x.3 (moved_contexts c found.0 outer) refl
 
   walk_on : (n : ℕ) → Known n
   walk_on zero us front rest c outer l w = absurd (omega (arith, l))

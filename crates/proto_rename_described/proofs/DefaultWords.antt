@@ -12,7 +12,7 @@ use Rattle.proto_imports.proofs.Common.{link_skeleton, text_of, names_are_plain}
 use Rattle.proto_parts.proofs.Common.{is_named, BlockOf, FieldOf, OptionOf, blocks_in}
 use Rattle.proto_checks_laws.specs.Renamed.{constant_tokens}
 use Rattle.proto_rename_laws.proofs.Common.{default_words, defaults_from, fields_of_block, fields_of_file, meaning_from, means_value, renamed_default, renamed_defaults, type_meaning, HasDefaultWords, HasDefaultRoles, AreReworded, renamed_places, same_at, standing, Target, name_map, renamed_words, plain_inside, other_texts_stay, texts_are_changed, listed, to_flat_map}
-use Rattle.proto_rename_described.specs.Common.{IsAllowed, FieldsHaveRoles}
+use Rattle.proto_rename_described.specs.Common.{IsAllowedRename, FieldsHaveRoles}
 use Rattle.proto_rename_described.proofs.Allowed.{allowed_roles}
 use Rattle.proto_rename_described.proofs.OtherTokens.{labels_and_scalars_stay, other_tokens_stay}
 
@@ -47,7 +47,7 @@ in_defaults files reads enum old n (suc k) w (r ∷ rs) f l cf c =
     (Contains-append_right (map (at n) (flat_map (renamed_default files reads enum old n) (fields_of_file r.tree))) (defaults_from files reads enum old (suc n) rs) (at (suc n + k) w)
     (in_defaults files reads enum old (suc n) k w rs f (omega (arith, l)) cf (subst (λ m. Contains (renamed_default files reads enum old m f) w) e c)))
 
-module _ (files : List FileOf) (reads : List ReadOf) (name to : List ℕ) (t : Target) (after : List FileOf) (seen : List ReadOf) (a : IsAllowed files reads name to t) (w : AreReworded (renamed_words files reads t to) files reads after seen)
+module _ (files : List FileOf) (reads : List ReadOf) (name to : List ℕ) (t : Target) (after : List FileOf) (seen : List ReadOf) (a : IsAllowedRename files reads name to t) (w : AreReworded (renamed_words files reads t to) files reads after seen)
     (file : ℕ) (b : BlockOf) (f : FieldOf) (l : file < length files) (cb : Contains (blocks_in (read_at reads file).tree) b) (cf : Contains (fields_of_block b.header b.within) f) where
   words : HasDefaultWords files reads t to file f
   words = (allowed_roles files reads name to t a).defaults file b f l cb cf

@@ -10,13 +10,13 @@ use Rattle.proto_tree.specs.declared.tree.FieldType.TheVariants as field_type
 use Rattle.proto_files.proofs.Common.{FileOf, ReadOf, read_at}
 use Rattle.proto_meaning.specs.Grown.{at}
 use Rattle.proto_imports.specs.Links.{text_of}
-use Rattle.proto_parts.proofs.Common.{number_of, is_named, truth_named, BlockOf, FieldOf, OptionOf, blocks_in, fields_in, EnumOf, Scene, enum_meant, signed_at, text, has_label, is_label}
+use Rattle.proto_parts.proofs.Common.{number_value, is_named, truth_named, BlockOf, FieldOf, OptionOf, blocks_in, fields_in, EnumOf, Scene, enum_meant, signed_value, text, has_label, is_label_word}
 use Rattle.proto_numbers.specs.declared.flaw.Flaw.{Flaw}
 use Rattle.proto_checks.specs.FieldFlaws.{default_flaws, holds_number, is_default_of, is_value_of, may_default, wrong_default}
 use Rattle.proto_checks_laws.proofs.Common.{flaws_of_block, is_of_names, flaws_of_names}
 use Rattle.proto_rename_laws.proofs.Common.{scene_of, fields_of_block, meaning_from, HasDefaultRoles, AreReworded, Target, renamed_words, other_texts_stay, find_agree, find_there, trees_at, version_stays}
 use Rattle.proto_rename_laws.proofs.DefaultTokens.{of_block}
-use Rattle.proto_rename_described.specs.Common.{IsAllowed, RenamesLeaveNoFault, AllDefaultsFit}
+use Rattle.proto_rename_described.specs.Common.{IsAllowedRename, RenamesLeaveNoFault, AllDefaultsFit}
 use Rattle.proto_rename_described.proofs.Allowed.{allowed_roles, clean, empty_each, is_rename, no_fault_beside_defaults, same_length}
 use Rattle.proto_rename_described.proofs.DefaultWords.{fields_have_roles}
 use Rattle.proto_rename_described.proofs.EnumDefaults.{enum_defaults_fit}
@@ -36,7 +36,7 @@ is_true true h = refl
 is_true false h = absurd cc
 
 module _ (files : List FileOf) (reads : List ReadOf) (name to : List ℕ) (t : Target) (after : List FileOf) (seen : List ReadOf)
-    (a : IsAllowed files reads name to t) (w : AreReworded (renamed_words files reads t to) files reads after seen)
+    (a : IsAllowedRename files reads name to t) (w : AreReworded (renamed_words files reads t to) files reads after seen)
     (file : ℕ) (l : file < length files) (b : BlockOf) (f : FieldOf) (cb : Contains (blocks_in (read_at reads file).tree) b) (cf : Contains (fields_of_block b.header b.within) f) where
   abbrev old : Scene
   old = scene_of None files reads file
@@ -50,14 +50,14 @@ module _ (files : List FileOf) (reads : List ReadOf) (name to : List ℕ) (t : T
   stays : (i : ℕ) → renamed_words files reads t to (at file i) ≡ None → text new i ≡ text old i
   stays i h = other_texts_stay (renamed_words files reads t to) files reads after seen a.read w (at file i) l h
 
-  label_stays : (word : List ℕ) (o : Option ℕ) → f.label ≡ o → is_label new word o ≡ is_label old word o
+  label_stays : (word : List ℕ) (o : Option ℕ) → f.label ≡ o → is_label_word new word o ≡ is_label_word old word o
   label_stays word None q = refl
   label_stays word (Some i) q = ap (λ v. bytes_eq v word) (stays i (roles.label i q))
 
   value_fits : (o : OptionOf) → Contains f.options o → is_named (text old) (codes "default") o ≡ true → (k : FieldType) → f.kind ≡ k → (c : Constant) → o.value ≡ c → is_default_of old k c ≡ true → is_default_of new k c ≡ true
   value_fits o co n (field_type.Scalar i) qk (constant.Number m) qc h =
       let e = stays m.number (roles.number o m co qc) in
-      let signed : signed_at new m ≡ signed_at old m = ap (λ v. if is_some m.minus then neg_ℤ v else v) (ap (λ x. pos (number_of x)) e) in
+      let signed : signed_value new m ≡ signed_value old m = ap (λ v. if is_some m.minus then neg_ℤ v else v) (ap (λ x. pos (number_value x)) e) in
       ap₂ holds_number (stays i (roles.scalar i qk)) signed ∙ h
   value_fits o co n (field_type.Scalar i) qk (constant.Word x) qc h =
       ap₂ (λ v u. bytes_eq v (codes "bool") && is_some (truth_named u)) (stays i (roles.scalar i qk)) (stays x (roles.word o i x co qk qc)) ∙ h

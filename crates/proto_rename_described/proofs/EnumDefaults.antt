@@ -12,7 +12,7 @@ use Rattle.proto_imports.specs.Links.{text_of, link_skeleton, names_of_files, us
 use Rattle.proto_parts.proofs.Common.{BlockOf, blocks_in, values_in, EnumOf, MeantOf, enum_meant}
 use Rattle.proto_checks.specs.FieldFlaws.{is_value_of}
 use Rattle.proto_rename_laws.proofs.Common.{declared_as, enum_at, enum_named, enum_within, is_enum_at, is_proto3_file, lexemes_of, meaning_of, meant_as, scene_of, means_value, meaning_from, HasEnumRoles, HasValue, Target, name_map, renamed_words, AreReworded, Names, IsRename, declared_stays, find_agree, find_there, meaning_after, trees_at, used_here, uses_stay}
-use Rattle.proto_rename_described.specs.Allowed.{IsAllowed}
+use Rattle.proto_rename_described.specs.Allowed.{IsAllowedRename}
 use Rattle.proto_rename_described.specs.EnumDefaults.{EnumDefaultsFit}
 use Rattle.proto_rename_described.proofs.Allowed.{allowed_roles, is_rename}
 
@@ -42,7 +42,7 @@ meant_by_first files reads file first us =
     through (Some u) = refl
 
 module _ (files : List FileOf) (reads : List ReadOf) (name to : List ℕ) (t : Target) (after : List FileOf) (seen : List ReadOf)
-    (a : IsAllowed files reads name to t) (re : AreReworded (renamed_words files reads t to) files reads after seen) where
+    (a : IsAllowedRename files reads name to t) (re : AreReworded (renamed_words files reads t to) files reads after seen) where
   roles : HasEnumRoles files reads t
   roles = (allowed_roles files reads name to t a).enums
 

@@ -14,8 +14,8 @@ use Rattle.proto_numbers.proofs.Common.{is_inside, number_of_field, range_of}
 use Rattle.proto_parts.specs.declared.ranges.RangeAt.{RangeAt}
 use Rattle.proto_numbers.specs.declared.flaw.Flaw.{Flaw}
 use Rattle.proto_checks_laws.specs.Renamed.{DifferInNames, asked_tokens, block_tokens, field_tokens, header_tokens, message_tokens, option_tokens, scalar_tokens}
-use Rattle.proto_extensions.specs.Common.{ExtensionOf, block_extensions, extendee_in, extensions_in, extensions_of, is_message_at, name_meant, ranges_at, ranges_at_place, ranges_named, ranges_within, workspace_flaws}
-use Rattle.proto_extensions.proofs.MovedExtensions.{AreMoved, moved, moved_flaw, workspace_moved}
+use Rattle.proto_extensions.specs.Common.{ExtensionOf, block_extensions, extendee_in, extensions_in, extensions_of, is_message_at, name_meant, extension_ranges_at, ranges_at_place, ranges_named, ranges_within, workspace_flaws}
+use Rattle.proto_extensions.proofs.MovedExtensions.{AreMoved, moved_extension, moved_flaw, workspace_moved}
 use Rattle.proto_rename_laws.specs.Rewording.{NewWords}
 use Rattle.proto_rename_laws.specs.Scenes.{IsRename}
 use Rattle.proto_rename_laws.proofs.Common.{declared_as, meaning_of, scene_of, declared_stays, find_there, from_flat_map, meaning_after, scenes_are_apart, to_flat_map, trees_at, used_here, uses_stay, values_stay}
@@ -62,7 +62,7 @@ module _ (files : List FileOf) (reads : List ReadOf) (c : NewWords) (after : Lis
   taken = record { written = false; enum = None }
 
   abbrev turned : ExtensionOf → ExtensionOf
-  turned x = moved (λ i. i) (ren e) x
+  turned x = moved_extension (λ i. i) (ren e) x
 
   -- ---- a file
 
@@ -172,7 +172,7 @@ module _ (files : List FileOf) (reads : List ReadOf) (c : NewWords) (after : Lis
 
   -- ---- ranges by names
 
-  ranges_at_stay : (p : At) → ranges_at None after seen p ≡ ranges_at None files reads p
+  ranges_at_stay : (p : At) → extension_ranges_at None after seen p ≡ extension_ranges_at None files reads p
   ranges_at_stay p = elim (cases_lt p.file (length files)) [
     | inl l ↦ ap new (trees_at files reads c after seen token above aim is_map to r p.file) ∙ within_stays p.file l p.token (find (λ (x : BlockOf). is_message_at p.token x.header) (blocks_in (read_at reads p.file).tree)) refl
     | inr l ↦

@@ -14,7 +14,7 @@ use Rattle.proto_tree.specs.declared.tree.Constant.TheVariants as constant
 use Rattle.proto_tree.specs.declared.tree.FieldType.TheVariants as written_type
 use Rattle.proto_tree.specs.declared.tree.RangeEnd.TheVariants as range_end
 use Rattle.proto_meaning.proofs.Common.{Renaming, map_agree}
-use Rattle.proto_parts.proofs.Common.{number_of, is_named, text_of as text_value, text_option, truth_named, truth_of, truth_option, value_named, word_of, word_option, FieldOf, OptionOf, closed_ranges, enum_ranges, extension_ranges, fields_in, map_field, options_in, reserved_ranges, settings_of, statements, values_in, EnumOf, Scene, enum_meant, number_at, signed_at, text, up_to, value, is_label}
+use Rattle.proto_parts.proofs.Common.{number_value, is_named, text_of_constant as text_value, text_option, truth_named, truth_of, truth_option, value_named, word_of, word_option, FieldOf, OptionOf, closed_ranges, enum_ranges, extension_ranges, fields_in, map_field, options_in, reserved_ranges, settings_of, statements, values_in, EnumOf, Scene, enum_meant, number_at, signed_value, text, up_to_cap, value, is_label_word}
 use Rattle.proto_numbers.specs.NumberFlaws.{bound_of, end_of, enum_range_of, first_of_signed, most_field, most_value, range_of}
 use Rattle.proto_checks_laws.specs.Renamed.{DifferInNames, SameButValues, constant_tokens, end_tokens, enum_tokens, field_tokens, message_tokens, option_tokens, range_tokens, scalar_tokens, up_to_tokens, value_tokens}
 use Rattle.proto_descriptors.specs.declared.field.FieldType.TheVariants as field_type
@@ -128,9 +128,9 @@ module _ (e : Renaming) (taken : Taken) (named : ℕ → Bool) (a b : Scene) (di
   -- ---- numbers
 
   pub number_stays : (t : ℕ) → named t ≡ false → number_at b t ≡ number_at a t
-  number_stays t k = sym (ap₂ (λ cap w. pos (up_to cap (number_of w))) differ.caps (differ.texts t k))
+  number_stays t k = sym (ap₂ (λ cap w. pos (up_to_cap cap (number_value w))) differ.caps (differ.texts t k))
 
-  pub signed_stays : (s : Signed) → named s.number ≡ false → signed_at b s ≡ signed_at a s
+  pub signed_stays : (s : Signed) → named s.number ≡ false → signed_value b s ≡ signed_value a s
   signed_stays s k = ap (λ n. if is_some s.minus then neg_ℤ n else n) (number_stays s.number k)
 
   end_stays : {N : Type 0} (token : N → ℕ) (most : ℤ) (f g : N → ℤ) → ((n : N) → named (token n) ≡ false → f n ≡ g n) → (first : N) (u : Option (UpTo N)) → f first ≡ g first → Kept (up_to_tokens token u) → end_of most f first u ≡ end_of most g first u
@@ -149,11 +149,11 @@ module _ (e : Renaming) (taken : Taken) (named : ℕ → Bool) (a b : Scene) (di
   enum_range_stays : (r : Range Signed) → Kept (range_tokens (λ (s : Signed). s.number) r) → enum_range_of b r ≡ enum_range_of a r
   enum_range_stays r k =
       let q = signed_stays r.first (k r.first.number (contains_head r.first.number (up_to_tokens (λ (s : Signed). s.number) r.up_to))) in
-      λ i. record { token = first_of_signed r.first; first = q i; last = end_stays (λ (s : Signed). s.number) most_value (signed_at b) (signed_at a) signed_stays r.first r.up_to q (tail r.first.number (up_to_tokens (λ (s : Signed). s.number) r.up_to) k) i }
+      λ i. record { token = first_of_signed r.first; first = q i; last = end_stays (λ (s : Signed). s.number) most_value (signed_value b) (signed_value a) signed_stays r.first r.up_to q (tail r.first.number (up_to_tokens (λ (s : Signed). s.number) r.up_to) k) i }
 
   -- ---- fields
 
-  label_stays : (w : List ℕ) (o : Option ℕ) → Kept (option_to_list o) → is_label b w o ≡ is_label a w o
+  label_stays : (w : List ℕ) (o : Option ℕ) → Kept (option_to_list o) → is_label_word b w o ≡ is_label_word a w o
   label_stays w None k = refl
   label_stays w (Some t) k = ap (λ v. bytes_eq v w) (same t (k t (contains_head t [])))
 
@@ -236,7 +236,7 @@ module _ (e : Renaming) (taken : Taken) (named : ℕ → Bool) (a b : Scene) (di
         ap value_range (enum_range_stays r (λ t ct. right (flat_map (value_tokens a) (values_in within)) (flat_map (range_tokens (λ (s : Signed). s.number)) (flat_map enum_ranges (statements within))) k t (to_flat_map (range_tokens (λ (s : Signed). s.number)) (flat_map enum_ranges (statements within)) r t c ct))))
 
   module _ (v : Value) (k : Kept (value_tokens a v)) where
-    pub value_number_stays : value_number (signed_at b v.number) ≡ value_number (signed_at a v.number)
+    pub value_number_stays : value_number (signed_value b v.number) ≡ value_number (signed_value a v.number)
     value_number_stays = ap value_number (signed_stays v.number (k v.number.number (contains_head v.number.number (flat_map (option_tokens a) (settings_of v.settings)))))
 
     pub value_options_stay : (value_described b v).options ≡ (value_described a v).options

@@ -28,7 +28,7 @@ use Rattle.proto_described.specs.Described.{absolute, default_number, default_te
 use Rattle.proto_rename_laws.proofs.Common.{meaning_of, meant_as, scene_of, fields_of_block, meaning_from, means_value, HasDefaultRoles, AreReworded, IsRename, Target, may_rename, name_map, renamed_words, other_texts_stay, at_same, find_agree, find_there, scenes_are_apart, used_here, values_stay}
 use Rattle.proto_rename_laws.proofs.DefaultTokens.{of_block}
 use Rattle.proto_desc.specs.Checked.{described_from}
-use Rattle.proto_rename_described.specs.Common.{IsAllowed, Taken, is_name_of, mapped, mapped_default, mapped_file, words_of, WritesJson, of_another, of_field, FileTurns, is_target, written_json}
+use Rattle.proto_rename_described.specs.Common.{IsAllowedRename, Taken, is_name_of, mapped, mapped_default, mapped_file, words_of, WritesJson, of_another, of_field, FileTurns, is_target, written_json}
 use Rattle.proto_rename_described.specs.FilesTurn.{AllAreMapped, FilesTurn, RenamesAreMapped}
 use Rattle.proto_rename_described.proofs.Allowed.{allowed_roles, clean, empty_each, is_rename}
 use Rattle.proto_rename_described.proofs.DefaultWords.{fields_have_roles}
@@ -86,7 +86,7 @@ means_none None old word = refl
 means_none (Some n) old word = refl
 
 module _ (files : List FileOf) (reads : List ReadOf) (name to : List ℕ) (t : Target) (after : List FileOf) (seen : List ReadOf)
-    (al : IsAllowed files reads name to t) (w : AreReworded (renamed_words files reads t to) files reads after seen)
+    (al : IsAllowedRename files reads name to t) (w : AreReworded (renamed_words files reads t to) files reads after seen)
     (written : Bool) (writes : WritesJson files reads t written) where
   abbrev e : Renaming
   e = name_map files reads t to

@@ -18,7 +18,7 @@ use Rattle.proto_parts.proofs.Common.{value_named, FieldOf, OptionOf, fields_in,
 use Rattle.proto_descriptors.specs.Descriptors.{EnumDesc, FieldDesc, MessageDesc, Messages, NoMessages, Message, MethodDesc}
 use Rattle.proto_descriptors.specs.declared.file.Syntax.TheVariants as syntax
 use Rattle.proto_described.specs.Described.{absolute, below, default_text, entry_described, entry_field, enum_described, enums_described, extension_described, extensions_described, field_described, field_type_name, file_described, is_map, message_described, messages_described, method_described, methods_described, oneof_names, package_named, package_prefix, scalar_type, services_described, type_name_of, type_of, type_text, value_described}
-use Rattle.proto_rename_described.specs.Common.{Taken, behind_first, dotted, mapped_default, mapped_enum, mapped_field, mapped_json, mapped_message, mapped_messages, mapped_method, mapped_name, mapped_service, mapped_value, parts, put_first, word_under, words_of, DescriptorsAreMapped, EntryTurns, EnumTurns, ExtensionTurns, FieldTurns, IsUnder, MessageTurns, MethodTurns, MethodsTurn, Turned, Turns, ValueTurns, full, is_target, written_json}
+use Rattle.proto_rename_described.specs.Common.{Taken, behind_first, dotted_text, mapped_default, mapped_enum, mapped_field, mapped_json, mapped_message, mapped_messages, mapped_method, mapped_name, mapped_service, mapped_value, parts, put_first, word_under, words_of, DescriptorsAreMapped, EntryTurns, EnumTurns, ExtensionTurns, FieldTurns, IsUnder, MessageTurns, MethodTurns, MethodsTurn, Turned, Turns, ValueTurns, full, is_target, written_json}
 
 -- ---- names as text
 
@@ -26,24 +26,24 @@ neither : (b d : Bool) → (b || d) ≡ false → (b ≡ false) × (d ≡ false)
 neither false d e = (refl, e)
 neither true d e = absurd cc
 
-parts_word : (w : List ℕ) (ws : List (List ℕ)) → list_any (λ b. b == 46) w ≡ false → parts (dotted ws) ≡ [] ∷ ws → parts (w ++ dotted ws) ≡ w ∷ ws
+parts_word : (w : List ℕ) (ws : List (List ℕ)) → list_any (λ b. b == 46) w ≡ false → parts (dotted_text ws) ≡ [] ∷ ws → parts (w ++ dotted_text ws) ≡ w ∷ ws
 parts_word [] ws h e = e
 parts_word (b ∷ bs) ws h e =
     let n = neither (b == 46) (list_any (λ b. b == 46) bs) h in
-    cond-false (b == 46) ([] ∷ parts (bs ++ dotted ws)) (put_first b (parts (bs ++ dotted ws))) n.0 ∙ ap (put_first b) (parts_word bs ws n.1 e)
+    cond-false (b == 46) ([] ∷ parts (bs ++ dotted_text ws)) (put_first b (parts (bs ++ dotted_text ws))) n.0 ∙ ap (put_first b) (parts_word bs ws n.1 e)
 
-parts_dotted : (x : List (List ℕ)) → ArePlain x → parts (dotted x) ≡ [] ∷ x
+parts_dotted : (x : List (List ℕ)) → ArePlain x → parts (dotted_text x) ≡ [] ∷ x
 parts_dotted [] p = refl
 parts_dotted (w ∷ ws) p = ap (λ l. [] ∷ l) (parts_word w ws p.0.0 (parts_dotted ws p.1))
 
-pub words_of_dotted : (x : List (List ℕ)) → ArePlain x → words_of (dotted x) ≡ x
+pub words_of_dotted : (x : List (List ℕ)) → ArePlain x → words_of (dotted_text x) ≡ x
 words_of_dotted x p = ap behind_first (parts_dotted x p)
 
-pub dotted_more : (x : List (List ℕ)) (w : List ℕ) → dotted (x ++ w ∷ []) ≡ dotted x ++ 46 ∷ w
+pub dotted_more : (x : List (List ℕ)) (w : List ℕ) → dotted_text (x ++ w ∷ []) ≡ dotted_text x ++ 46 ∷ w
 dotted_more [] w = append-nil (46 ∷ w)
-dotted_more (v ∷ x) w = ap (λ l. (46 ∷ v) ++ l) (dotted_more x w) ∙ sym (append_assoc (46 ∷ v) (dotted x) (46 ∷ w))
+dotted_more (v ∷ x) w = ap (λ l. (46 ∷ v) ++ l) (dotted_more x w) ∙ sym (append_assoc (46 ∷ v) (dotted_text x) (46 ∷ w))
 
-pub joined_dotted : (x : List (List ℕ)) → x ≢ [] → absolute (joined x) ≡ dotted x
+pub joined_dotted : (x : List (List ℕ)) → x ≢ [] → absolute (joined x) ≡ dotted_text x
 joined_dotted [] h = absurd (h refl)
 joined_dotted (w ∷ []) h = sym (append-nil (46 ∷ w))
 joined_dotted (w ∷ v ∷ rest) h = ap (λ l. (46 ∷ w) ++ l) (joined_dotted (v ∷ rest) (λ z. not_empty z))
@@ -51,7 +51,7 @@ joined_dotted (w ∷ v ∷ rest) h = ap (λ l. (46 ∷ w) ++ l) (joined_dotted (
     not_empty : v ∷ rest ≡ [] → ⊥
     not_empty z = cc
 
-package_dotted : (s : Scene) (ts : List ℕ) → package_prefix (package_named s ts) ≡ dotted (map (text s) ts)
+package_dotted : (s : Scene) (ts : List ℕ) → package_prefix (package_named s ts) ≡ dotted_text (map (text s) ts)
 package_dotted s [] = refl
 package_dotted s (t ∷ ts) = joined_dotted (map (text s) (t ∷ ts)) (λ z. not_empty z)
   where
@@ -61,8 +61,8 @@ package_dotted s (t ∷ ts) = joined_dotted (map (text s) (t ∷ ts)) (λ z. not
 pub ren_more : (e : Renaming) (x : List (List ℕ)) (w : List ℕ) → ren e (x ++ w ∷ []) ≡ ren e x ++ word_under e x w ∷ []
 ren_more e x w = turn_below-more e.parent (turned e) x w
 
-pub mapped_dotted : (e : Renaming) (x : List (List ℕ)) → ArePlain x → mapped_name e (dotted x) ≡ dotted (ren e x)
-mapped_dotted e x p = ap (λ z. dotted (ren e z)) (words_of_dotted x p)
+pub mapped_dotted : (e : Renaming) (x : List (List ℕ)) → ArePlain x → mapped_name e (dotted_text x) ≡ dotted_text (ren e x)
+mapped_dotted e x p = ap (λ z. dotted_text (ren e z)) (words_of_dotted x p)
 
 module _ (e : Renaming) (taken : Taken) (a b : Scene) (strings : (t : ℕ) → value b t ≡ value a t) (means : (r : Reference) → IsUnder e (meant_by a r) (meant_by b r)) where
   -- ---- types
@@ -72,8 +72,8 @@ module _ (e : Renaming) (taken : Taken) (a b : Scene) (strings : (t : ℕ) → v
   under None (Some n) h = absurd h
   under (Some m) None h = absurd h
   under (Some m) (Some n) h =
-      let old : absolute m.name ≡ dotted h.0 = ap absolute h.3 ∙ joined_dotted h.0 h.2 in
-      let new : absolute n.name ≡ dotted (ren e h.0) = ap absolute h.4 ∙ joined_dotted (ren e h.0) (some_name h.0 h.2) in
+      let old : absolute m.name ≡ dotted_text h.0 = ap absolute h.3 ∙ joined_dotted h.0 h.2 in
+      let new : absolute n.name ≡ dotted_text (ren e h.0) = ap absolute h.4 ∙ joined_dotted (ren e h.0) (some_name h.0 h.2) in
       ap Some (new ∙ sym (ap (mapped_name e) old ∙ mapped_dotted e h.0 h.1))
     where
       some_name : (x : List (List ℕ)) → x ≢ [] → ren e x ≢ []
@@ -87,8 +87,8 @@ module _ (e : Renaming) (taken : Taken) (a b : Scene) (strings : (t : ℕ) → v
   type_text_after : (r : Reference) → type_text b r ≡ mapped_name e (type_text a r)
   type_text_after r = by (meant_by a r) (meant_by b r) (under (meant_by a r) (meant_by b r) (means r))
     where
-      nothing : dotted (ren e []) ≡ []
-      nothing = ap dotted (turn_below-nil e.parent (turned e))
+      nothing : dotted_text (ren e []) ≡ []
+      nothing = ap dotted_text (turn_below-nil e.parent (turned e))
 
       by : (o p : Option MeantOf) → option_map (λ (m : MeantOf). absolute m.name) p ≡ option_map (mapped_name e) (option_map (λ (m : MeantOf). absolute m.name) o)
           → or_nothing (option_map (λ (m : MeantOf). absolute m.name) p) ≡ mapped_name e (or_nothing (option_map (λ (m : MeantOf). absolute m.name) o))
@@ -101,15 +101,15 @@ module _ (e : Renaming) (taken : Taken) (a b : Scene) (strings : (t : ℕ) → v
 
   -- ---- what stands at a path, which is spelled x, as the texts fa and fb
 
-  module _ (path : List (Source ℕ)) (x : List (List ℕ)) (fa fb : List ℕ) (ex : full e taken a b path ≡ x) (ea : fa ≡ dotted x) (eb : fb ≡ dotted (ren e x)) where
+  module _ (path : List (Source ℕ)) (x : List (List ℕ)) (fa fb : List ℕ) (ex : full e taken a b path ≡ x) (ea : fa ≡ dotted_text x) (eb : fb ≡ dotted_text (ren e x)) where
     here : (s : Source ℕ) → Turned e taken a b path s → spell (text b) entry_name s ≡ word_under e x (spell (text a) entry_name s)
     here s h = h ∙ ap (λ z. word_under e z (spell (text a) entry_name s)) ex
 
-    below_a : (w : List ℕ) → below fa w ≡ dotted (x ++ w ∷ [])
+    below_a : (w : List ℕ) → below fa w ≡ dotted_text (x ++ w ∷ [])
     below_a w = ap (λ z. z ++ 46 ∷ w) ea ∙ sym (dotted_more x w)
 
-    below_b : (v w : List ℕ) → v ≡ word_under e x w → below fb v ≡ dotted (ren e (x ++ w ∷ []))
-    below_b v w h = ap₂ (λ (y z : List ℕ). y ++ 46 ∷ z) eb h ∙ sym (dotted_more (ren e x) (word_under e x w)) ∙ ap dotted (sym (ren_more e x w))
+    below_b : (v w : List ℕ) → v ≡ word_under e x w → below fb v ≡ dotted_text (ren e (x ++ w ∷ []))
+    below_b v w h = ap₂ (λ (y z : List ℕ). y ++ 46 ∷ z) eb h ∙ sym (dotted_more (ren e x) (word_under e x w)) ∙ ap dotted_text (sym (ren_more e x w))
 
     path_more : (s : Source ℕ) → full e taken a b (path ++ s ∷ []) ≡ x ++ spell (text a) entry_name s ∷ []
     path_more s = map_append (spell (text a) entry_name) path (s ∷ []) ∙ ap (λ z. z ++ spell (text a) entry_name s ∷ []) ex
@@ -133,7 +133,7 @@ module _ (e : Renaming) (taken : Taken) (a b : Scene) (strings : (t : ℕ) → v
         where
           by : (o : Option Constant) → value_named (text a) (codes "default") f.options ≡ o → option_map (default_text b) o ≡ option_map (mapped_default e taken (field_type_name a fa f)) (option_map (default_text a) o)
           by None q = refl
-          by (Some c) q = ap Some (t.default c q ∙ ap (λ z. mapped_default e taken (field_type_name a z f) (default_text a c)) (sym (ea ∙ ap dotted (sym ex))))
+          by (Some c) q = ap Some (t.default c q ∙ ap (λ z. mapped_default e taken (field_type_name a z f) (default_text a c)) (sym (ea ∙ ap dotted_text (sym ex))))
 
       json_after : json_name_of b f ≡ mapped_json e taken x (text a f.name) (json_name_of a f)
       json_after = ap (λ j. written_or j (text b f.name)) t.stays.json ∙ by (written_json e taken a b a f) refl (same_name (x ++ text a f.name ∷ []) (target e)) refl
@@ -304,7 +304,7 @@ module _ (e : Renaming) (taken : Taken) (a b : Scene) (strings : (t : ℕ) → v
 
   -- ---- messages
 
-  message_after : (path : List (Source ℕ)) (x : List (List ℕ)) (fa fb : List ℕ) → full e taken a b path ≡ x → fa ≡ dotted x → fb ≡ dotted (ren e x)
+  message_after : (path : List (Source ℕ)) (x : List (List ℕ)) (fa fb : List ℕ) → full e taken a b path ≡ x → fa ≡ dotted_text x → fb ≡ dotted_text (ren e x)
       → (above : List (List ℕ)) (name : ℕ) (within : Tree) → text b name ≡ word_under e above (text a name) → MessageTurns e taken a b path within → Turns e taken a b path within
       → message_described b fb name within ≡ mapped_message e taken above x (message_described a fa name within)
   message_after path x fa fb ex ea eb above name within n m t =
@@ -320,7 +320,7 @@ module _ (e : Renaming) (taken : Taken) (a b : Scene) (strings : (t : ℕ) → v
         options = m.options i;
       }
 
-  messages_after : (tree : Tree) (path : List (Source ℕ)) (x : List (List ℕ)) (fa fb : List ℕ) → full e taken a b path ≡ x → fa ≡ dotted x → fb ≡ dotted (ren e x) → Turns e taken a b path tree
+  messages_after : (tree : Tree) (path : List (Source ℕ)) (x : List (List ℕ)) (fa fb : List ℕ) → full e taken a b path ≡ x → fa ≡ dotted_text x → fb ≡ dotted_text (ren e x) → Turns e taken a b path tree
       → messages_described b fb tree ≡ mapped_messages e taken x (messages_described a fa tree)
   messages_after End path x fa fb ex ea eb t = refl
   messages_after (Leaf (statement.MapField f) rest) path x fa fb ex ea eb t =
@@ -342,7 +342,7 @@ module _ (e : Renaming) (taken : Taken) (a b : Scene) (strings : (t : ℕ) → v
   messages_after (Block (header.Method s) opens within closes rest) path x fa fb ex ea eb t = messages_after rest path x fa fb ex ea eb t
   messages_after (Block (header.Extend g) opens within closes rest) path x fa fb ex ea eb t = messages_after rest path x fa fb ex ea eb t.1
 
-  services_after : (tree : Tree) (path : List (Source ℕ)) (x : List (List ℕ)) (fa fb : List ℕ) → full e taken a b path ≡ x → fa ≡ dotted x → fb ≡ dotted (ren e x) → Turns e taken a b path tree
+  services_after : (tree : Tree) (path : List (Source ℕ)) (x : List (List ℕ)) (fa fb : List ℕ) → full e taken a b path ≡ x → fa ≡ dotted_text x → fb ≡ dotted_text (ren e x) → Turns e taken a b path tree
       → services_described b tree ≡ map (mapped_service e x) (services_described a tree)
   services_after End path x fa fb ex ea eb t = refl
   services_after (Leaf (statement.MapField f) rest) path x fa fb ex ea eb t = services_after rest path x fa fb ex ea eb t.1
@@ -381,8 +381,8 @@ descriptors_are_mapped e taken a b path tree t =
     let fa = package_prefix (package_named a ts) in
     let fb = package_prefix (package_named b ts) in
     let named : package_named b ts ≡ package_named a ts = package_same a b ts t.named in
-    let ea : fa ≡ dotted x = package_dotted a ts in
-    let eb : fb ≡ dotted (ren e x) = ap package_prefix named ∙ ea ∙ ap dotted (sym t.kept) in
+    let ea : fa ≡ dotted_text x = package_dotted a ts in
+    let eb : fb ≡ dotted_text (ren e x) = ap package_prefix named ∙ ea ∙ ap dotted_text (sym t.kept) in
     let ex : full e taken a b (map (λ t. Token t) ts) ≡ x = spelled_tokens a ts in
     let above : words_of fa ≡ x = ap words_of ea ∙ words_of_dotted x t.plain in
     let ms = messages_after e taken a b t.strings t.means tree (map (λ t. Token t) ts) x fa fb ex ea eb t.names in

@@ -24,7 +24,7 @@ use Rattle.proto_checks_laws.proofs.Outermost.{no_map_field, no_oneof}
 use Rattle.proto_described.specs.Described.{default_text, field_type_name, is_map, type_name_of}
 use Rattle.proto_rename_laws.specs.Defaults.{fields_of_block}
 use Rattle.proto_rename_laws.proofs.Places.{to_flat_map}
-use Rattle.proto_rename_described.specs.Common.{Taken, dotted as behind_dots, mapped_default, EntryTurns, EnumTurns, ExtensionTurns, FieldTurns, MessageTurns, MethodsTurn, Turned, Turns, full, is_target, written_json}
+use Rattle.proto_rename_described.specs.Common.{Taken, dotted_text as behind_dots, mapped_default, EntryTurns, EnumTurns, ExtensionTurns, FieldTurns, MessageTurns, MethodsTurn, Turned, Turns, full, is_target, written_json}
 use Rattle.proto_rename_described.proofs.FileStays.{enum_options_stay, enum_reserved_stays, extensions_stay, field_stays, field_tokens_kept, key_type_stays, message_options_stay, method_options_stay, reserved_stays, service_options_stay, value_number_stays, value_options_stay, value_tokens_kept, value_type_stays}
 
 no : false ≡ true → ⊥

@@ -16,7 +16,7 @@ use Rattle.proto_rename_laws.specs.Rewording.{AreReworded}
 use Rattle.proto_rename_laws.specs.Targets.{Target, IsNamed, renamed_words}
 
 -- files without a fault, and the rename of a symbol of theirs that no case refuses
-pub record IsAllowed
+pub record IsAllowedRename
     (files : List FileOf) (reads : List ReadOf) (name to : Text) (t : Target) : Type 0 where
   pub read : AreRead files reads
   pub link : HasNoFault (LinkFaults files)
@@ -37,6 +37,6 @@ abbrev pub RenamesLeaveNoFault : Type 0
 RenamesLeaveNoFault =
     (files : List FileOf) (reads : List ReadOf) (name to : Text) (t : Target)
     (after : List FileOf) (seen : List ReadOf)
-    → IsAllowed files reads name to t
+    → IsAllowedRename files reads name to t
     → AreReworded (renamed_words files reads t to) files reads after seen
     → HasNoFault (LinkFaults after) × HasNoFault (CheckFaults after)

@@ -13,7 +13,7 @@ use Rattle.proto_rename_laws.specs.SceneOf.{scene_of}
 use Rattle.proto_rename_laws.specs.Defaults.{means_value, meaning_from}
 use Rattle.proto_rename_laws.specs.Rewording.{AreReworded}
 use Rattle.proto_rename_laws.specs.Targets.{Target, renamed_words}
-use Rattle.proto_rename_described.specs.Allowed.{IsAllowed}
+use Rattle.proto_rename_described.specs.Allowed.{IsAllowedRename}
 
 -- The word of the default, changed where it means the value, is a value of the enum
 -- afterwards where it was one before.
@@ -21,7 +21,7 @@ abbrev pub EnumDefaultsFit : Type 0
 EnumDefaultsFit =
     (files : List FileOf) (reads : List ReadOf) (name to : Text) (t : Target)
     (after : List FileOf) (seen : List ReadOf)
-    → IsAllowed files reads name to t
+    → IsAllowedRename files reads name to t
     → AreReworded (renamed_words files reads t to) files reads after seen
     → (file w : ℕ) (r : Reference)
     → file < length files

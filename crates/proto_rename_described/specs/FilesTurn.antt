@@ -9,7 +9,7 @@ use Rattle.proto_rename_laws.specs.SceneOf.{scene_of}
 use Rattle.proto_desc.specs.Checked.{AreDescribed, described}
 use Rattle.proto_rename_laws.specs.Rewording.{AreReworded}
 use Rattle.proto_rename_laws.specs.Targets.{Target, name_map, renamed_words}
-use Rattle.proto_rename_described.specs.Allowed.{IsAllowed}
+use Rattle.proto_rename_described.specs.Allowed.{IsAllowedRename}
 use Rattle.proto_rename_described.specs.Mapped.{mapped}
 use Rattle.proto_rename_described.specs.Renamed.{AreRenamed, WritesJson}
 use Rattle.proto_rename_described.specs.Turns.{FileTurns}
@@ -19,7 +19,7 @@ abbrev pub FilesTurn : Type 0
 FilesTurn =
     (files : List FileOf) (reads : List ReadOf) (name to : Text) (t : Target)
     (after : List FileOf) (seen : List ReadOf)
-    → IsAllowed files reads name to t
+    → IsAllowedRename files reads name to t
     → AreReworded (renamed_words files reads t to) files reads after seen
     → (written : Bool)
     → WritesJson files reads t written
@@ -33,7 +33,7 @@ abbrev pub AllAreMapped : Type 0
 AllAreMapped =
     (files : List FileOf) (reads : List ReadOf) (name to : Text) (t : Target)
     (after : List FileOf) (seen : List ReadOf)
-    → IsAllowed files reads name to t
+    → IsAllowedRename files reads name to t
     → AreReworded (renamed_words files reads t to) files reads after seen
     → (written : Bool)
     → WritesJson files reads t written
@@ -45,7 +45,7 @@ abbrev pub RenamesAreMapped : Type 0
 RenamesAreMapped =
     (files : List FileOf) (reads : List ReadOf) (name to : Text) (t : Target)
     (after : List FileOf) (seen : List ReadOf)
-    → IsAllowed files reads name to t
+    → IsAllowedRename files reads name to t
     → AreReworded (renamed_words files reads t to) files reads after seen
     → (ds new : List FileDesc)
     → AreDescribed files ds

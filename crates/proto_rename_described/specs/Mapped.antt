@@ -12,8 +12,8 @@ use Rattle.proto_described.specs.Described.{package_prefix}
 -- ---- full names as text: each word behind a dot
 
 -- the name as text, each word behind a dot
-abbrev pub dotted : List Text → Text
-dotted x = flat_map (λ w. ascii.dot ∷ w) x
+abbrev pub dotted_text : List Text → Text
+dotted_text x = flat_map (λ w. ascii.dot ∷ w) x
 
 -- one byte more before the first part
 abbrev pub put_first : ℕ → List Text → List Text
@@ -42,7 +42,7 @@ word_under e above word = if same_name above e.parent then turned e word else wo
 
 -- a full name as text
 abbrev pub mapped_name : Renaming → Text → Text
-mapped_name e text = dotted (ren e (words_of text))
+mapped_name e text = dotted_text (ren e (words_of text))
 
 -- what the map takes from the old files besides names: whether the renamed field has a written JSON
 -- name, and the enum that has the renamed value

@@ -11,12 +11,12 @@ use Rattle.proto_parts.specs.Parts.{BlockOf, FieldOf, blocks_in}
 use Rattle.proto_rename_laws.specs.Defaults.{fields_of_block, renamed_defaults}
 use Rattle.proto_rename_laws.specs.Places.{Names, Uses}
 use Rattle.proto_rename_laws.specs.Targets.{Target, name_map, renamed_words}
-use Rattle.proto_rename_described.specs.Allowed.{IsAllowed}
+use Rattle.proto_rename_described.specs.Allowed.{IsAllowedRename}
 
 -- Labels and scalar types of messages' fields and of extensions are not changed.
 abbrev pub LabelsAndScalarsStay : Type 0
 LabelsAndScalarsStay = (files : List FileOf) (reads : List ReadOf) (name to : Text) (t : Target)
-    → IsAllowed files reads name to t
+    → IsAllowedRename files reads name to t
     → (file : ℕ) (b : BlockOf) (f : FieldOf)
     → file < length files
     → Contains (blocks_in (read_at reads file).tree) b
@@ -27,7 +27,7 @@ LabelsAndScalarsStay = (files : List FileOf) (reads : List ReadOf) (name to : Te
 -- A token that is no name, no word of a reference and no default of the value's is not changed.
 abbrev pub OtherTokensStay : Type 0
 OtherTokensStay = (files : List FileOf) (reads : List ReadOf) (name to : Text) (t : Target)
-    → IsAllowed files reads name to t
+    → IsAllowedRename files reads name to t
     → (i : At)
     → (Names (link_skeleton files reads) i → ⊥)
     → (Uses (link_skeleton files reads) i → ⊥)

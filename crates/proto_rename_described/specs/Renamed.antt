@@ -8,7 +8,7 @@ use Rattle.proto_parts.specs.Options.{text_option}
 use Rattle.proto_parts.specs.Parts.{BlockOf, FieldOf}
 use Rattle.proto_parts.specs.Scenes.{text, value}
 use Rattle.proto_descriptors.specs.Descriptors.{FileDesc}
-use Rattle.proto_rename_laws.specs.Cases.{IsFieldIn, scene_at}
+use Rattle.proto_rename_laws.specs.Cases.{IsFieldIn, scene_of_token}
 use Rattle.proto_rename_laws.specs.Targets.{Target, name_map}
 use Rattle.proto_rename_described.specs.Mapped.{mapped}
 
@@ -16,8 +16,8 @@ use Rattle.proto_rename_described.specs.Mapped.{mapped}
 pub data WritesJson (files : List FileOf) (reads : List ReadOf) (t : Target) : Bool → Type 0 where
   of_field : (b : BlockOf) (f : FieldOf)
       → IsFieldIn files reads t.token b f
-      → WritesJson files reads t (is_some (text_option (text (scene_at files reads t.token))
-      (value (scene_at files reads t.token)) (codes "json_name") f.options))
+      → WritesJson files reads t (is_some (text_option (text (scene_of_token files reads t.token))
+      (value (scene_of_token files reads t.token)) (codes "json_name") f.options))
   of_another : ((b : BlockOf) (f : FieldOf) → IsFieldIn files reads t.token b f → ⊥)
       → WritesJson files reads t false
 

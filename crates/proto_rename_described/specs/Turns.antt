@@ -20,11 +20,11 @@ use Rattle.proto_meaning.specs.Tree.{key_word, value_word, package_of}
 use Rattle.proto_listing.specs.FromTree.{items_in}
 use Rattle.proto_parts.specs.Options.{text_option, truth_option, value_named}
 use Rattle.proto_parts.specs.Parts.{FieldOf, OptionOf, statements, fields_in, values_in, reserved_ranges, extension_ranges, enum_ranges, options_in}
-use Rattle.proto_parts.specs.Scenes.{MeantOf, Scene, text, value, number_at, signed_at, meant_by}
+use Rattle.proto_parts.specs.Scenes.{MeantOf, Scene, text, value, number_at, signed_value, meant_by}
 use Rattle.proto_parts.specs.Labels.{has_label}
 use Rattle.proto_numbers.specs.NumberFlaws.{range_of, enum_range_of}
 use Rattle.proto_described.specs.Described.{default_text, enum_options, field_number, field_options, field_type_name, field_type_of, file_described, file_options, is_map, label_of, message_options, method_options, number_range, scalar_type, type_name_of, type_of, value_described, value_number, value_range}
-use Rattle.proto_rename_described.specs.Mapped.{Taken, dotted, mapped_default, mapped_file, word_under}
+use Rattle.proto_rename_described.specs.Mapped.{Taken, dotted_text, mapped_default, mapped_file, word_under}
 
 -- what a reference means goes under the name map
 abbrev pub IsUnder : Renaming → Option MeantOf → Option MeantOf → Type 0
@@ -76,7 +76,7 @@ module _ (e : Renaming) (taken : Taken) (a b : Scene) where
     pub default : (c : Constant)
         → value_named (text a) (codes "default") f.options ≡ Some c
         → default_text b c
-        ≡ mapped_default e taken (field_type_name a (dotted (full path)) f) (default_text a c)
+        ≡ mapped_default e taken (field_type_name a (dotted_text (full path)) f) (default_text a c)
     pub entry : is_some f.map_key ≡ true
         → Turned path (EntryOf f.name) × ArePlain (full path ++ entry_name (text a f.name) ∷ [])
     pub stays : FieldStays f
@@ -115,7 +115,7 @@ module _ (e : Renaming) (taken : Taken) (a b : Scene) where
   -- a value below this path
   pub record ValueTurns (path : List (Source ℕ)) (v : Value) : Type 0 where
     pub name : Turned path (Token v.name)
-    pub number : value_number (signed_at b v.number) ≡ value_number (signed_at a v.number)
+    pub number : value_number (signed_value b v.number) ≡ value_number (signed_value a v.number)
     pub options : (value_described b v).options ≡ (value_described a v).options
 
   -- what an enum below this path holds

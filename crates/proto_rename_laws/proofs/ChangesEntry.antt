@@ -8,7 +8,7 @@ use Rattle.proto_meaning.specs.Grown.{At, at}
 use Rattle.proto_imports.specs.Links.{text_of, link_skeleton}
 use Rattle.proto_entries.specs.Entries.{AreRising, BeginsBefore, IsChange, IsMeasured, ChangeOf}
 use Rattle.proto_entries.proofs.ShortPuts.{puts_are_short}
-use Rattle.proto_rename_laws.specs.Common.{same_name, too_large, ChangesAreEntry, IsPutIn, TextsAfter, in_file, NewWords, renamed_defaults, change_at, same_at, standing, change_by, changes_from, spliced_length, Target, name_map, renamed_words}
+use Rattle.proto_rename_laws.specs.Common.{same_name, too_large, ChangesAreEntry, IsPutIn, TextsAfter, words_of_file, NewWords, renamed_defaults, change_at, same_at, standing, change_by, changes_from, spliced_length, Target, name_map, renamed_words}
 use Rattle.proto_rename_laws.proofs.ChangesPut.{edits_at, from_changes, is_by, to_changes}
 use Rattle.proto_rename_laws.proofs.OldTexts.{old_texts}
 use Rattle.proto_rename_laws.proofs.Places.{listed}
@@ -115,7 +115,7 @@ module _ (old to : List ℕ) where
 rising : (c : NewWords) (n : ℕ) (fs : List FileOf) (rs : List ReadOf) → AllPairs (λ f g. IsBefore f.path g.path) fs → AreRising (changes_from c n fs rs)
 rising c n [] rs h = tt
 rising c n (f ∷ fs) [] h = tt
-rising c n (f ∷ fs) (r ∷ rs) h = by (token_edits f.bytes (in_file c n) 0 r.tokens) (rising c (suc n) fs rs (λ i j d p q. h (suc i) (suc j) d (omega (arith, p)) (omega (arith, q))))
+rising c n (f ∷ fs) (r ∷ rs) h = by (token_edits f.bytes (words_of_file c n) 0 r.tokens) (rising c (suc n) fs rs (λ i j d p q. h (suc i) (suc j) d (omega (arith, p)) (omega (arith, q))))
   where
     index_is : (xs : List FileOf) (i : ℕ) → i < length xs → get_or xs i (file_at xs i) ≡ file_at xs i
     index_is [] i l = absurd (omega (arith, l))
@@ -142,7 +142,7 @@ module _ (files : List FileOf) (reads : List ReadOf) (name to : List ℕ) (t : T
   c = renamed_words files reads t to
 
   abbrev edits : ℕ → List Edit
-  edits k = token_edits (file_at files k).bytes (in_file (renamed_words files reads t to) k) 0 (read_at reads k).tokens
+  edits k = token_edits (file_at files k).bytes (words_of_file (renamed_words files reads t to) k) 0 (read_at reads k).tokens
 
   put : (k : ℕ) → k < length files → Puts 0 (file_at files k).bytes (edits k) (file_at after k).bytes
   put k l = (a.reworded.words k l).put
@@ -156,8 +156,8 @@ module _ (files : List FileOf) (reads : List ReadOf) (name to : List ℕ) (t : T
       ]
 
   are_of : (k : ℕ) → (e : Edit) → Contains (edits k) e → (e.old ≡ text_of files reads t.token) × (e.new ≡ to)
-  are_of k = each_edit (file_at files k).bytes (in_file (renamed_words files reads t to) k) (λ old new. (old ≡ text_of files reads t.token) × (new ≡ to)) 0 (read_at reads k).tokens
-      (λ j w l q. (let o = old_texts files reads t to (at k j) w (ap (in_file (renamed_words files reads t to) k) (omega arith) ∙ q) in (o.1, o.0)))
+  are_of k = each_edit (file_at files k).bytes (words_of_file (renamed_words files reads t to) k) (λ old new. (old ≡ text_of files reads t.token) × (new ≡ to)) 0 (read_at reads k).tokens
+      (λ j w l q. (let o = old_texts files reads t to (at k j) w (ap (words_of_file (renamed_words files reads t to) k) (omega arith) ∙ q) in (o.1, o.0)))
 
   measured : (k : ℕ) → k < length files → (s : Edit) (es : List Edit) → edits k ≡ s ∷ es
       → IsMeasured (record { path = (file_at files k).path; before = length (file_at files k).bytes; after = spliced_length (length (file_at files k).bytes) (s ∷ es); splices = s ∷ es })
@@ -203,7 +203,7 @@ module _ (files : List FileOf) (reads : List ReadOf) (name to : List ℕ) (t : T
         let k = from_changes (renamed_words files reads t to) 0 files reads ch h in
         let e : 0 + k.0 ≡ k.0 = omega arith in
         let path : IsWorkspacePath (file_at files k.0).path = path_at files k.0 k.1 has.named in
-        change_is k.0 k.1 path (edits k.0) refl ch (subst (λ m. Contains (change_by (file_at files k.0) (token_edits (file_at files k.0).bytes (in_file (renamed_words files reads t to) m) 0 (read_at reads k.0).tokens)) ch) e k.2)
+        change_is k.0 k.1 path (edits k.0) refl ch (subst (λ m. Contains (change_by (file_at files k.0) (token_edits (file_at files k.0).bytes (words_of_file (renamed_words files reads t to) m) 0 (read_at reads k.0).tokens)) ch) e k.2)
       where
         path_at : (fs : List FileOf) (i : ℕ) → i < length fs → All (λ (f : FileOf). IsWorkspacePath f.path) fs → IsWorkspacePath (file_at fs i).path
         path_at [] i l h = absurd (omega (arith, l))
@@ -220,13 +220,13 @@ module _ (files : List FileOf) (reads : List ReadOf) (name to : List ℕ) (t : T
         here = first_place (flat_map (standing (text_of files reads) (link_skeleton files reads) (name_map files reads t to)) (link_skeleton files reads).used ++ renamed_defaults files reads t.enum (name_map files reads t to).old)
 
         by : (es : List Edit) → edits t.token.file ≡ es → ⊥
-        by [] q = some_edit (file_at files t.token.file).bytes (in_file (renamed_words files reads t to) t.token.file) 0 t.token.token to (read_at reads t.token.file).tokens m (ap (in_file (renamed_words files reads t to) t.token.file) (omega arith) ∙ here) q
+        by [] q = some_edit (file_at files t.token.file).bytes (words_of_file (renamed_words files reads t to) t.token.file) 0 t.token.token to (read_at reads t.token.file).tokens m (ap (words_of_file (renamed_words files reads t to) t.token.file) (omega arith) ∙ here) q
         by (s ∷ es) q =
             let f = file_at files t.token.file in
             let ch : ChangeOf = record { path = f.path; before = length f.bytes; after = spliced_length (length f.bytes) (s ∷ es); splices = s ∷ es } in
             let e : t.token.file ≡ 0 + t.token.file = omega arith in
             let there = to_changes (renamed_words files reads t to) 0 files reads ch t.token.file l a.read.same
-            (subst (λ i. Contains (change_by (file_at files t.token.file) (token_edits (file_at files t.token.file).bytes (in_file (renamed_words files reads t to) i) 0 (read_at reads t.token.file).tokens)) ch) e
+            (subst (λ i. Contains (change_by (file_at files t.token.file) (token_edits (file_at files t.token.file).bytes (words_of_file (renamed_words files reads t to) i) 0 (read_at reads t.token.file).tokens)) ch) e
             (subst (λ z. Contains (change_by (file_at files t.token.file) z) ch) (sym q) (contains_head ch []))) in
             let bad = subst (λ z. Contains z ch) none there in
             absurd (omega (arith, bad.1))

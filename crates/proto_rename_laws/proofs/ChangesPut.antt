@@ -6,11 +6,11 @@ use Rattle.proto_files.proofs.Common.{FileOf, file_at, ReadOf, read_at}
 use Rattle.proto_meaning.specs.Grown.{At}
 use Rattle.proto_entries.proofs.Common.{ChangeOf, EachPuts, PutsFile}
 use Rattle.proto_rename_laws.specs.ChangesPut.{ChangesArePut}
-use Rattle.proto_rename_laws.specs.Common.{in_file, NewWords, change_by, changes_from, spliced_length}
+use Rattle.proto_rename_laws.specs.Common.{words_of_file, NewWords, change_by, changes_from, spliced_length}
 use Rattle.proto_rename_laws.proofs.Rewording.{at_same}
 
 abbrev pub edits_at : (At → Option (List ℕ)) → ℕ → List FileOf → List ReadOf → ℕ → List Edit
-edits_at c n fs rs k = token_edits (file_at fs k).bytes (in_file c (n + k)) 0 (read_at rs k).tokens
+edits_at c n fs rs k = token_edits (file_at fs k).bytes (words_of_file c (n + k)) 0 (read_at rs k).tokens
 
 each_puts : (cs : List ChangeOf) (fs gs : List FileOf) → length gs ≡ length fs → ((k : ℕ) → k < length fs → PutsFile cs (file_at fs k) (file_at gs k)) → EachPuts cs fs gs
 each_puts cs [] [] e h = tt
@@ -34,12 +34,12 @@ is_by f (s ∷ es) ch c = elim (contains_cases _ ch [] c) [
 pub from_changes : (c : NewWords) (n : ℕ) (fs : List FileOf) (rs : List ReadOf) (ch : ChangeOf) → Contains (changes_from c n fs rs) ch → (k : ℕ) × (k < length fs) × Contains (change_by (file_at fs k) (edits_at c n fs rs k)) ch
 from_changes c n [] rs ch h = absurd (omega (arith, h.1))
 from_changes c n (f ∷ fs) [] ch h = absurd (omega (arith, h.1))
-from_changes c n (f ∷ fs) (r ∷ rs) ch h = elim (Contains-append_cases (change_by f (token_edits f.bytes (in_file c n) 0 r.tokens)) (changes_from c (suc n) fs rs) ch h) [
-  | inl a ↦ (let e : n ≡ n + 0 = omega arith in (0, omega arith, subst (λ m. Contains (change_by f (token_edits f.bytes (in_file c m) 0 r.tokens)) ch) e a))
+from_changes c n (f ∷ fs) (r ∷ rs) ch h = elim (Contains-append_cases (change_by f (token_edits f.bytes (words_of_file c n) 0 r.tokens)) (changes_from c (suc n) fs rs) ch h) [
+  | inl a ↦ (let e : n ≡ n + 0 = omega arith in (0, omega arith, subst (λ m. Contains (change_by f (token_edits f.bytes (words_of_file c m) 0 r.tokens)) ch) e a))
   | inr b ↦ (
       let k = from_changes c (suc n) fs rs ch b in
       let e : suc n + k.0 ≡ n + suc k.0 = omega arith in
-      (suc k.0, (let l = k.1 in omega (arith, l)), subst (λ m. Contains (change_by (file_at fs k.0) (token_edits (file_at fs k.0).bytes (in_file c m) 0 (read_at rs k.0).tokens)) ch) e k.2))
+      (suc k.0, (let l = k.1 in omega (arith, l)), subst (λ m. Contains (change_by (file_at fs k.0) (token_edits (file_at fs k.0).bytes (words_of_file c m) 0 (read_at rs k.0).tokens)) ch) e k.2))
 ]
 
 pub to_changes : (c : NewWords) (n : ℕ) (fs : List FileOf) (rs : List ReadOf) (ch : ChangeOf) (k : ℕ) → k < length fs → length rs ≡ length fs → Contains (change_by (file_at fs k) (edits_at c n fs rs k)) ch → Contains (changes_from c n fs rs) ch
@@ -47,11 +47,11 @@ to_changes c n [] rs ch k l e h = absurd (omega (arith, l))
 to_changes c n (f ∷ fs) [] ch k l e h = absurd (omega (arith, e))
 to_changes c n (f ∷ fs) (r ∷ rs) ch zero l e h =
     let same : n + 0 ≡ n = omega arith in
-    Contains-append_left (change_by f (token_edits f.bytes (in_file c n) 0 r.tokens)) (changes_from c (suc n) fs rs) ch (subst (λ m. Contains (change_by f (token_edits f.bytes (in_file c m) 0 r.tokens)) ch) same h)
+    Contains-append_left (change_by f (token_edits f.bytes (words_of_file c n) 0 r.tokens)) (changes_from c (suc n) fs rs) ch (subst (λ m. Contains (change_by f (token_edits f.bytes (words_of_file c m) 0 r.tokens)) ch) same h)
 to_changes c n (f ∷ fs) (r ∷ rs) ch (suc k) l e h =
     let same : n + suc k ≡ suc n + k = omega arith in
-    Contains-append_right (change_by f (token_edits f.bytes (in_file c n) 0 r.tokens)) (changes_from c (suc n) fs rs) ch
-    (to_changes c (suc n) fs rs ch k (omega (arith, l)) (omega (arith, e)) (subst (λ m. Contains (change_by (file_at fs k) (token_edits (file_at fs k).bytes (in_file c m) 0 (read_at rs k).tokens)) ch) same h))
+    Contains-append_right (change_by f (token_edits f.bytes (words_of_file c n) 0 r.tokens)) (changes_from c (suc n) fs rs) ch
+    (to_changes c (suc n) fs rs ch k (omega (arith, l)) (omega (arith, e)) (subst (λ m. Contains (change_by (file_at fs k) (token_edits (file_at fs k).bytes (words_of_file c m) 0 (read_at rs k).tokens)) ch) same h))
 
 index_get : (xs : List FileOf) (d : FileOf) (k : ℕ) → k < length xs → get_or xs k d ≡ file_at xs k
 index_get [] d k l = absurd (omega (arith, l))
@@ -80,7 +80,7 @@ changes_are_put c files reads after seen r w apart = record {
     put : (k : ℕ) → k < length files → Puts 0 (file_at files k).bytes (edits_at c 0 files reads k) (file_at after k).bytes
     put k l =
         let e : k ≡ 0 + k = omega arith in
-        subst (λ m. Puts 0 (file_at files k).bytes (token_edits (file_at files k).bytes (in_file c m) 0 (read_at reads k).tokens) (file_at after k).bytes) e (w.words k l).put
+        subst (λ m. Puts 0 (file_at files k).bytes (token_edits (file_at files k).bytes (words_of_file c m) 0 (read_at reads k).tokens) (file_at after k).bytes) e (w.words k l).put
 
     kept : (k : ℕ) → k < length files → (es : List Edit) → edits_at c 0 files reads k ≡ es → Puts 0 (file_at files k).bytes es (file_at after k).bytes
         → ((ch : ChangeOf) → Contains (changes_from c 0 files reads) ch → ch.path ≢ (file_at files k).path) → (file_at after k).bytes ≡ (file_at files k).bytes

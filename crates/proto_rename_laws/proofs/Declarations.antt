@@ -96,8 +96,8 @@ declared_by n (r ∷ rs) d c = elim (Contains-append_cases (file_declared n (nam
       record { k = suc r.k; inside = omega (arith, l); p = r.p; within = r.within; is = subst (λ m. shifted_declared (at m) (declared_of m r.p) ≡ d) e r.is }
 ]
 
-pub path_of : (n : ℕ) (rs : List ReadOf) (d : Declared At) (o : IsDeclaredBy n rs d) → d.path ≡ map (shifted_source (at (n + o.k))) o.p.above ++ shifted_source (at (n + o.k)) o.p.last ∷ []
-path_of n rs d o = ap (λ (z : Declared At). z.path) (sym o.is) ∙ map_append (shifted_source (at (n + o.k))) o.p.above (o.p.last ∷ [])
+pub path_of_declared : (n : ℕ) (rs : List ReadOf) (d : Declared At) (o : IsDeclaredBy n rs d) → d.path ≡ map (shifted_source (at (n + o.k))) o.p.above ++ shifted_source (at (n + o.k)) o.p.last ∷ []
+path_of_declared n rs d o = ap (λ (z : Declared At). z.path) (sym o.is) ∙ map_append (shifted_source (at (n + o.k))) o.p.above (o.p.last ∷ [])
 
 -- a declaration of a written kind ends with a token of its file
 pub ends_with_token : (n : ℕ) (rs : List ReadOf) (d : Declared At) → Contains (all_declared n (map names_in rs)) d → is_written d.kind ≡ true → (above : List (Source At)) × (i : ℕ) × (d.path ≡ above ++ Token (at d.file i) ∷ [])
@@ -109,7 +109,7 @@ ends_with_token n rs d c w =
     by o (Token t) q h = (
       map (shifted_source (at (n + o.k))) o.p.above,
       t,
-      path_of n rs d o ∙ ap (λ z. map (shifted_source (at (n + o.k))) o.p.above ++ shifted_source (at (n + o.k)) z ∷ []) q ∙ ap (λ f. map (shifted_source (at (n + o.k))) o.p.above ++ Token (at f t) ∷ []) (ap (λ (z : Declared At). z.file) o.is),
+      path_of_declared n rs d o ∙ ap (λ z. map (shifted_source (at (n + o.k))) o.p.above ++ shifted_source (at (n + o.k)) z ∷ []) q ∙ ap (λ f. map (shifted_source (at (n + o.k))) o.p.above ++ Token (at f t) ∷ []) (ap (λ (z : Declared At). z.file) o.is),
     )
     by o (EntryOf t) q h =
         let e : o.p.kind ≡ Entry = subst (λ z. EndsAs z o.p.kind) q h in

@@ -9,7 +9,7 @@ use Rattle.proto_listing.proofs.Common.{file_names, items_in, whole, last_token,
 use Rattle.proto_imports.specs.Links.{link_skeleton, names_in}
 use Rattle.proto_rename_laws.specs.Inside.{TargetsAreInside, TokensAreInside}
 use Rattle.proto_rename_laws.specs.Places.{Names, Uses}
-use Rattle.proto_rename_laws.proofs.Declarations.{IsDeclaredBy, declared_by, path_of}
+use Rattle.proto_rename_laws.proofs.Declarations.{IsDeclaredBy, declared_by, path_of_declared}
 
 -- ---- a token with a word is there
 
@@ -37,15 +37,15 @@ pub record IsUsedBy (n : ℕ) (rs : List ReadOf) (u : Used At) : Type 0 where
   pub within : Contains (file_names (read_at rs k).tree).used v
   pub is : used_in (n + k) v ≡ u
 
-pub used_by : (n : ℕ) (rs : List ReadOf) (u : Used At) → Contains (all_used n (map names_in rs)) u → IsUsedBy n rs u
-used_by n [] u c = absurd (omega (arith, c.1))
-used_by n (r ∷ rs) u c = elim (Contains-append_cases (file_used n (names_in r)) (all_used (suc n) (map names_in rs)) u c) [
+pub used_by_file : (n : ℕ) (rs : List ReadOf) (u : Used At) → Contains (all_used n (map names_in rs)) u → IsUsedBy n rs u
+used_by_file n [] u c = absurd (omega (arith, c.1))
+used_by_file n (r ∷ rs) u c = elim (Contains-append_cases (file_used n (names_in r)) (all_used (suc n) (map names_in rs)) u c) [
   | inl a ↦
       let v = from_map (used_in n) (file_names r.tree).used u a in
       let e : n ≡ n + 0 = omega arith in
       record { k = 0; inside = omega arith; v = v.0; within = v.1; is = subst (λ m. used_in m v.0 ≡ u) e v.2 }
   | inr b ↦
-      let o = used_by (suc n) rs u b in
+      let o = used_by_file (suc n) rs u b in
       let l = o.inside in
       let e : suc n + o.k ≡ n + suc o.k = omega arith in
       record { k = suc o.k; inside = omega (arith, l); v = o.v; within = o.within; is = subst (λ m. used_in m o.v ≡ u) e o.is }
@@ -103,7 +103,7 @@ module _ (reads : List ReadOf) where
   by_entry d o i (Given w) q e = absurd (given_no_entry w i e)
 
   last_of : (d : Declared At) (o : IsDeclaredBy 0 reads d) (above : List (Source At)) (x : Source At) → d.path ≡ above ++ x ∷ [] → shifted_source (at (0 + o.k)) o.p.last ≡ x
-  last_of d o above x path = (snoc_parts (map (shifted_source (at (0 + o.k))) o.p.above) above (shifted_source (at (0 + o.k)) o.p.last) x (sym (path_of 0 reads d o) ∙ path)).1
+  last_of d o above x path = (snoc_parts (map (shifted_source (at (0 + o.k))) o.p.above) above (shifted_source (at (0 + o.k)) o.p.last) x (sym (path_of_declared 0 reads d o) ∙ path)).1
 
 pub name_of_file : (files : List FileOf) (reads : List ReadOf) (i : At) → Names (link_skeleton files reads) i → IsNameOf reads i
 name_of_file files reads i (d, cd, (above, inl path)) = let o = declared_by 0 reads d cd in by_token reads d o i o.p.last refl (last_of reads d o above (Token i) path)
@@ -111,7 +111,7 @@ name_of_file files reads i (d, cd, (above, inr path)) = let o = declared_by 0 re
 
 pub word_of_file : (files : List FileOf) (reads : List ReadOf) (i : At) → Uses (link_skeleton files reads) i → IsWordOf reads i
 word_of_file files reads i (u, cu, ci) =
-    let o = used_by 0 reads u cu in
+    let o = used_by_file 0 reads u cu in
     let t = from_map (at (0 + o.k)) o.v.tokens i (subst (λ (z : Used At). Contains z.tokens i) (sym o.is) ci) in
     let zero_is : o.k ≡ 0 + o.k = omega arith in
     subst (IsWordOf reads) (ap (λ m. at m t.0) zero_is ∙ t.2) (record { inside = o.inside; v = o.v; within = o.within; word = t.1 })

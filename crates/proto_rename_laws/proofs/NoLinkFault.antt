@@ -1,7 +1,7 @@
 -- No fault of texts, the grammar, imports, names and references comes in by a rename (for the crates above).
 use Rattle.std.proofs.Common.{◌+◌, ◌≡◌, ℕ, zero, suc, ◌<◌, List, [], ◌∷◌, length, get_or, map, slice_index_or, refl, sym, subst, inl, inr, arith, Contains}
 use Rattle.proto_faults.specs.declared.fault.FaultKind.{FaultKind}
-use Rattle.proto_faults.specs.FaultTable.{number_of}
+use Rattle.proto_faults.specs.FaultTable.{kind_number}
 use Rattle.proto_faults.specs.declared.fault.FaultKind.TheVariants as kind
 use Rattle.proto_case.proofs.Common.{entry_name, entry_differs}
 use Rattle.proto_text.specs.declared.lexer.Token.{Token}
@@ -9,9 +9,9 @@ use Rattle.proto_text.proofs.Common.{offset_at, lexeme_at, no_fault_with_tokens,
 use Rattle.proto_text.specs.declared.fault.LexFault.TheVariants as lex
 use Rattle.proto_tree.specs.Reads.{Reads}
 use Rattle.proto_files.proofs.Common.{FaultAt, HasNoFault, FileOf, file_at, paths_of, IsText, IsTextFault, IsGrammarFault, ReadOf, AreRead, read_at, read_once}
-use Rattle.proto_meaning.proofs.Common.{Asked, Fault, ImportFault, unknown, double, cycle, NameFault, earlier, of_package, ReferenceFault, unresolved, wrong_kind, of_entry, At, FileNames, IsGrown, Skeleton, linked_after, files_nested, files_woven, linked_from, names_sound, references_sound}
+use Rattle.proto_meaning.proofs.Common.{AskedImport, Fault, ImportFault, unknown, double, cycle, NameFault, earlier, of_package, ReferenceFault, unresolved, wrong_kind, of_entry, At, FileNames, IsGrown, Skeleton, linked_after, files_nested, files_woven, linked_from, names_sound, references_sound}
 use Rattle.proto_listing.proofs.FromTree.{tree_grown}
-use Rattle.proto_imports.specs.Links.{LinkFaults, StandsAt, of_import, of_name, of_reference, all_wanted, link_skeleton, link_imports, names_in, text_of}
+use Rattle.proto_imports.specs.Links.{LinkFaults, FaultStandsAt, of_import, of_name, of_reference, all_wanted, link_skeleton, link_imports, names_in, text_of}
 use Rattle.proto_rename_laws.specs.NoLinkFault.{FilesAreWoven, FilesAreLinked, ReadFilesAreClean, NoLinkFaultComesIn}
 use Rattle.proto_rename_laws.proofs.Rewording.{asked_stay, skeletons_stay}
 
@@ -41,12 +41,12 @@ module _ (files : List FileOf) (reads : List ReadOf) where
   standing : (f : Fault) → FaultKind → FaultAt
   standing f k = record { path = (file_at files f.place.file).path; offset = offset_at (read_at reads f.place.file).tokens f.place.token; kind = k }
 
-  stands : (f : Fault) (k : FaultKind) → number_of k ≡ f.number → StandsAt files reads f (standing f k)
+  stands : (f : Fault) (k : FaultKind) → kind_number k ≡ f.number → FaultStandsAt files reads f (standing f k)
   unfolding standing
   stands f k e = record { path = refl; offset = refl; number = e }
 
   module _ (r : AreRead files reads) (clean : HasNoFault (LinkFaults files)) where
-    no_import : (f : Fault) (k : FaultKind) → number_of k ≡ f.number → ImportFault (paths_of files) (all_wanted (text_of files reads) 0 reads) f → ⊥
+    no_import : (f : Fault) (k : FaultKind) → kind_number k ≡ f.number → ImportFault (paths_of files) (all_wanted (text_of files reads) 0 reads) f → ⊥
     no_import f k e h = clean (standing f k) (of_import reads f (standing f k) r (stands f k e) h)
 
     no_name : (f : Fault) → NameFault (text_of files reads) (link_skeleton files reads).declared f → ⊥
@@ -72,7 +72,7 @@ no_link_fault files reads c after seen token above aim is_map to r clean x (of_i
     let same : others ≡ seen = read_once after others seen are r.reworded.read in
     let there : ImportFault (paths_of after) (all_wanted (text_of after seen) 0 seen) f = subst (λ rs. ImportFault (paths_of after) (all_wanted (text_of after rs) 0 rs) f) same h in
     let asked = asked_stay c files reads after seen r.read r.suits r.reworded in
-    no_imports files reads r.read clean f (subst (λ (ps : List (List ℕ)). ImportFault ps (all_wanted (text_of files reads) 0 reads) f) r.reworded.paths (subst (λ (ws : List Asked). ImportFault (paths_of after) ws f) asked there))
+    no_imports files reads r.read clean f (subst (λ (ps : List (List ℕ)). ImportFault ps (all_wanted (text_of files reads) 0 reads) f) r.reworded.paths (subst (λ (ws : List AskedImport). ImportFault (paths_of after) ws f) asked there))
 no_link_fault files reads c after seen token above aim is_map to r clean x (of_name others f y are at h) =
     let same : others ≡ seen = read_once after others seen are r.reworded.read in
     let there = subst (λ rs. NameFault (text_of after rs) (link_skeleton after rs).declared f) same h in

@@ -5,7 +5,7 @@ use Rattle.proto_meaning.proofs.Common.{target, At, name_from_same, last_parts}
 use Rattle.proto_imports.specs.Links.{text_of, link_skeleton}
 use Rattle.proto_rename_laws.specs.Common.{OldTextsAreNames, means_value, renamed_defaults, type_meaning, change_at, front_of, renamed_places, same_at, standing, name_map}
 use Rattle.proto_rename_laws.proofs.DefaultTokens.{default_of_file}
-use Rattle.proto_rename_laws.proofs.Places.{from_flat_map, is_listed, stands_at}
+use Rattle.proto_rename_laws.proofs.Places.{from_flat_map, listed_is_there, stands_at}
 
 pub both_hold : (a b : Bool) → (a && b) ≡ true → (a ≡ true) × (b ≡ true)
 both_hold true true e = (refl, refl)
@@ -23,7 +23,7 @@ pub changed_to : (places : List At) (to : List ℕ) (a : At) (w : List ℕ) → 
 changed_to places to a w h = by (list_any (same_at a) places) refl h
   where
     by : (b : Bool) → list_any (same_at a) places ≡ b → (if b then Some to else None) ≡ Some w → (w ≡ to) × Contains places a
-    by true q e = (sym cc, is_listed a places q)
+    by true q e = (sym cc, listed_is_there a places q)
     by false q e = absurd cc
 
 pub old_texts : OldTextsAreNames

@@ -33,8 +33,8 @@ enum_name token whole e = absurd cc
 
 module _ (files : List FileOf) (reads : List ReadOf) (r : AreRead files reads) (ok : IsLinked (names_of_files files reads)) where
   -- two declarations of one name are one, or packages
-  pub one_declared : (s t : Declared At) → Contains (link_skeleton files reads).declared s → Contains (link_skeleton files reads).declared t → name_of (text_of files reads) entry_name s.path ≡ name_of (text_of files reads) entry_name t.path → (s ≡ t) ⊎ ((s.kind ≡ Package) × (t.kind ≡ Package))
-  one_declared s t cs ct h = elim (cases_order cs.0 ct.0) [
+  pub one_declaration : (s t : Declared At) → Contains (link_skeleton files reads).declared s → Contains (link_skeleton files reads).declared t → name_of (text_of files reads) entry_name s.path ≡ name_of (text_of files reads) entry_name t.path → (s ≡ t) ⊎ ((s.kind ≡ Package) × (t.kind ≡ Package))
+  one_declaration s t cs ct h = elim (cases_order cs.0 ct.0) [
     | inl same ↦ inl (sym cs.2 ∙ get_or_default (link_skeleton files reads).declared cs.0 s t cs.1 ∙ ap (λ i. get_or (link_skeleton files reads).declared i t) same ∙ ct.2)
     | inr (inl below) ↦ (let p = apart cs.0 ct.0 s t s below cs.1 ct.1 cs.2 (get_or_default (link_skeleton files reads).declared ct.0 s t ct.1 ∙ ct.2) h in inr (p.0, p.1))
     | inr (inr more) ↦ (let p = apart ct.0 cs.0 t s s more ct.1 cs.1 (get_or_default (link_skeleton files reads).declared ct.0 s t ct.1 ∙ ct.2) cs.2 (sym h) in inr (p.1, p.0))
@@ -100,7 +100,7 @@ module _ (files : List FileOf) (reads : List ReadOf) (r : AreRead files reads) (
       let plain = λ (d : Declared At) (c : Contains (link_skeleton files reads).declared d). names_are_plain files reads r (symbol_of (text_of files reads) entry_name d) (contains_map (symbol_of (text_of files reads) entry_name) (link_skeleton files reads).declared d c) in
       let names : name_of (text_of files reads) entry_name t.aim.path ≡ name_of (text_of files reads) entry_name u.aim.path =
       joined_apart (name_of (text_of files reads) entry_name t.aim.path) (name_of (text_of files reads) entry_name u.aim.path) (plain t.aim a.within) (plain u.aim b.within) (a.name_is ∙ sym b.name_is) in
-      elim (one_declared t.aim u.aim a.within b.within names) [
+      elim (one_declaration t.aim u.aim a.within b.within names) [
         | inl aim ↦
             let parts = snoc_parts t.above u.above (Token t.token) (Token u.token) (sym a.path ∙ ap (λ (z : Declared At). z.path) aim ∙ b.path) in
             let token : t.token ≡ u.token = same_token t.token u.token parts.1 in

@@ -4,7 +4,7 @@ use Rattle.proto_faults.proofs.Common.{list_any, cases_Bool, cond-true, cond-fal
 use Rattle.proto_case.specs.Camel.{entry_name}
 use Rattle.proto_text.specs.Texts.{or_word}
 use Rattle.proto_meaning.proofs.Common.{same_name, Renaming, target, rewritten, At, Source, Declared, Used, Skeleton, IsAim, renaming_of, IsRespelled, map_append}
-use Rattle.proto_rename_laws.specs.Common.{same_at, stands, front_of, standing, renamed_places, change_at, Names, Uses, AreApart}
+use Rattle.proto_rename_laws.specs.Common.{same_at, stands, front_of, standing, renamed_places, change_at, Names, Uses, RolesAreApart}
 use Rattle.proto_rename_laws.specs.Respelling.{PlacesRespell}
 
 -- ---- tokens that are one
@@ -25,8 +25,8 @@ same_at_itself a = ap₂ (λ (x y : Bool). x && y) (eq-eqb a.file a.file refl) (
 pub listed : (i : At) (xs : List At) → Contains xs i → list_any (same_at i) xs ≡ true
 listed i xs c = any_from (same_at i) xs i c (same_at_itself i)
 
-pub is_listed : (i : At) (xs : List At) → list_any (same_at i) xs ≡ true → Contains xs i
-is_listed i xs e = let r = any_to (same_at i) xs e in subst (Contains xs) (sym (at_same i r.0 r.2)) r.1
+pub listed_is_there : (i : At) (xs : List At) → list_any (same_at i) xs ≡ true → Contains xs i
+listed_is_there i xs e = let r = any_to (same_at i) xs e in subst (Contains xs) (sym (at_same i r.0 r.2)) r.1
 
 pub from_flat_map : {X Y : Type 0} (f : X → List Y) (xs : List X) (y : Y) → Contains (flat_map f xs) y → (x : X) × Contains xs x × Contains (f x) y
 from_flat_map f [] y c = absurd (omega (arith, c.1))
@@ -91,7 +91,7 @@ stands_here e text (j ∷ xs) front i ys h =
 -- ---- the texts after the change
 
 module _ (text now : At → List ℕ) (k : Skeleton At) (token : At) (above : List (Source At)) (aim : Declared At) (is_map : Bool) (to : List ℕ) (defaults : List At)
-    (is : IsAim k token above aim) (apart : AreApart k defaults)
+    (is : IsAim k token above aim) (apart : RolesAreApart k defaults)
     (texts : (i : At) → (Names k i ⊎ Uses k i) → now i ≡ or_word (change_at (renamed_places text k (renaming_of text entry_name token above is_map to) token defaults) to i) (text i)) where
   abbrev e : Renaming
   e = renaming_of text entry_name token above is_map to
@@ -109,7 +109,7 @@ module _ (text now : At → List ℕ) (k : Skeleton At) (token : At) (above : Li
   new_at i role c = texts i role ∙ ap (λ o. or_word o (text i)) (cond-true (list_any (same_at i) places) (Some to) None (listed i places c))
 
   kept_at : (i : At) → (Names k i ⊎ Uses k i) → (Contains places i → ⊥) → now i ≡ text i
-  kept_at i role absent = texts i role ∙ ap (λ o. or_word o (text i)) (cond-false (list_any (same_at i) places) (Some to) None (false_from_ne_true (list_any (same_at i) places) (λ h. absent (is_listed i places h))))
+  kept_at i role absent = texts i role ∙ ap (λ o. or_word o (text i)) (cond-false (list_any (same_at i) places) (Some to) None (false_from_ne_true (list_any (same_at i) places) (λ h. absent (listed_is_there i places h))))
 
   -- a place is the declaring token, stands in a reference, or is a default
   place_cases : (i : At) → Contains places i → (token ≡ i) ⊎ (Uses k i ⊎ Contains defaults i)

@@ -12,11 +12,11 @@ use Rattle.proto_tree.specs.declared.class.Want.TheVariants as want
 use Rattle.proto_files.proofs.Common.{FileOf, ReadOf, read_at}
 use Rattle.proto_meaning.specs.declared.kind.Kind.{Kind}
 use Rattle.proto_meaning.specs.declared.kind.Kind.TheVariants.{Package, Message, Entry, Enum, Service, Field, EntryField, Oneof, Value, Method, Extension}
-use Rattle.proto_meaning.proofs.Common.{Renaming, target, At, at, IsLinked, Reference, Symbol, Workspace, front_at, hit, is_outer, is_type, meaning, meaning_at, typed, Token, Used, name_of, reference_of, symbol_of, spell, name_from_same, map_append, typed_is, has_meaning, meant, front_of, one_symbol}
+use Rattle.proto_meaning.proofs.Common.{Renaming, target, At, at, IsLinked, Reference, Symbol, Workspace, front_at, hit, is_outer, is_type, meaning, meaning_at, typed, Token, Used, name_of, reference_of, symbol_of, spell, name_from_same, map_append, typed_is, has_meaning, meant, front_or_same, one_symbol}
 use Rattle.proto_imports.specs.Links.{text_of, link_skeleton, names_of_files}
-use Rattle.proto_rename_laws.specs.Common.{is_keyword_of, is_value_keyword, renamed_defaults, SuitFiles, in_file, front_of as front_before, renamed_places, same_at, standing, HasWants, Target, IsNamed, may_rename, name_map, renamed_words}
+use Rattle.proto_rename_laws.specs.Common.{is_keyword_of, is_value_keyword, renamed_defaults, SuitFiles, words_of_file, front_of as front_before, renamed_places, same_at, standing, HasWants, Target, IsNamed, may_rename, name_map, renamed_words}
 use Rattle.proto_rename_laws.specs.PlacesSuit.{PlacesSuit}
-use Rattle.proto_rename_laws.proofs.Places.{from_flat_map, is_listed as is_there, stands_at}
+use Rattle.proto_rename_laws.proofs.Places.{from_flat_map, listed_is_there as is_there, stands_at}
 
 -- ---- words that are no keywords
 
@@ -89,7 +89,7 @@ module _ (files : List FileOf) (reads : List ReadOf) (name to : List ℕ) (t : T
 
   -- a front of a type, or the type itself
   outer : (s : Symbol) → Contains w.symbols s → is_type s.kind ≡ true → (rest : List (List ℕ)) → s.name ≡ target e ++ rest → (is_type t.aim.kind ≡ true) ⊎ (is_outer t.aim.kind ≡ true)
-  outer s cs type rest n = elim (front_of w.symbols linked.nested (target e) rest s cs n (omega (arith, length-append e.parent (e.old ∷ [])))) [
+  outer s cs type rest n = elim (front_or_same w.symbols linked.nested (target e) rest s cs n (omega (arith, length-append e.parent (e.old ∷ [])))) [
     | inl none ↦ elim (one_symbol w.symbols linked.unique s aim_symbol cs there (n ∙ ap (λ z. target e ++ z) none ∙ append-nil (target e) ∙ sym aim_name)) [
       | inl same ↦ inl (sym (ap (λ (z : Symbol). is_type z.kind) same) ∙ type)
       | inr both ↦ absurd (no_package both.1)
@@ -151,7 +151,7 @@ module _ (files : List FileOf) (reads : List ReadOf) (name to : List ℕ) (t : T
     changed true v h = (refl, same_Some to v h)
     changed false v h = absurd cc
 
-    suits_from : (k : ℕ) (ms : List Mark) → ((m : Mark) → Contains ms m → Contains (flat (read_at reads k).tree) m) → Suits (in_file (renamed_words files reads t to) k) ms
+    suits_from : (k : ℕ) (ms : List Mark) → ((m : Mark) → Contains ms m → Contains (flat (read_at reads k).tree) m) → Suits (words_of_file (renamed_words files reads t to) k) ms
     suits_from k [] h = tt
     suits_from k (m ∷ ms) h = (
       λ v q. (

@@ -6,10 +6,10 @@ use Rattle.proto_text.proofs.Common.{IsRun, IsString, or_word, words, IsReworded
 use Rattle.proto_text.specs.declared.lexer.Token.{Token}
 use Rattle.proto_tree.proofs.Common.{Suits, PutsWords, Tree, End, flat, Reads, edits_keep_trees}
 use Rattle.proto_files.proofs.Common.{FileOf, file_at, paths_of, ReadOf, AreRead, read_at}
-use Rattle.proto_meaning.proofs.Common.{Asked, imports_of, At, at, FileNames, skeleton_of_files, Import, map_agree, map_map}
+use Rattle.proto_meaning.proofs.Common.{AskedImport, imports_of, At, at, FileNames, skeleton_of_files, Import, map_agree, map_map}
 use Rattle.proto_listing.proofs.Common.{import_here, imports_are_strings, Wanted, imports_in, file_names}
 use Rattle.proto_imports.specs.Links.{text_of, asked_as, all_wanted, names_in, link_imports}
-use Rattle.proto_rename_laws.specs.Rewording.{in_file, SuitFiles, AreReworded, FilesAreReworded, TextsAreChanged, OtherTextsStay, SkeletonsStay, NewWords}
+use Rattle.proto_rename_laws.specs.Rewording.{words_of_file, SuitFiles, AreReworded, FilesAreReworded, TextsAreChanged, OtherTextsStay, SkeletonsStay, NewWords}
 
 pub at_same : {A B : Type 0} (f : A → B) (xs ys : List A) (d : A) (k : ℕ) → map f xs ≡ map f ys → f (slice_index_or xs k d) ≡ f (slice_index_or ys k d)
 at_same f [] [] d k e = refl
@@ -75,7 +75,7 @@ same_paths a b e = sym (length_map (λ (f : FileOf). f.path) a) ∙ ap length e 
 
 pub files_are_reworded : FilesAreReworded
 files_are_reworded c files reads r s =
-    let m = make (λ k. in_file c k) files reads r.same r.trees s in
+    let m = make (λ k. words_of_file c k) files reads r.same r.trees s in
     let n = same_paths m.after files m.paths in (
       m.after,
       m.seen,
@@ -89,11 +89,11 @@ files_are_reworded c files reads r s =
 
 pub texts_are_changed : TextsAreChanged
 texts_are_changed c files reads after seen r w a lf lt =
-    words_are_changed (file_at files a.file).bytes (read_at reads a.file).tokens (in_file c a.file) (file_at after a.file).bytes (read_at seen a.file).tokens (w.words a.file lf) a.token lt
+    words_are_changed (file_at files a.file).bytes (read_at reads a.file).tokens (words_of_file c a.file) (file_at after a.file).bytes (read_at seen a.file).tokens (w.words a.file lf) a.token lt
 
 pub other_texts_stay : OtherTextsStay
 other_texts_stay c files reads after seen r w a lf none =
-    other_words_stay (file_at files a.file).bytes (read_at reads a.file).tokens (in_file c a.file) (file_at after a.file).bytes (read_at seen a.file).tokens (w.words a.file lf) a.token none
+    other_words_stay (file_at files a.file).bytes (read_at reads a.file).tokens (words_of_file c a.file) (file_at after a.file).bytes (read_at seen a.file).tokens (w.words a.file lf) a.token none
 
 -- ---- what the files import, declare and use
 
@@ -128,11 +128,11 @@ wanted_same text now n (x ∷ xs) [] e h = absurd cc
 wanted_same text now n (x ∷ xs) (y ∷ ys) e h =
     let tree : y.tree ≡ x.tree = cc in
     let rest : map (λ (r : ReadOf). r.tree) ys ≡ map (λ (r : ReadOf). r.tree) xs = cc in
-    ap₂ (λ (a b : List Asked). a ++ b)
+    ap₂ (λ (a b : List AskedImport). a ++ b)
     (ap (λ t. map (asked_as now n) (imports_in t)) tree
     ∙ map_agree (asked_as now n) (asked_as text n) (imports_in x.tree) (λ w c.
     let same = subst (λ (m : ℕ). now (at m w.path) ≡ text (at m w.path)) (omega arith) (h 0 w (omega arith) c) in
-    ap (λ (v : List ℕ). let a : Asked = record { place = at n w.path; path = or_nothing (value_of v); is_public = w.is_public } in a) same))
+    ap (λ (v : List ℕ). let a : AskedImport = record { place = at n w.path; path = or_nothing (value_of v); is_public = w.is_public } in a) same))
     (wanted_same text now (suc n) xs ys rest (λ k w l c.
     subst (λ (m : ℕ). now (at m w.path) ≡ text (at m w.path)) (omega arith) (h (suc k) w (omega (arith, l)) c)))
 
@@ -144,13 +144,13 @@ asked_stay c files reads after seen r s w =
     let la : k < length after = (let n = same_paths after files w.paths in omega (arith, lf, n)) in
     let tree : (read_at seen k).tree ≡ (read_at reads k).tree = at_same (λ (z : ReadOf). z.tree) seen reads no_read k w.trees in
     let again = subst (λ (z : Tree). Reads (file_at after k).bytes (read_at seen k).tokens z) tree (w.read.trees k la) in
-    let none = imports_stay (in_file c k) (file_at files k).bytes (read_at reads k).tokens (read_at reads k).tree (file_at after k).bytes (read_at seen k).tokens (r.trees k lf) again (s k l).1 (w.words k lf) x h in
+    let none = imports_stay (words_of_file c k) (file_at files k).bytes (read_at reads k).tokens (read_at reads k).tree (file_at after k).bytes (read_at seen k).tokens (r.trees k lf) again (s k l).1 (w.words k lf) x h in
     let same = other_texts_stay c files reads after seen r w (at k x.path) lf none in
     subst (λ (m : ℕ). text_of after seen (at m x.path) ≡ text_of files reads (at m x.path)) (omega arith) same)
 
 pub skeletons_stay : SkeletonsStay
 skeletons_stay c files reads after seen r s w =
     let asked = asked_stay c files reads after seen r s w in
-    let imports : link_imports after seen ≡ link_imports files reads = ap₂ (λ (ps : List (List ℕ)) (a : List Asked). imports_of ps a) w.paths asked in
+    let imports : link_imports after seen ≡ link_imports files reads = ap₂ (λ (ps : List (List ℕ)) (a : List AskedImport). imports_of ps a) w.paths asked in
     let names : map names_in seen ≡ map names_in reads = sym (map_map (λ (r : ReadOf). r.tree) file_names seen) ∙ ap (map file_names) w.trees ∙ map_map (λ (r : ReadOf). r.tree) file_names reads in
     ap₂ (λ (is : List Import) (ns : List FileNames). skeleton_of_files is ns) imports names

@@ -13,10 +13,10 @@ use Rattle.proto_files.proofs.Common.{FileOf, ReadOf, read_at}
 use Rattle.proto_meaning.proofs.Common.{Renaming, ren, renamed, place_of, At, at, used_in, IsRenaming, Workspace, Symbol, same_name, meaning, Source, Declared, Used, Skeleton, name_of, symbol_of, reference_of, workspace_of, renaming_of, name_from_same, same_from_name, workspace_after, reference_after, name_after, aim_renaming, each_means, has_meaning, meant, ren_apart}
 use Rattle.proto_listing.specs.FromTree.{file_names}
 use Rattle.proto_imports.proofs.Common.{text_of, link_skeleton, names_of_files, used_named, uses_of, use_in}
-use Rattle.proto_parts.proofs.Common.{number_of, BlockOf, blocks_in, statements, values_in, EnumOf, MeantOf, is_proto3, is_proto3_statement, string_of, value_or_none}
+use Rattle.proto_parts.proofs.Common.{number_value, BlockOf, blocks_in, statements, values_in, EnumOf, MeantOf, is_proto3, is_proto3_statement, string_of, value_or_none}
 use Rattle.proto_checks_laws.specs.Renamed.{DifferInNames, SameButValues}
 use Rattle.proto_scenes.specs.SceneOf.{declared_as, enum_at, enum_named, enum_within, is_enum_at, is_proto3_file, lexemes_of, meaning_of, meant_as, means_of, scene_of, starts_past_zero}
-use Rattle.proto_rename_laws.specs.Rewording.{in_file, NewWords}
+use Rattle.proto_rename_laws.specs.Rewording.{words_of_file, NewWords}
 use Rattle.proto_rename_laws.specs.Scenes.{IsRename, ScenesDiffer}
 use Rattle.proto_rename_laws.proofs.Rewording.{at_same, other_texts_stay, skeletons_stay}
 
@@ -117,16 +117,16 @@ module _ (files : List FileOf) (reads : List ReadOf) (c : NewWords) (after : Lis
 
   -- ---- texts, strings and versions
 
-  lexemes_are : (f : ℕ) → f < length files → lexemes_of after seen f ≡ changed (in_file c f) 0 (lexemes_of files reads f)
+  lexemes_are : (f : ℕ) → f < length files → lexemes_of after seen f ≡ changed (words_of_file c f) 0 (lexemes_of files reads f)
   lexemes_are f l = (r.reworded.words f l).words
 
-  words_are : (f : ℕ) → f < length files → AreWords (in_file c f) 0 (lexemes_of files reads f)
+  words_are : (f : ℕ) → f < length files → AreWords (words_of_file c f) 0 (lexemes_of files reads f)
   words_are f l =
       let suit = r.suits f (omega (arith, l, r.read.same)) in
-      words_come_for_words (in_file c f) (read_at reads f).tree (lexemes_of files reads f) suit.0 suit.1 (r.read.trees f l).spells
+      words_come_for_words (words_of_file c f) (read_at reads f).tree (lexemes_of files reads f) suit.0 suit.1 (r.read.trees f l).spells
 
   pub values_stay : (f : ℕ) → f < length files → (t : ℕ) → string_of (slice_get (lexemes_of files reads f) t) ≡ string_of (slice_get (lexemes_of after seen f) t)
-  values_stay f l t = sym (ap (λ ls. string_of (slice_get ls t)) (lexemes_are f l) ∙ strings_stay (in_file c f) 0 (lexemes_of files reads f) t (words_are f l))
+  values_stay f l t = sym (ap (λ ls. string_of (slice_get ls t)) (lexemes_are f l) ∙ strings_stay (words_of_file c f) 0 (lexemes_of files reads f) t (words_are f l))
 
   pub version_stays : (f : ℕ) → f < length files → is_proto3_file files reads f ≡ is_proto3_file after seen f
   version_stays f l =
@@ -140,7 +140,7 @@ module _ (files : List FileOf) (reads : List ReadOf) (c : NewWords) (after : Lis
       → starts_past_zero (word_at (lexemes_of files reads f)) vs ≡ starts_past_zero (word_at (lexemes_of after seen f)) vs
   starts_stay f l [] h = refl
   starts_stay f l (v ∷ vs) h =
-      ap (λ x. not (number_of x == 0)) (sym (other_texts_stay c files reads after seen r.read r.reworded (at f v.number.number) l (h v (contains_head v vs))))
+      ap (λ x. not (number_value x == 0)) (sym (other_texts_stay c files reads after seen r.read r.reworded (at f v.number.number) l (h v (contains_head v vs))))
 
   enum_stays : (a : At) → SameButValues (enum_at files reads a) (enum_at after seen a)
   enum_stays a = elim (cases_lt a.file (length files)) [

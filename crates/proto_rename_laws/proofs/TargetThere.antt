@@ -16,7 +16,7 @@ use Rattle.proto_scenes.specs.SceneOf.{is_enum_at}
 use Rattle.proto_rename_laws.specs.Common.{kind_not_allowed, unknown_target, TargetsAreThere, same_at, HasEnum, IsNamed, Target, may_rename}
 use Rattle.proto_rename_laws.proofs.Blocks.{one_named}
 use Rattle.proto_rename_laws.proofs.NoLinkFault.{files_are_woven}
-use Rattle.proto_rename_laws.proofs.Declarations.{EndsAs, IsDeclaredBy, declared_by, ends_with_token, is_written, path_of, placed_ends, declared_there}
+use Rattle.proto_rename_laws.proofs.Declarations.{EndsAs, IsDeclaredBy, declared_by, ends_with_token, is_written, path_of_declared, placed_ends, declared_there}
 use Rattle.proto_rename_laws.proofs.EnumsOfValues.{in_items}
 use Rattle.proto_rename_laws.proofs.OneTarget.{place_last}
 use Rattle.proto_rename_laws.proofs.Places.{at_same, same_at_itself}
@@ -55,7 +55,7 @@ to_ends token (x ∷ y ∷ a) = to_ends token (y ∷ a)
 -- what ends so is an entry
 entry_kind : (reads : List ReadOf) (d : Declared At) → IsDeclaredBy 0 reads d → (a : List (Source At)) (token : At) → d.path ≡ a ++ EntryOf token ∷ [] → d.kind ≡ Entry
 entry_kind reads d o a token e =
-    let parts = snoc_parts (map (shifted_source (at (0 + o.k))) o.p.above) a (shifted_source (at (0 + o.k)) o.p.last) (EntryOf token) (sym (path_of 0 reads d o) ∙ e) in
+    let parts = snoc_parts (map (shifted_source (at (0 + o.k))) o.p.above) a (shifted_source (at (0 + o.k)) o.p.last) (EntryOf token) (sym (path_of_declared 0 reads d o) ∙ e) in
     sym (ap (λ (z : Declared At). z.kind) o.is) ∙ by o.p.last parts.1 (placed_ends (items_in (read_at reads o.k).tree) o.p o.within)
   where
     by : (s : Source ℕ) → shifted_source (at (0 + o.k)) s ≡ EntryOf token → EndsAs s o.p.kind → o.p.kind ≡ Entry
@@ -108,7 +108,7 @@ module _ (files : List FileOf) (reads : List ReadOf) (r : AreRead files reads) w
       let zero_is : 0 + o.k ≡ o.k = omega arith in
       let file_is : o.k ≡ d.file = sym zero_is ∙ ap (λ (z : Declared At). z.file) o.is in
       let e = in_items (read_at reads o.k).tree (map (λ t. Token t) (package_of (items_in (read_at reads o.k).tree))) o.p (ap (λ (z : Declared At). z.kind) o.is ∙ kind) o.within in
-      let parts = snoc_parts (map (shifted_source (at (0 + o.k))) o.p.above) above (shifted_source (at (0 + o.k)) o.p.last) (Token (at d.file i)) (sym (path_of 0 reads d o) ∙ path) in
+      let parts = snoc_parts (map (shifted_source (at (0 + o.k))) o.p.above) above (shifted_source (at (0 + o.k)) o.p.last) (Token (at d.file i)) (sym (path_of_declared 0 reads d o) ∙ path) in
       let v_is : e.v ≡ i = ap (λ (z : At). z.token) (same_token (at (0 + o.k) e.v) (at d.file i) (ap (shifted_source (at (0 + o.k))) (sym e.named) ∙ parts.1)) in
       let q : Declared At = shifted_declared (at o.k) (declared_of o.k e.q) in
       let names_len = length_map names_in reads in

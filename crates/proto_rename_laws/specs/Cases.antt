@@ -25,7 +25,7 @@ use Rattle.proto_parts.specs.Parts.{BlockOf, FieldOf, blocks_in, fields_in, valu
 use Rattle.proto_parts.specs.Scenes.{Scene, text, value}
 use Rattle.proto_parts.specs.JsonNames.{json_name_of, json_word}
 use Rattle.proto_scenes.specs.SceneOf.{scene_of}
-use Rattle.proto_rename_laws.specs.Changes.{IsTooLong}
+use Rattle.proto_rename_laws.specs.Changes.{IsRewordedTooLong}
 use Rattle.proto_rename_laws.specs.Targets.{Target, IsNamed, may_rename, name_map, renamed_words}
 
 -- ---- words that a kind may not be named
@@ -51,8 +51,8 @@ is_keyword_of Extension word = false
 -- ---- the block of a declaration
 
 -- what is read of the file of a token
-abbrev pub scene_at : List FileOf → List ReadOf → At → Scene
-scene_at files reads a = scene_of None files reads a.file
+abbrev pub scene_of_token : List FileOf → List ReadOf → At → Scene
+scene_of_token files reads a = scene_of None files reads a.file
 
 -- a message with a field of this name token, or an `extend` with such an extension
 pub record IsFieldIn
@@ -68,14 +68,14 @@ HasMember within token = Contains (map (λ f. f.name) (fields_in within)) token
 
 -- the message of the field, or the enum of the value, reserves the word (an `extend` reserves
 -- nothing, so this holds of no extension)
-abbrev pub Reserves : List FileOf → List ReadOf → At → Text → Type 0
-Reserves files reads a word = (b : BlockOf) × Contains (blocks_in (read_at reads a.file).tree) b
+abbrev pub ReservesWord : List FileOf → List ReadOf → At → Text → Type 0
+ReservesWord files reads a word = (b : BlockOf) × Contains (blocks_in (read_at reads a.file).tree) b
     × HasMember b.within a.token
-    × Contains (map (value (scene_at files reads a)) (reserved_names_in b.within)) word
+    × Contains (map (value (scene_of_token files reads a)) (reserved_names_in b.within)) word
 
 -- a field of a proto3 file without a written JSON name would get that of another field of its
 -- message (a file that has no fault has no extension in proto3, so this holds of none)
-pub record Clashes
+pub record JsonNameClashes
     (files : List FileOf) (reads : List ReadOf) (a : At) (word : Text) : Type 0 where
   pub b : BlockOf
   pub f : FieldOf
@@ -83,10 +83,11 @@ pub record Clashes
   pub field : IsFieldIn files reads a b f
   pub beside : Contains (fields_in b.within) other
   pub differs : other.name ≢ f.name
-  pub proto3 : (scene_at files reads a).is_proto3 ≡ true
-  pub unwritten : text_option (text (scene_at files reads a)) (value (scene_at files reads a))
+  pub proto3 : (scene_of_token files reads a).is_proto3 ≡ true
+  pub unwritten : text_option (text (scene_of_token files reads a))
+      (value (scene_of_token files reads a))
       (codes "json_name") f.options ≡ None
-  pub same : json_word word ≡ json_name_of (scene_at files reads a) other
+  pub same : json_word word ≡ json_name_of (scene_of_token files reads a) other
 
 -- ---- captured references
 
@@ -149,14 +150,14 @@ pub data RenameCase
       → RenameCase files reads name to 7
   name_reserved : (t : Target)
       → IsNamed files reads name t
-      → Reserves files reads t.token to
+      → ReservesWord files reads t.token to
       → RenameCase files reads name to 8
   json_clash : (t : Target)
       → IsNamed files reads name t
-      → Clashes files reads t.token to
+      → JsonNameClashes files reads t.token to
       → RenameCase files reads name to 9
   too_large : (t : Target) (k : ℕ)
       → IsNamed files reads name t
       → k < length files
-      → IsTooLong (renamed_words files reads t to) files reads k
+      → IsRewordedTooLong (renamed_words files reads t to) files reads k
       → RenameCase files reads name to 16

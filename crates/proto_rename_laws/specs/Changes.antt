@@ -7,16 +7,16 @@ use Rattle.proto_text.specs.Texts.{token_edits}
 use Rattle.proto_files.specs.GivenFiles.{FileOf, file_at}
 use Rattle.proto_files.specs.FilesRead.{ReadOf, read_at}
 use Rattle.proto_entries.specs.Entries.{ChangeOf}
-use Rattle.proto_rename_laws.specs.Rewording.{NewWords, in_file}
+use Rattle.proto_rename_laws.specs.Rewording.{NewWords, words_of_file}
 
 -- the splices of a file
 abbrev pub splices_in : NewWords → List FileOf → List ReadOf → ℕ → List Edit
 splices_in c files reads k =
-    token_edits (file_at files k).bytes (in_file c k) 0 (read_at reads k).tokens
+    token_edits (file_at files k).bytes (words_of_file c k) 0 (read_at reads k).tokens
 
 -- With its splices the file would be longer than one may be.
-abbrev pub IsTooLong : NewWords → List FileOf → List ReadOf → ℕ → Type 0
-IsTooLong c files reads k = text_limit + old_len (splices_in c files reads k)
+abbrev pub IsRewordedTooLong : NewWords → List FileOf → List ReadOf → ℕ → Type 0
+IsRewordedTooLong c files reads k = text_limit + old_len (splices_in c files reads k)
     < length (file_at files k).bytes + new_len (splices_in c files reads k)
 
 -- the length after the splices
@@ -38,7 +38,8 @@ abbrev pub changes_from : NewWords → ℕ → List FileOf → List ReadOf → L
 changes_from c file [] rs = []
 changes_from c file (f ∷ fs) [] = []
 changes_from c file (f ∷ fs) (r ∷ rs) =
-    change_by f (token_edits f.bytes (in_file c file) 0 r.tokens) ++ changes_from c (suc file) fs rs
+    change_by f (token_edits f.bytes (words_of_file c file) 0 r.tokens) ++ changes_from c
+    (suc file) fs rs
 
 -- those of all files, in their order
 abbrev pub changes_of_words : NewWords → List FileOf → List ReadOf → List ChangeOf

@@ -6,6 +6,6 @@ pub use Rattle.proto_rename_laws.specs.ChangesEntry.{ChangesAreEntry, IsPutIn, O
 pub use Rattle.proto_rename_laws.specs.Defaults.{means_value, renamed_defaults, type_meaning}
 pub use Rattle.proto_rename_laws.specs.OneTarget.{TargetsAreOne, TargetsAreThere}
 pub use Rattle.proto_rename_laws.specs.Places.{Names, Uses, change_at, front_of, renamed_places, same_at, standing, stands}
-pub use Rattle.proto_rename_laws.specs.Rewording.{NewWords, SuitFiles, in_file}
-pub use Rattle.proto_rename_laws.specs.Roles.{AreApart, HasWants}
+pub use Rattle.proto_rename_laws.specs.Rewording.{NewWords, SuitFiles, words_of_file}
+pub use Rattle.proto_rename_laws.specs.Roles.{RolesAreApart, HasWants}
 pub use Rattle.proto_rename_laws.specs.Targets.{HasEnum, IsNamed, Target, may_rename, name_map, renamed_words}

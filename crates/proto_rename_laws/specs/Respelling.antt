@@ -5,7 +5,7 @@ use Rattle.proto_case.specs.Camel.{entry_name}
 use Rattle.proto_text.specs.Texts.{or_word}
 use Rattle.proto_meaning.specs.Grown.{At}
 use Rattle.proto_meaning.specs.Skeleton.{Source, Declared, Skeleton, IsAim, renaming_of, IsRespelled}
-use Rattle.proto_rename_laws.specs.Roles.{AreApart}
+use Rattle.proto_rename_laws.specs.Roles.{RolesAreApart}
 use Rattle.proto_rename_laws.specs.Places.{Names, Uses, change_at, renamed_places}
 
 -- The declaring token has the new word, every other declaration its
@@ -15,7 +15,7 @@ PlacesRespell =
     (text now : At → Text) (k : Skeleton At) (token : At) (above : List (Source At))
     (aim : Declared At) (is_map : Bool) (to : Text) (defaults : List At)
     → IsAim k token above aim
-    → AreApart k defaults
+    → RolesAreApart k defaults
     → ((i : At) → (Names k i ⊎ Uses k i) → now i ≡ or_word
     (change_at
     (renamed_places text k (renaming_of text entry_name token above is_map to) token defaults) to i)

@@ -14,14 +14,14 @@ abbrev pub NewWords : Type 0
 NewWords = At → Option Text
 
 -- those of one file
-abbrev pub in_file : NewWords → ℕ → ℕ → Option Text
-in_file c file i = c (at file i)
+abbrev pub words_of_file : NewWords → ℕ → ℕ → Option Text
+words_of_file c file i = c (at file i)
 
 -- each new word is one that its place wants
 abbrev pub SuitFiles : NewWords → List ReadOf → Type 0
 SuitFiles c reads = (k : ℕ)
     → k < length reads
-    → Suits (in_file c k) (flat (read_at reads k).tree) × PutsWords (in_file c k)
+    → Suits (words_of_file c k) (flat (read_at reads k).tree) × PutsWords (words_of_file c k)
 
 -- the files with the new words: each has its path, the words changed, and the very same tree
 pub record AreReworded
@@ -31,7 +31,7 @@ pub record AreReworded
   pub trees : map (λ r. r.tree) seen ≡ map (λ r. r.tree) reads
   pub words : (k : ℕ)
       → k < length files
-      → IsReworded (file_at files k).bytes (read_at reads k).tokens (in_file c k)
+      → IsReworded (file_at files k).bytes (read_at reads k).tokens (words_of_file c k)
       (file_at after k).bytes (read_at seen k).tokens
   pub read : AreRead after seen
 

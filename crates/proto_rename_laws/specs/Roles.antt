@@ -34,7 +34,7 @@ use Rattle.proto_rename_laws.specs.Targets.{Target, HasValue, name_map, renamed_
 -- ---- names, words of references, and defaults
 
 -- A token names a declaration, is one word of one reference, or a default, and not two of these.
-pub record AreApart (k : Skeleton At) (defaults : List At) : Type 0 where
+pub record RolesAreApart (k : Skeleton At) (defaults : List At) : Type 0 where
   pub names_uses : (i : At) → Names k i → Uses k i → ⊥
   pub names_defaults : (i : At) → Names k i → Contains defaults i → ⊥
   pub uses_defaults : (i : At) → Uses k i → Contains defaults i → ⊥
@@ -75,7 +75,7 @@ NumbersStay c reads = (file : ℕ) (b : BlockOf) (v : Value)
 -- the tokens of the files, besides those of values and defaults
 pub record HasRoles
     (files : List FileOf) (reads : List ReadOf) (t : Target) (to : Text) : Type 0 where
-  pub apart : AreApart (link_skeleton files reads)
+  pub apart : RolesAreApart (link_skeleton files reads)
       (renamed_defaults files reads t.enum (name_map files reads t to).old)
   pub wants : HasWants files reads t to
   pub numbers : NumbersStay (renamed_words files reads t to) reads
@@ -199,7 +199,7 @@ HaveDefaultWords files reads t to = (file : ℕ) (b : BlockOf) (f : FieldOf)
 -- ---- all of it
 
 -- what is wanted of the tokens of the files, for a rename of this target
-pub record TokensHaveRoles
+pub record TokensHaveRenameRoles
     (files : List FileOf) (reads : List ReadOf) (t : Target) (to : Text) : Type 0 where
   pub tokens : HasRoles files reads t to
   pub enums : HasEnumRoles files reads t

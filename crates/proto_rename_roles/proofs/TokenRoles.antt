@@ -25,7 +25,7 @@ use Rattle.proto_checks_laws.proofs.Common.{IsDeclared, asked_tokens, blocks_are
 use Rattle.proto_checks_laws.specs.Roles.{ValueHasRole}
 use Rattle.proto_checks_laws.proofs.FieldOrder.{field_names_rise}
 use Rattle.proto_checks_laws.proofs.Roles.{defaults_are_not_asked, field_options_have_roles, names_are_not_asked, value_numbers_are_numbers}
-use Rattle.proto_rename_laws.proofs.Common.{is_enum_at, lexemes_of, scene_of, means_value, renamed_defaults, type_meaning, Names, Uses, front_of, renamed_places, standing, AreApart, HasDefaultWords, HasEnumRoles, HasRoles, HasWants, HasEnum, HasValue, IsEnumOf, IsNamed, Target, may_rename, name_map, renamed_words, IsDeclaredBy, declared_by, declared_there, path_of, name_of_file, used_by, word_of_file, files_are_linked, files_are_woven, enum_name, one_declared, one_enum, place_last, from_flat_map, stands_at, find_there, index_map}
+use Rattle.proto_rename_laws.proofs.Common.{is_enum_at, lexemes_of, scene_of, means_value, renamed_defaults, type_meaning, Names, Uses, front_of, renamed_places, standing, RolesAreApart, HasDefaultWords, HasEnumRoles, HasRoles, HasWants, HasEnum, HasValue, IsEnumOf, IsNamed, Target, may_rename, name_map, renamed_words, IsDeclaredBy, declared_by, declared_there, path_of_declared, name_of_file, used_by_file, word_of_file, files_are_linked, files_are_woven, enum_name, one_declaration, one_enum, place_last, from_flat_map, stands_at, find_there, index_map}
 use Rattle.proto_rename_laws.proofs.DefaultTokens.{IsDefaultOf, default_of_file, of_block}
 use Rattle.proto_rename_roles.proofs.EntryFields.{HasField, has_field}
 use Rattle.proto_rename_laws.proofs.OldTexts.{changed_to}
@@ -188,8 +188,8 @@ module _ (files : List FileOf) (reads : List ReadOf) (r : AreRead files reads) w
 
     once : (u v : Used At) → Contains (link_skeleton files reads).used u → Contains (link_skeleton files reads).used v → (xs ys zs ws : List At) (i : At) → u.tokens ≡ xs ++ i ∷ ys → v.tokens ≡ zs ++ i ∷ ws → (u ≡ v) × (xs ≡ zs)
     once u v cu cv xs ys zs ws i eu ev =
-        let a = used_by 0 reads u cu in
-        let b = used_by 0 reads v cv in
+        let a = used_by_file 0 reads u cu in
+        let b = used_by_file 0 reads v cv in
         let x = parts_of_map (at (0 + a.k)) a.v.tokens xs ys i (ap (λ (z : Used At). z.tokens) a.is ∙ eu) in
         let y = parts_of_map (at (0 + b.k)) b.v.tokens zs ws i (ap (λ (z : Used At). z.tokens) b.is ∙ ev) in
         let same : at (0 + a.k) x.1 ≡ at (0 + b.k) y.1 = x.5 ∙ sym y.5 in
@@ -200,7 +200,7 @@ module _ (files : List FileOf) (reads : List ReadOf) (r : AreRead files reads) w
         let one = tokens_are_used_once (read_at reads a.k).tree (lexemes_of files reads a.k) (spelled a.k a.inside) a.v b.v a.within cb x.0 x.2 y.0 y.2 x.1 x.3 (y.3 ∙ ap (λ n. y.0 ++ n ∷ y.2) (sym token)) in
         (sym a.is ∙ ap₂ (λ (m : ℕ) (z : Used ℕ). used_in m z) shifted one.0 ∙ b.is, sym x.4 ∙ ap₂ (λ (m : ℕ) (z : List ℕ). map (at m) z) shifted one.1 ∙ y.4)
 
-    tokens_apart : AreApart (link_skeleton files reads) (renamed_defaults files reads enum old)
+    tokens_apart : RolesAreApart (link_skeleton files reads) (renamed_defaults files reads enum old)
     tokens_apart = record {
       names_uses = λ i n u. no_name_refers (one_role i names refers (name_role i n) (use_role i u));
       names_defaults = λ i n d. no_name_value (one_role i names is_value (name_role i n) (default_role i d));
@@ -247,7 +247,7 @@ module _ (files : List FileOf) (reads : List ReadOf) (r : AreRead files reads) w
     one_at : (s t : Declared At) → Contains (link_skeleton files reads).declared s → Contains (link_skeleton files reads).declared t → (a b : List (Source At)) (i : At) → s.path ≡ a ++ Token i ∷ [] → t.path ≡ b ++ Token i ∷ [] → (s ≡ t) ⊎ ((s.kind ≡ kind.Package) × (t.kind ≡ kind.Package))
     one_at s t cs ct a b i ps pt =
         let same = (files_are_woven files reads r).tokens s t cs ct a b i ps pt in
-        one_declared files reads r ok s t cs ct (ap (name_of (text_of files reads) entry_name) (ps ∙ ap (λ z. z ++ Token i ∷ []) same ∙ sym pt))
+        one_declaration files reads r ok s t cs ct (ap (name_of (text_of files reads) entry_name) (ps ∙ ap (λ z. z ++ Token i ∷ []) same ∙ sym pt))
 
     -- the declaration with this token is of the kind that was placed
     kind_at : (k : ℕ) → k < length reads → (path : List (Source ℕ)) (i : ℕ) (of : Kind) → (of ≡ kind.Package → ⊥) → Contains (file_placed (items_in (read_at reads k).tree)) (place path (Token i) of)
@@ -295,19 +295,19 @@ module _ (files : List FileOf) (reads : List ReadOf) (r : AreRead files reads) w
             go : (s : Source ℕ) → o.p.last ≡ s → HasField (file_placed (items_in (read_at reads o.k).tree)) o.p.above s → d ≡ shifted_declared (at k) (declared_of k (place path (Token i) kind.Enum))
             go (Token t) q h =
                 let above : List (Source At) = map (shifted_source (at (0 + o.k))) o.p.above in
-                let d_path : d.path ≡ above ++ Token (at (0 + o.k) t) ∷ [] = path_of 0 reads d o ∙ ap (λ z. above ++ shifted_source (at (0 + o.k)) z ∷ []) q in
+                let d_path : d.path ≡ above ++ Token (at (0 + o.k) t) ∷ [] = path_of_declared 0 reads d o ∙ ap (λ z. above ++ shifted_source (at (0 + o.k)) z ∷ []) q in
                 let here : at (0 + o.k) t ≡ at k i = sym (ap (place_from (at d.file 0)) d_path ∙ place_last (at d.file 0) above (at (0 + o.k) t)) ∙ e in
                 kind_at k l path i kind.Enum (λ z. cc) c d cd above (d_path ∙ ap (λ z. above ++ Token z ∷ []) here)
             go (EntryOf t) q h =
                 let above : List (Source At) = map (shifted_source (at (0 + o.k))) o.p.above in
-                let d_path : d.path ≡ above ++ EntryOf (at (0 + o.k) t) ∷ [] = path_of 0 reads d o ∙ ap (λ z. above ++ shifted_source (at (0 + o.k)) z ∷ []) q in
+                let d_path : d.path ≡ above ++ EntryOf (at (0 + o.k) t) ∷ [] = path_of_declared 0 reads d o ∙ ap (λ z. above ++ shifted_source (at (0 + o.k)) z ∷ []) q in
                 let here : at (0 + o.k) t ≡ at k i = sym (ap (place_from (at d.file 0)) d_path ∙ place_of_entry (at d.file 0) above (at (0 + o.k) t)) ∙ e in
                 absurd (field_there o.p.above t here h)
             go (Given w) q h =
                 let above : List (Source At) = map (shifted_source (at (0 + o.k))) o.p.above in
                 let entry : List (Source At) = map (shifted_source (at (0 + o.k))) h.0 ++ EntryOf (at (0 + o.k) h.1) ∷ [] in
                 let parts : above ≡ entry = ap (map (shifted_source (at (0 + o.k)))) h.2 ∙ map_append (shifted_source (at (0 + o.k))) h.0 (EntryOf h.1 ∷ []) in
-                let d_path : d.path ≡ entry ++ Given w ∷ [] = path_of 0 reads d o ∙ ap (λ z. above ++ shifted_source (at (0 + o.k)) z ∷ []) q ∙ ap (λ z. z ++ Given w ∷ []) parts in
+                let d_path : d.path ≡ entry ++ Given w ∷ [] = path_of_declared 0 reads d o ∙ ap (λ z. above ++ shifted_source (at (0 + o.k)) z ∷ []) q ∙ ap (λ z. z ++ Given w ∷ []) parts in
                 let found = ap (place_from (at d.file 0)) d_path ∙ place_of_given (at d.file 0) entry w ∙ place_of_entry (at d.file 0) (map (shifted_source (at (0 + o.k))) h.0) (at (0 + o.k) h.1) in
                 absurd (field_there h.0 h.1 (sym found ∙ e) h.3)
 
@@ -448,7 +448,7 @@ module _ (files : List FileOf) (reads : List ReadOf) (r : AreRead files reads) w
               let named_v = ap (name_of (text_of files reads) entry_name) vp ∙ map_append (spell (text_of files reads) entry_name) above (Token (at k v.name) ∷ []) in
               let named_u = ap (name_of (text_of files reads) entry_name) up ∙ map_append (spell (text_of files reads) entry_name) above (Token (at k u.name) ∷ []) in
               let names_same : name_of (text_of files reads) entry_name dv.path ≡ name_of (text_of files reads) entry_name du.path = named_v ∙ ap (λ (z : List ℕ). name_of (text_of files reads) entry_name above ++ z ∷ []) same ∙ sym named_u in
-              elim (one_declared files reads r ok dv du (placed_declared k l (place path (Token v.name) kind.Value) pv) (placed_declared k l (place path (Token u.name) kind.Value) pu) names_same) [
+              elim (one_declaration files reads r ok dv du (placed_declared k l (place path (Token v.name) kind.Value) pv) (placed_declared k l (place path (Token u.name) kind.Value) pu) names_same) [
                 | inl e ↦
                     let parts = snoc_parts above above (Token (at k v.name)) (Token (at k u.name)) (sym vp ∙ ap (λ (z : Declared At). z.path) e ∙ up) in
                     ap (λ (z : At). z.token) (same_token (at k v.name) (at k u.name) parts.1)
@@ -492,7 +492,7 @@ module _ (files : List FileOf) (reads : List ReadOf) (r : AreRead files reads) w
           by (Some z) q h =
               let x : IsEnumOf files reads t.token z = h.1 in
               let name_same : name_of (text_of files reads) entry_name x.d.path ≡ name_of (text_of files reads) entry_name d.path = x.name_is ∙ same_Some z (name_of (text_of files reads) entry_name d.path) q in
-              elim (one_declared files reads r ok x.d d x.declared has.declared name_same) [
+              elim (one_declaration files reads r ok x.d d x.declared has.declared name_same) [
                 | inl e ↦ in_block x.d x.b e x.file_is x.found x.within
                 | inr p ↦ absurd (different (sym x.kind ∙ p.0))
               ]

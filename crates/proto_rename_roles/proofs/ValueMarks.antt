@@ -32,7 +32,7 @@ use Rattle.proto_tree.specs.declared.tree.Signature.{Signature}
 use Rattle.proto_tree.specs.declared.tree.Signed.{Signed}
 use Rattle.proto_tree.specs.declared.tree.UpTo.{UpTo}
 use Rattle.proto_tree.specs.declared.tree.Value.{Value}
-use Rattle.proto_tree.proofs.Common.{IsOuter, Mark, mark, name, one as one_mark, only, text, word, flat_all, flat_behind, flat_constant, flat_field, flat_from, flat_header, flat_map_field, flat_method_type, flat_number, flat_option, flat_range, flat_range_end, flat_reference, flat_reserved, flat_reserved_list, flat_separated, flat_setting, flat_settings, flat_signature, flat_signed, flat_statement, flat_type, flat_up_to, flat_words, Tree, End, Leaf, Block, IsWellFormed, after, allows, flat, header_kind, statement_kind, last_outer}
+use Rattle.proto_tree.proofs.Common.{IsOuter, Mark, mark, name, one as one_mark, only, text_mark, word, flat_all, flat_behind, flat_constant, flat_field, flat_from, flat_header, flat_map_field, flat_method_type, flat_number, flat_option, flat_range, flat_range_end, flat_reference, flat_reserved, flat_reserved_list, flat_separated, flat_setting, flat_settings, flat_signature, flat_signed, flat_statement, flat_type, flat_up_to, flat_words, Tree, End, Leaf, Block, IsWellFormed, after, allows, flat, header_kind, statement_kind, last_outer}
 use Rattle.proto_parts.specs.Parts.{BlockOf, blocks_in, statement_values, values_in}
 use Rattle.proto_checks_laws.proofs.Outermost.{no_value}
 
@@ -94,7 +94,7 @@ signed_no n = both (flat_option (one_mark class.Minus) n.minus) (one_mark class.
 constant_no : (c : Constant) → No (flat_constant c)
 constant_no (constant.Word i) = (refl, tt)
 constant_no (constant.Number n) = signed_no n
-constant_no (constant.Text t) = (refl, all_no text (λ i. (refl, tt)) t.rest)
+constant_no (constant.Text t) = (refl, all_no text_mark (λ i. (refl, tt)) t.rest)
 
 setting_no : (s : Setting) → No (flat_setting s)
 setting_no s = (refl, (refl, constant_no s.value))
@@ -130,7 +130,7 @@ reserved_no : {N : Type 0} (view : N → List Mark) → ((n : N) → No (view n)
 reserved_no {N} view h r = (refl, both (flat_reserved_list view r.list) (one_mark class.Semicolon r.semicolon) (listed r.list) (refl, tt))
   where
     listed : (l : ReservedList N) → No (flat_reserved_list view l)
-    listed (reserved_list.Names names) = separated_no class.Comma text (λ i. (refl, tt)) names
+    listed (reserved_list.Names names) = separated_no class.Comma text_mark (λ i. (refl, tt)) names
     listed (reserved_list.Ranges ranges) = separated_no class.Comma (flat_range view) (range_no view h) ranges
 
 method_type_no : (t : MethodType) → No (flat_method_type t)
@@ -167,7 +167,7 @@ in_statement (statement.Value v) m c e =
 in_statement (statement.Syntax s) m c e = absurd (none_of (flat_statement (statement.Syntax s)) (refl, (refl, (refl, (refl, tt)))) m c e)
 in_statement (statement.Import i) m c e =
     let public : List Mark = flat_option (one_mark class.Public) i.public in
-    let path : List Mark = text i.path ++ one_mark class.Semicolon i.semicolon in
+    let path : List Mark = text_mark i.path ++ one_mark class.Semicolon i.semicolon in
     absurd (none_of (flat_statement (statement.Import i)) (refl, both public path (option_no (one_mark class.Public) (one_no class.Public) i.public) (refl, (refl, tt))) m c e)
 in_statement (statement.Package p) m c e =
     absurd (none_of (flat_statement (statement.Package p)) (refl, both (flat_separated class.Dot name p.name) (one_mark class.Semicolon p.semicolon) (separated_no class.Dot name (λ i. (refl, tt)) p.name) (refl, tt)) m c e)

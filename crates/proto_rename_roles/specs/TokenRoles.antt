@@ -5,7 +5,7 @@ use Rattle.proto_files.specs.Faults.{HasNoFault}
 use Rattle.proto_files.specs.FilesRead.{ReadOf, AreRead}
 use Rattle.proto_files.specs.GivenFiles.{FileOf}
 use Rattle.proto_imports.specs.Links.{LinkFaults}
-use Rattle.proto_rename_laws.specs.Roles.{TokensHaveRoles}
+use Rattle.proto_rename_laws.specs.Roles.{TokensHaveRenameRoles}
 use Rattle.proto_rename_laws.specs.Targets.{Target, IsNamed}
 
 -- For each symbol that may be renamed, whatever the new word.
@@ -14,4 +14,4 @@ AllTokensHaveRoles = (files : List FileOf) (reads : List ReadOf) (name to : Text
     → AreRead files reads
     → HasNoFault (LinkFaults files)
     → IsNamed files reads name t
-    → TokensHaveRoles files reads t to
+    → TokensHaveRenameRoles files reads t to

@@ -11,7 +11,7 @@ use Rattle.proto_tree.proofs.Common.{enum_item_tree, trees, Tree, End}
 use Rattle.proto_files.proofs.Common.{FileOf, Each, ReadOf, AreRead}
 use Rattle.proto_meaning.specs.Grown.{at}
 use Rattle.proto_parts.proofs.Common.{BlockOf, blocks_in, EnumOf}
-use Rattle.proto_scenes.specs.Common.{AreEnumsOf, IsEnumTable, enum_among, enum_block, enum_of_row, enums_in, is_enum, row_at, enum_at, enum_within, is_enum_at, is_proto3_file, lexemes_of, EnumRow}
+use Rattle.proto_scenes.specs.Common.{AreEnumsOf, IsEnumTable, enum_among, enum_block, enum_of_row, enums_in, is_enum, enum_row_at, enum_at, enum_within, is_enum_at, is_proto3_file, lexemes_of, EnumRow}
 
 -- ---- finding among those that pass another test
 
@@ -96,11 +96,11 @@ module _ (lexemes : List Lexeme) (proto3 : Bool) where
 -- ---- the table of all files
 
 pub is_enum_table : {S : Type 0} (files : List FileOf) (table : List (IndexMap ℕ EnumRow S)) → length table ≡ length files
-    → ((reads : List ReadOf) → AreRead files reads → Each (λ k rows. (token : ℕ) → row_at rows token ≡ enum_at files reads (at k token)) table) → IsEnumTable files table
+    → ((reads : List ReadOf) → AreRead files reads → Each (λ k rows. (token : ℕ) → enum_row_at rows token ≡ enum_at files reads (at k token)) table) → IsEnumTable files table
 is_enum_table files table n each reads are a = elim (slice_get_cases table a.file).1 [
-  | inl s ↦ ap (option_and_then (λ rows. row_at rows a.token)) s.2 ∙ subst (λ rows. row_at rows a.token ≡ enum_at files reads a) s.3 (each reads are a.file s.0 s.1 a.token)
+  | inl s ↦ ap (option_and_then (λ rows. enum_row_at rows a.token)) s.2 ∙ subst (λ rows. enum_row_at rows a.token ≡ enum_at files reads a) s.3 (each reads are a.file s.0 s.1 a.token)
   | inr s ↦
-      ap (option_and_then (λ rows. row_at rows a.token)) s.1
+      ap (option_and_then (λ rows. enum_row_at rows a.token)) s.1
       ∙ ap (λ (r : ReadOf). option_map (λ b. enum_within (lexemes_of files reads a.file) (is_proto3_file files reads a.file) b.within) (find (λ b. is_enum_at a.token b.header) (blocks_in r.tree)))
       (sym (get_or_past reads a.file (record { tokens = []; tree = End }) (omega (arith, s.0, n, are.same))))
 ]

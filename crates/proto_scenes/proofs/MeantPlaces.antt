@@ -5,7 +5,7 @@ use Rattle.proto_files.proofs.Common.{FileOf, ReadOf}
 use Rattle.proto_case.specs.Camel.{entry_name}
 use Rattle.proto_meaning.proofs.Common.{place_of, ArePlain, At, at, joined, is_package, Symbol, is_type, same_name, Declared, Used, name_of, symbol_of, name_from_same, same_from_name, meant}
 use Rattle.proto_names.specs.Links.{uses_of, link_skeleton, names_of_files, text_of, used_named}
-use Rattle.proto_names.proofs.Common.{IsLinkRead, TextMeant, meant_by_link, meant_by_use, LinkOf, NameOf, name_at, declared_as as stands_at}
+use Rattle.proto_names.proofs.Common.{IsLinkRead, TextMeant, meant_by_link, meant_by_use, LinkOf, NameOf, name_at, name_declared_as as stands_at}
 use Rattle.proto_meaning.specs.declared.kind.Kind.{Kind}
 use Rattle.proto_meaning.specs.declared.kind.Kind.TheVariants.{Package, Message, Entry, Enum, Service, Field, EntryField, Oneof, Value, Method, Extension}
 use Rattle.proto_names.specs.declared.references.Meant.{Meant}

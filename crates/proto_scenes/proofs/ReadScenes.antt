@@ -7,7 +7,7 @@ use Rattle.proto_tree.specs.Tree.{Tree}
 use Rattle.proto_files.proofs.Common.{FileOf, file_at, AreTokensOf, ReadOf, AreRead, read_at, IsTreeOf, same_tree}
 use Rattle.proto_meaning.specs.Grown.{at}
 use Rattle.proto_parts.proofs.Common.{past, blocks_in, MeantOf, Scene, is_proto3, value_in}
-use Rattle.proto_scenes.specs.Common.{AreEnumsOf, row_at, enum_at, enum_within, is_enum_at, is_proto3_file, lexemes_of, means_of, scene_of, EnumRow}
+use Rattle.proto_scenes.specs.Common.{AreEnumsOf, enum_row_at, enum_at, enum_within, is_enum_at, is_proto3_file, lexemes_of, means_of, scene_of, EnumRow}
 
 module _ (files : List FileOf) (file : ℕ) (within : file < length files) (words : List Lexeme) (spelled : (tokens : List Token) → AreTokensOf files file tokens → words ≡ map (lexeme_at (file_at files file).bytes) tokens) (tree : Tree) (of_file : IsTreeOf (file_at files file).bytes tree) (reads : List ReadOf) (are : AreRead files reads) where
   words_are : words ≡ lexemes_of files reads file
@@ -26,7 +26,7 @@ module _ (files : List FileOf) (file : ℕ) (within : file < length files) (word
       λ i. record { lexemes = words_are i; cap = Some past; is_proto3 = version i; means = m i } in
       is ∙ now
 
-  pub rows_are : {S : Type 0} (proto3 : Bool) → proto3 ≡ is_proto3 (value_in words) tree → (rows : IndexMap ℕ EnumRow S) → AreEnumsOf words proto3 (blocks_in tree) rows → (token : ℕ) → row_at rows token ≡ enum_at files reads (at file token)
+  pub rows_are : {S : Type 0} (proto3 : Bool) → proto3 ≡ is_proto3 (value_in words) tree → (rows : IndexMap ℕ EnumRow S) → AreEnumsOf words proto3 (blocks_in tree) rows → (token : ℕ) → enum_row_at rows token ≡ enum_at files reads (at file token)
   rows_are proto3 p rows h token =
       h token
       ∙ ap (λ (ls : List Lexeme). option_map (λ b. enum_within ls proto3 b.within) (find (λ b. is_enum_at token b.header) (blocks_in tree))) words_are

@@ -56,18 +56,18 @@ enum_of_row r = record {
 }
 
 -- the enum that the rows of one file have for a token, if they have one
-abbrev pub row_at : {S : Type 0} → IndexMap ℕ EnumRow S → ℕ → Option EnumOf
-row_at rows token = option_map enum_of_row (get nat_eq rows token)
+abbrev pub enum_row_at : {S : Type 0} → IndexMap ℕ EnumRow S → ℕ → Option EnumOf
+enum_row_at rows token = option_map enum_of_row (get nat_eq rows token)
 
 -- the rows have for each token the enum among these blocks whose name is at it, and nothing else
 abbrev pub AreEnumsOf
     : {S : Type 0} → List Lexeme → Bool → List BlockOf → IndexMap ℕ EnumRow S → Type 0
 AreEnumsOf lexemes proto3 blocks rows =
-    (token : ℕ) → row_at rows token ≡ enum_among lexemes proto3 blocks token
+    (token : ℕ) → enum_row_at rows token ≡ enum_among lexemes proto3 blocks token
 
 -- the enum that a table of all files has for a token of a file, if it has one
 abbrev pub enum_in : {S : Type 0} → List (IndexMap ℕ EnumRow S) → At → Option EnumOf
-enum_in table a = option_and_then (λ rows. row_at rows a.token) (slice_get table a.file)
+enum_in table a = option_and_then (λ rows. enum_row_at rows a.token) (slice_get table a.file)
 
 -- the table has for each token of each file the enum whose name is at it, and nothing else
 abbrev pub IsEnumTable : {S : Type 0} → List FileOf → List (IndexMap ℕ EnumRow S) → Type 0

@@ -3,7 +3,7 @@ use Rattle.std.specs.Prelude.{ℕ, Option}
 use Rattle.std.specs.Option.{option_and_then}
 use Rattle.proto_faults.specs.Texts.{or_nothing}
 use Rattle.proto_meaning.specs.Grown.{At, at}
-use Rattle.proto_names.specs.Linking.{LinkOf, file_at, text_at, token_at}
+use Rattle.proto_names.specs.Linking.{LinkOf, declaring_file, name_text, declaring_token}
 use Rattle.proto_names.specs.declared.references.Meant.{Meant}
 use Rattle.proto_parts.specs.Scenes.{EnumOf, MeantOf}
 
@@ -11,14 +11,14 @@ use Rattle.proto_parts.specs.Scenes.{EnumOf, MeantOf}
 abbrev pub enum_of_name : LinkOf → (At → Option EnumOf) → ℕ → Option EnumOf
 enum_of_name l enum row =
     option_and_then
-    (λ file. option_and_then (λ token. enum (at file token)) (token_at l row))
-    (file_at l row)
+    (λ file. option_and_then (λ token. enum (at file token)) (declaring_token l row))
+    (declaring_file l row)
 
 -- what a reference means by the row that the link has for it: its token, the full name in that row,
 -- and the enum at the place of that name, if it is an enum's
 abbrev pub meant_in_table : LinkOf → (At → Option EnumOf) → Meant → MeantOf
 meant_in_table l enum m = record {
   token = m.token;
-  name = or_nothing (text_at l m.row);
+  name = or_nothing (name_text l m.row);
   enum = enum_of_name l enum m.row;
 }

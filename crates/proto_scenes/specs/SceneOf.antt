@@ -20,7 +20,7 @@ use Rattle.proto_names.specs.Links.{text_of, link_skeleton, names_of_files}
 use Rattle.proto_meaning.specs.Names.{same_name, meaning}
 use Rattle.proto_names.specs.Links.{used_named}
 use Rattle.proto_meaning.specs.Skeleton.{Declared, Used, name_of}
-use Rattle.proto_parts.specs.Numbers.{number_of}
+use Rattle.proto_parts.specs.Numbers.{number_value}
 use Rattle.proto_parts.specs.Parts.{blocks_in, values_in}
 use Rattle.proto_parts.specs.Scenes.{EnumOf, MeantOf, Scene, is_proto3, string_of}
 
@@ -39,7 +39,7 @@ is_proto3_file files reads file =
 -- there is a first value, and its number is not 0
 abbrev pub starts_past_zero : (ℕ → Text) → List Value → Bool
 starts_past_zero text [] = false
-starts_past_zero text (v ∷ vs) = not (number_of (text v.number.number) == 0)
+starts_past_zero text (v ∷ vs) = not (number_value (text v.number.number) == 0)
 
 -- the enum whose values stand in the tree, in a file that is proto3 or not: whether it is proto3,
 -- whether its first value is other than 0, and the names of its values in order

@@ -30,7 +30,11 @@ fn enum_named<'a>(
 }
 
 /// What a reference means: its token, the full name, and the enum that has it.
-fn meant<'a>(link: &'a Link, table: &'a [IndexMap<u32, EnumRow<'a>>], meant: Meant) -> MeantAt<'a>
+fn meaning_of<'a>(
+    link: &'a Link,
+    table: &'a [IndexMap<u32, EnumRow<'a>>],
+    meant: Meant,
+) -> MeantAt<'a>
     ensures token { result.token ≡ meant.token }
     ensures meant { meant_of result ≡ meant_in_table link.now (enum_in table.now) meant }
 {
@@ -56,7 +60,7 @@ fn means<'a>(
 {
     let mut means = Vec::new(alloc);
     for reference in link.meant_in(file) {
-        means.push(meant(link, table, *reference))?;
+        means.push(meaning_of(link, table, *reference))?;
     }
     Ok(means)
 }

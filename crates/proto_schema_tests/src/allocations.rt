@@ -47,7 +47,7 @@ fn are_texts(schema: &Schema, texts: &str) -> bool {
     place == files.len()
 }
 
-fn told(alloc: Global, found: &[Finding]) -> Result<String, NoMemory> {
+fn findings_text(alloc: Global, found: &[Finding]) -> Result<String, NoMemory> {
     let mut text = String::new(alloc);
     for finding in found {
         let (path, offset) = (finding.path.as_str(), finding.offset);
@@ -70,7 +70,11 @@ fn expect_row<R: AllocGlobal + Abort>(
         json,
     );
     let findings = lint(rt.alloc(), schema.files(), schema.link(), &RuleSet::all())?;
-    expect_text(rt, told(rt.alloc(), findings.as_slice())?.as_str(), found);
+    expect_text(
+        rt,
+        findings_text(rt.alloc(), findings.as_slice())?.as_str(),
+        found,
+    );
     Ok(())
 }
 
@@ -85,8 +89,8 @@ pub(crate) fn expect_kept<R: AllocGlobal + Abort>(rt: &R, schema: &Schema, row: 
 }
 
 fn expect_opened<R: AllocGlobal + Abort>(rt: &R, row: Row) -> Result<(), SchemaFault> {
-    let files = given(rt.alloc(), row.0)?;
-    compiled(rt, files, Some(row))?;
+    let files = given_files(rt.alloc(), row.0)?;
+    compiled_json(rt, files, Some(row))?;
     Ok(())
 }
 
@@ -105,7 +109,7 @@ fn one_is_refused(rt: HostRuntime) {
 const FAULTY: &str = "a.proto syntax = \"proto3\"; message A { string b = 19000; }";
 
 fn expect_fault<R: AllocGlobal + Abort>(rt: &R) -> Result<(), NoMemory> {
-    let found = answer(rt, given(rt.alloc(), FAULTY)?)?;
+    let found = answer(rt, given_files(rt.alloc(), FAULTY)?)?;
     expect_text(rt, found.as_str(), "a.proto:42: 17 NumberRange");
     Ok(())
 }

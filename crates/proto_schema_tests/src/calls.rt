@@ -22,7 +22,7 @@ pub(crate) fn add(
 }
 
 /// Files that are written as one text, `|` between them: the path of each, a space, and its text.
-pub(crate) fn given(alloc: Global, texts: &str) -> Result<Given, NoMemory> {
+pub(crate) fn given_files(alloc: Global, texts: &str) -> Result<Given, NoMemory> {
     let mut files = Vec::new(alloc);
     for file in texts.split('|') {
         let (path, text) = file.split_once(' ').unwrap_or((file, ""));
@@ -32,7 +32,7 @@ pub(crate) fn given(alloc: Global, texts: &str) -> Result<Given, NoMemory> {
 }
 
 /// The descriptors of files as JSON. Where a row is given, it holds of them: here alone a schema is owned.
-pub(crate) fn compiled<R: AllocGlobal + Abort>(
+pub(crate) fn compiled_json<R: AllocGlobal + Abort>(
     rt: &R,
     files: Given,
     row: Option<Row>,
@@ -49,7 +49,7 @@ pub(crate) fn compiled<R: AllocGlobal + Abort>(
 
 /// The descriptors of files as JSON, or their fault as `path:offset: number name`.
 pub(crate) fn answer<R: AllocGlobal + Abort>(rt: &R, files: Given) -> Result<String, NoMemory> {
-    match compiled(rt, files, None) {
+    match compiled_json(rt, files, None) {
         Ok(json) => Ok(json),
         Err(SchemaFault::Schema(fault)) => {
             let (offset, number, name) = (fault.offset, fault.number(), fault.name());
@@ -74,7 +74,7 @@ pub(crate) fn expect<R: AllocGlobal + Abort>(rt: &R, files: Given, wanted: &str)
 /// The files of each row are answered so.
 pub(crate) fn expect_answers<R: AllocGlobal + Abort>(rt: &R, rows: &[(&str, &str)]) {
     for (texts, wanted) in rows {
-        let files = given(rt.alloc(), texts).expect(rt, "memory");
+        let files = given_files(rt.alloc(), texts).expect(rt, "memory");
         expect(rt, files, wanted);
     }
 }

@@ -62,7 +62,7 @@ const CUT: &[&str] = &[
 
 // Whether a front compiles, or has a fault that stands inside it or at its end.
 fn is_placed<R: AllocGlobal + Abort>(rt: &R, text: &str, count: usize) -> bool {
-    match compiled(rt, front(rt, text, count), None) {
+    match compiled_json(rt, front(rt, text, count), None) {
         Ok(_json) => true,
         Err(SchemaFault::Schema(fault)) => {
             fault.path.as_str() == "a.proto" && fault.offset as usize <= count
@@ -81,7 +81,7 @@ fn faults_stand_inside_what_is_left(rt: HostRuntime) {
 }
 
 // So many of one piece, and so many of another behind them.
-fn repeated<R: AllocGlobal + Abort>(
+fn repeated_text<R: AllocGlobal + Abort>(
     rt: &R,
     (first, count): (&str, usize),
     (second, more): (&str, usize),
@@ -95,7 +95,7 @@ fn repeated<R: AllocGlobal + Abort>(
 
 // The file, with spaces behind it up to this length, is answered so.
 fn expect_filled<R: AllocGlobal + Abort>(rt: &R, length: usize, wanted: &str) {
-    let text = repeated(rt, (WHOLE, 1), (" ", length.saturating_sub(WHOLE.len())));
+    let text = repeated_text(rt, (WHOLE, 1), (" ", length.saturating_sub(WHOLE.len())));
     expect(rt, alone(rt, "a.proto", text.as_bytes()), wanted);
 }
 
@@ -107,7 +107,7 @@ fn the_largest_file(rt: HostRuntime) {
 
 // An empty file with a path of this length is answered so: what stands before the path, and behind it.
 fn expect_path<R: AllocGlobal + Abort>(rt: &R, length: usize, before: &str, behind: &str) {
-    let path = repeated(rt, ("a", length.saturating_sub(6)), (".proto", 1));
+    let path = repeated_text(rt, ("a", length.saturating_sub(6)), (".proto", 1));
     assert!(rt; path.len() == length);
     let path = path.as_str();
     let wanted = format!(in rt.alloc(); "{before}{path}{behind}").expect(rt, "memory");
@@ -123,14 +123,14 @@ fn the_longest_path(rt: HostRuntime) {
 // Each `{` stands behind nine bytes; the 33rd is one too many.
 #[test]
 fn the_deepest_messages(rt: HostRuntime) {
-    let text = repeated(&rt, ("message M{", 32), ("}", 32));
+    let text = repeated_text(&rt, ("message M{", 32), ("}", 32));
     expect_ends(
         &rt,
         alone(&rt, "a.proto", text.as_bytes()),
         "{\"file\":[{\"messageType\":",
         "}],\"name\":\"a.proto\"}]}",
     );
-    let deeper = repeated(&rt, ("message M{", 33), ("}", 33));
+    let deeper = repeated_text(&rt, ("message M{", 33), ("}", 33));
     expect(
         &rt,
         alone(&rt, "a.proto", deeper.as_bytes()),

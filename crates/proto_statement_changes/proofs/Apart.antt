@@ -13,7 +13,7 @@ use Rattle.proto_tree.specs.declared.tree.FieldType.{FieldType}
 use Rattle.proto_tree.specs.declared.tree.FieldType.TheVariants as field_type
 use Rattle.proto_tree.specs.declared.tree.Separated.{Separated}
 use Rattle.proto_tree.proofs.Common.{fits, Mark, Fit, mark, only, flat_option, flat_type, flat_words, flat_statement, Move, shift, Reads, Tree, End, Leaf, flat, class_by, classes, trees_are_numbered}
-use Rattle.proto_statement_laws.proofs.Common.{IsDeleted, IsFieldOf, StandsAt, deletion, first_token, next_token, own, without, reservation_tokens, semicolon, token, around, found, close_at, closed, through}
+use Rattle.proto_statement_laws.proofs.Common.{IsDeleted, IsFieldOf, StandsAt, deletion, first_token, next_token, own, without, reservation_tokens, semicolon_token, token_of_text, around, found, close_at, closed, through}
 
 -- ---- a text that is put as it was
 
@@ -93,7 +93,7 @@ module _ (text : List ℕ) (tokens : List Token) (t : Tree) (s : Statement) (num
       let marks : flat t ≡ front ++ (b.first ∷ rest) = ar.new ∙ ap (λ (z : List Mark). front ++ ((z ++ []) ++ map (shift g) ar.back)) b.parts in
       let r = read_of front b.first rest 0 all (subst (λ (z : List Mark). Fit z (classes 0 all)) marks reads.spells.fits) in
       let place : length r.front ≡ length (take f ms) = r.long ∙ length-map ar.front (shift g) ∙ ar.long ∙ d.old.at ∙ sym (length-take-le f ms d.new.within) in
-      let read : r.token ≡ token Word (codes "reserved") = same_at r.front r.token r.back (take f ms) (token Word (codes "reserved")) (drop 1 (reservation_tokens number name) ++ drop f ms) (sym r.parts ∙ same) place in
+      let read : r.token ≡ token_of_text Word (codes "reserved") = same_at r.front r.token r.back (take f ms) (token_of_text Word (codes "reserved")) (drop 1 (reservation_tokens number name) ++ drop f ms) (sym r.parts ∙ same) place in
       b.apart (subst (λ (x : Lexeme). fits b.first.want (class_by x.kind x.text) ≡ true) read r.fit)
 
   -- in a oneof, the last one
@@ -121,8 +121,8 @@ module _ (text : List ℕ) (tokens : List Token) (t : Tree) (s : Statement) (num
       let size : q - f ≡ 6 = omega (arith, six, parts_long, length-take f all, length-drop q all, many, within, next) in
       let r = read_of c.front (mark (want.One class.Close) close) c.back 0 all (subst (λ (z : List Mark). Fit z (classes 0 all)) c.parts reads.spells.fits) in
       let place : length r.front ≡ length (take p ms ++ take 5 res) = omega (arith, r.long, long, closes, less, at, next, size, length-append (take p ms) (take 5 res), length-take-le p ms d.new.within) in
-      let regrouped : all ≡ (take p ms ++ take 5 res) ++ (semicolon ∷ drop p ms) = same ∙ sym (append_assoc (take p ms) (take 5 res) (semicolon ∷ drop p ms)) in
-      let read : r.token ≡ semicolon = same_at r.front r.token r.back (take p ms ++ take 5 res) semicolon (drop p ms) (sym r.parts ∙ regrouped) place in
+      let regrouped : all ≡ (take p ms ++ take 5 res) ++ (semicolon_token ∷ drop p ms) = same ∙ sym (append_assoc (take p ms) (take 5 res) (semicolon_token ∷ drop p ms)) in
+      let read : r.token ≡ semicolon_token = same_at r.front r.token r.back (take p ms ++ take 5 res) semicolon_token (drop p ms) (sym r.parts ∙ regrouped) place in
       no_close (subst (λ (x : Lexeme). fits (want.One class.Close) (class_by x.kind x.text) ≡ true) read r.fit)
     where
       no_close : fits (want.One class.Close) (class_by Punctuation (codes ";")) ≡ true → ⊥

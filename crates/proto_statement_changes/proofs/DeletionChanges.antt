@@ -4,7 +4,7 @@ use Rattle.proto_text.specs.declared.lexer.Token.{Token}
 use Rattle.proto_tree.proofs.Common.{Reads, Tree}
 use Rattle.proto_files.proofs.Common.{read_at, file_at}
 use Rattle.proto_statement_laws.specs.Deletions.{DeletionsAreOfOneTree, IsDeleted, StandsAt, deletion}
-use Rattle.proto_statement_changes.specs.DeletionChanges.{DeletionsAreChanges, name_of_field, number_of_field, splice_of_deletion}
+use Rattle.proto_statement_changes.specs.DeletionChanges.{DeletionsAreChanges, name_of_field, field_number_value, splice_of_deletion}
 use Rattle.proto_statement_changes.proofs.Apart.{from_message, from_oneof}
 use Rattle.proto_statement_changes.proofs.FieldNames.{name_is_word}
 use Rattle.proto_statement_changes.proofs.OneFile.{changed_by}
@@ -14,7 +14,7 @@ deletions_are_changes law files reads f are at small short =
     let text : List ℕ = (file_at files f.file).bytes in
     let tokens : List Token = (read_at reads f.file).tokens in
     let tree : Tree = (read_at reads f.file).tree in
-    let number : ℕ = number_of_field files reads f in
+    let number : ℕ = field_number_value files reads f in
     let name : List ℕ = name_of_field files reads f in
     let read : Reads text tokens tree = are.read.trees f.file at.within in
     let v = law text tokens tree f.statement f.oneof number name read at.stands small (name_is_word text tokens tree f.statement f.name f.number read at.stands at.declares) in (

@@ -9,7 +9,7 @@ use Rattle.proto_tree.specs.declared.piece.Statement.TheVariants as statement
 use Rattle.proto_tree.specs.declared.tree.FieldType.TheVariants as field_type
 use Rattle.proto_tree.specs.declared.tree.Import.{Import}
 use Rattle.proto_tree.specs.Tree.{Tree, End, Leaf, Block}
-use Rattle.proto_parts.specs.Numbers.{number_of}
+use Rattle.proto_parts.specs.Numbers.{number_value}
 use Rattle.proto_statement_laws.proofs.Common.{deletion, added_text, addition, drop_of, import_place, reservation_text}
 
 abbrev tok : TokenKind → ℕ → ℕ → Token
@@ -20,10 +20,10 @@ tok kind start end = record { kind = kind; span = record { start = start; end = 
 reservation_row : (n : ℕ) → reservation_text n (codes "a") ≡ codes "reserved " ++ (decimal n ++ codes "; reserved \"a\";")
 reservation_row n = refl
 
-hexadecimal_row : number_of (codes "0x10") ≡ 16
+hexadecimal_row : number_value (codes "0x10") ≡ 16
 hexadecimal_row = refl
 
-octal_row : number_of (codes "010") ≡ 8
+octal_row : number_value (codes "010") ≡ 8
 octal_row = refl
 
 -- a member of a oneof: what stands behind it moves up, through the brace

@@ -9,7 +9,7 @@ use Rattle.proto_tree.specs.declared.piece.Statement.TheVariants as statement
 use Rattle.proto_tree.specs.declared.tree.Import.{Import}
 use Rattle.proto_tree.proofs.Common.{Mark, Move, shift, Reads, Tree, End, Leaf, flat}
 use Rattle.proto_files.proofs.Common.{read_at, file_at}
-use Rattle.proto_statement_laws.proofs.Common.{own, AdditionsAreRead, DropsAreRead, IsDropped, added_text, addition, drop_of, import_place, around, some_marks, fit_long, leaf_long}
+use Rattle.proto_statement_laws.proofs.Common.{own, AdditionsAreRead, DropsAreRead, IsImportTakenOut, added_text, addition, drop_of, import_place, around, some_marks, fit_long, leaf_long}
 use Rattle.proto_statement_changes.specs.ImportChanges.{AdditionsAreChanges, DropsAreChanges, splice_of_addition, splice_of_drop}
 use Rattle.proto_statement_changes.proofs.Apart.{same_tokens}
 use Rattle.proto_statement_changes.proofs.OneFile.{changed_by}
@@ -60,7 +60,7 @@ drops_are_changes law files reads file path i are is =
     shorter : (text old : List ℕ) → length text ≤ text_limit → text_limit + length old < length text + 0 → ⊥
     shorter text old le big = omega (arith, le, big)
 
-    some_dropped : (text : List ℕ) (tokens : List Token) (tree : Tree) (i : Import) (result : List ℕ) (after : List Token) (u : Tree) → Reads text tokens tree → IsDropped text tokens tree i result after u → (drop_of text tokens i).old ≢ (drop_of text tokens i).new
+    some_dropped : (text : List ℕ) (tokens : List Token) (tree : Tree) (i : Import) (result : List ℕ) (after : List Token) (u : Tree) → Reads text tokens tree → IsImportTakenOut text tokens tree i result after u → (drop_of text tokens i).old ≢ (drop_of text tokens i).new
     some_dropped text tokens tree i result after u read d e =
         let s : Statement = statement.Import i in
         let all : List Lexeme = map (lexeme_at text) tokens in

@@ -1,7 +1,7 @@
 -- A workspace path stands in quotes as it is (for the crates above).
 use Rattle.std.proofs.Common.{◌≡◌, ℕ, ◌<◌, ◌≤◌, true, false, eqb, List, [], ◌∷◌, ◌++◌, refl, sym, ap, subst, ◌∙◌, inl, inr, arith, IsAscii, IsUtf8, eqb-true}
 use Rattle.proto_faults.proofs.Common.{join_with_byte, list_all, and_parts, both_ways, cases_lt, false_from_ne_true, nat_tests, list_all-from_AllPass, IsUtf8-from_ascii, IsAscii-cons, IsAscii-nil}
-use Rattle.proto_text.proofs.Common.{Each, is_plain}
+use Rattle.proto_text.proofs.Common.{EachByte, is_plain}
 use Rattle.proto_files.specs.WorkspacePaths.{IsWorkspacePath, is_path_byte, is_path_part}
 
 apart_from : (b n : ℕ) → is_path_byte n ≡ false → is_path_byte b ≡ true → eqb b n ≡ false
@@ -45,7 +45,7 @@ good_parts (x ∷ y ∷ parts) h =
     let p = and_parts (is_path_part x) (list_all is_path_part (y ∷ parts)) h in
     good_join x (47 ∷ join_with_byte 47 (y ∷ parts)) (good_part x (part_bytes x p.0)) ((refl, omega arith), good_parts (y ∷ parts) p.1)
 
-each : (bytes : List ℕ) → AreGood bytes → Each is_plain bytes
+each : (bytes : List ℕ) → AreGood bytes → EachByte is_plain bytes
 each [] h = tt
 each (b ∷ bytes) h = (h.0.0, each bytes h.1)
 
@@ -53,7 +53,7 @@ all_ascii : (bytes : List ℕ) → AreGood bytes → IsAscii bytes
 all_ascii [] h = IsAscii-nil
 all_ascii (b ∷ bytes) h = IsAscii-cons b bytes h.0.1 (all_ascii bytes h.1)
 
-pub paths_are_plain : (path : List ℕ) → IsWorkspacePath path → Each is_plain path × IsUtf8 path
+pub paths_are_plain : (path : List ℕ) → IsWorkspacePath path → EachByte is_plain path × IsUtf8 path
 paths_are_plain path is =
     let good = subst AreGood (sym is.parted.1) (good_parts is.parted.0 (list_all-from_AllPass is_path_part is.parted.0 is.parted.2)) in
     (each path good, IsUtf8-from_ascii path (all_ascii path good))

@@ -12,10 +12,10 @@ use Rattle.proto_meaning.specs.declared.kind.Kind.TheVariants.{Field}
 use Rattle.proto_meaning.specs.Skeleton.{Token}
 use Rattle.proto_meaning.specs.Tree.{Placed, file_placed}
 use Rattle.proto_listing.specs.FromTree.{items_in}
-use Rattle.proto_parts.specs.Numbers.{number_of}
+use Rattle.proto_parts.specs.Numbers.{number_value}
 use Rattle.proto_entries.specs.Entries.{ChangeOf}
 use Rattle.proto_statement_laws.specs.Deletions.{IsDeleted, IsFieldOf, StandsAt, deletion}
-use Rattle.proto_statement_changes.specs.OneFile.{AreFiles, IsChangedBy, IsTooLong, one_change, word_of}
+use Rattle.proto_statement_changes.specs.OneFile.{AreFiles, IsChangedBy, IsTooLong, one_change, word_of_token}
 
 -- a written field: its file, its statement, the `}` of its oneof if it has one, and the
 -- tokens of its name and its number
@@ -33,18 +33,18 @@ pub record IsFieldAt (files : List FileOf) (reads : List ReadOf) (f : FieldAt) :
   pub declares : IsFieldOf f.statement f.name f.number
 
 -- the number of a field, by its value
-abbrev pub number_of_field : List FileOf → List ReadOf → FieldAt → ℕ
-number_of_field files reads f = number_of (word_of files reads f.file f.number)
+abbrev pub field_number_value : List FileOf → List ReadOf → FieldAt → ℕ
+field_number_value files reads f = number_value (word_of_token files reads f.file f.number)
 
 -- the name of a field, as it is written
 abbrev pub name_of_field : List FileOf → List ReadOf → FieldAt → Text
-name_of_field files reads f = word_of files reads f.file f.name
+name_of_field files reads f = word_of_token files reads f.file f.name
 
 -- the splice of the field's file that deletes the field
 abbrev pub splice_of_deletion : List FileOf → List ReadOf → FieldAt → Edit
 splice_of_deletion files reads f =
     deletion (file_at files f.file).bytes (read_at reads f.file).tokens f.statement f.oneof
-    (number_of_field files reads f) (name_of_field files reads f)
+    (field_number_value files reads f) (name_of_field files reads f)
 
 -- what the deletion of a field changes
 abbrev pub changes_of_deletion : List FileOf → List ReadOf → FieldAt → List ChangeOf
@@ -56,7 +56,7 @@ pub record IsFieldDeleted
     (files : List FileOf) (reads : List ReadOf) (f : FieldAt) (result : Text)
     (after : List TokenOf) (tree : Tree) : Type 0 where
   pub deleted : IsDeleted (file_at files f.file).bytes (read_at reads f.file).tokens
-      (read_at reads f.file).tree f.statement f.oneof (number_of_field files reads f)
+      (read_at reads f.file).tree f.statement f.oneof (field_number_value files reads f)
       (name_of_field files reads f) result after tree
   pub changed : IsChangedBy files reads f.file (splice_of_deletion files reads f) result after tree
 
@@ -66,7 +66,7 @@ abbrev pub DeletionsAreChanges : Type 0
 DeletionsAreChanges = (files : List FileOf) (reads : List ReadOf) (f : FieldAt)
     → AreFiles files reads
     → IsFieldAt files reads f
-    → number_of_field files reads f < 2 ^ 64
+    → field_number_value files reads f < 2 ^ 64
     → (IsTooLong (file_at files f.file) (splice_of_deletion files reads f) → ⊥)
     → (result : Text) × (after : List TokenOf) × (tree : Tree)
     × IsFieldDeleted files reads f result after tree

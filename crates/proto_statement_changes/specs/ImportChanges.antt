@@ -12,8 +12,8 @@ use Rattle.proto_files.specs.GivenFiles.{FileOf, file_at}
 use Rattle.proto_files.specs.WorkspacePaths.{IsWorkspacePath}
 use Rattle.proto_entries.specs.Entries.{ChangeOf}
 use Rattle.proto_statement_laws.specs.Deletions.{StandsIn}
-use Rattle.proto_statement_laws.specs.Imports.{IsAdded, IsDropped, addition, drop_of}
-use Rattle.proto_statement_changes.specs.OneFile.{AreFiles, IsChangedBy, IsTooLong, one_change, word_of}
+use Rattle.proto_statement_laws.specs.Imports.{IsImportPutIn, IsImportTakenOut, addition, drop_of}
+use Rattle.proto_statement_changes.specs.OneFile.{AreFiles, IsChangedBy, IsTooLong, one_change, word_of_token}
 
 -- ---- an added import
 
@@ -31,7 +31,7 @@ changes_of_addition files reads file path =
 pub record IsImportAdded
     (files : List FileOf) (reads : List ReadOf) (file : ℕ) (path : Path) (result : Text)
     (after : List Token) (tree : Tree) : Type 0 where
-  pub added : IsAdded (file_at files file).bytes (read_at reads file).tokens
+  pub added : IsImportPutIn (file_at files file).bytes (read_at reads file).tokens
       (read_at reads file).tree path result after tree
   pub changed : IsChangedBy files reads file (splice_of_addition files reads file path) result after
       tree
@@ -56,7 +56,7 @@ pub record IsImportOf
     : Type 0 where
   pub within : file < length files
   pub stands : StandsIn (statement.Import i) (read_at reads file).tree
-  pub value : StandsFor (word_of files reads file i.path) path
+  pub value : StandsFor (word_of_token files reads file i.path) path
 
 -- the splice of the file that takes an import out of it
 abbrev pub splice_of_drop : List FileOf → List ReadOf → ℕ → Import → Edit
@@ -71,7 +71,7 @@ changes_of_drop files reads file i =
 pub record IsImportDropped
     (files : List FileOf) (reads : List ReadOf) (file : ℕ) (i : Import) (result : Text)
     (after : List Token) (tree : Tree) : Type 0 where
-  pub dropped : IsDropped (file_at files file).bytes (read_at reads file).tokens
+  pub dropped : IsImportTakenOut (file_at files file).bytes (read_at reads file).tokens
       (read_at reads file).tree i result after tree
   pub changed : IsChangedBy files reads file (splice_of_drop files reads file i) result after tree
 

@@ -19,8 +19,9 @@ pub record AreFiles (files : List FileOf) (reads : List ReadOf) : Type 0 where
   pub read : AreRead files reads
 
 -- the text of a token of a file
-abbrev pub word_of : List FileOf → List ReadOf → ℕ → ℕ → Text
-word_of files reads file token = words (file_at files file).bytes (read_at reads file).tokens token
+abbrev pub word_of_token : List FileOf → List ReadOf → ℕ → ℕ → Text
+word_of_token files reads file token =
+    words (file_at files file).bytes (read_at reads file).tokens token
 
 -- the length of a file with a splice
 abbrev pub length_with : FileOf → Edit → ℕ

@@ -6,7 +6,7 @@ use Rattle.proto_tree.specs.declared.piece.Header.{Header}
 use Rattle.proto_tree.specs.declared.piece.Header.TheVariants as header
 use Rattle.proto_tree.specs.declared.tree.Value.{Value}
 use Rattle.proto_tree.proofs.Common.{Move, move_header, move_tree, move_value, Tree}
-use Rattle.proto_parts.proofs.Common.{number_of, values_in, EnumOf}
+use Rattle.proto_parts.proofs.Common.{number_value, values_in, EnumOf}
 use Rattle.proto_statement_described.proofs.Common.{enum_within, is_enum_at, starts_past_zero, IsDeletedIn, Reservation, WrittenField}
 use Rattle.proto_checks_laws.proofs.MovedParts.{maps_kept, values_moved}
 use Rattle.proto_statement_deleted.proofs.FoundBlocks.{are_found, first_read}
@@ -48,7 +48,7 @@ module _ (g : Move) (apart : (i j : ℕ) → g i ≡ g j → i ≡ j) (without l
 
   same_start : (vs : List Value) → starts_past_zero (word_at lexemes) (map (move_value g) vs) ≡ starts_past_zero (word_at without) vs
   same_start [] = refl
-  same_start (v ∷ vs) = ap (λ (x : List ℕ). not (number_of x == 0)) (same_word v.number.number)
+  same_start (v ∷ vs) = ap (λ (x : List ℕ). not (number_value x == 0)) (same_word v.number.number)
 
   same_enum : (x : Tree) → enum_within lexemes proto3 (move_tree g x) ≡ enum_within without proto3 x
   same_enum x =

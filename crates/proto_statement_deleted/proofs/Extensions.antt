@@ -13,7 +13,7 @@ use Rattle.proto_listing.specs.FromTree.{file_names}
 use Rattle.proto_imports.proofs.Common.{names_of_files, text_of, used_named, uses_of}
 use Rattle.proto_parts.proofs.Common.{BlockOf, Scene, blocks_in}
 use Rattle.proto_checks_laws.proofs.Common.{IsMoved, blocks_moved}
-use Rattle.proto_statement_described.proofs.Common.{AtField, AtOneof, BehindBlock, BehindLeaf, Deeper, ExtensionOf, ExtensionsStay, Found, FurtherOn, InMessage, IsAmong, IsDeletedIn, IsDeletedRight, PastBlock, PastLeaf, Reservation, Saying, WrittenField, block_said, block_says, blocks_said, deep_leave, extendable_same, extendee_meant, extensions_in, extensions_left, extensions_said, first_moved, is_extendable, is_message_at, leaves, left_at, left_named, left_there, meaning_of, message_moved, moved_leaves, name_meant, right_leave, says, scene_at, scenes_are_moved, tree_at}
+use Rattle.proto_statement_described.proofs.Common.{AtField, AtOneof, BehindBlock, BehindLeaf, Deeper, ExtensionOf, ExtensionsStay, Found, FurtherOn, InMessage, IsAmong, IsDeletedIn, IsDeletedRight, PastBlock, PastLeaf, Reservation, Saying, WrittenField, block_said, block_says, blocks_said, deep_leave, extendable_same, extendee_meant, extensions_in, extensions_left, extensions_said, first_moved, is_extendable, is_message_at, leaves, left_at, left_named, left_there, meaning_of, message_moved, moved_leaves, name_meant, right_leave, saying_of, scene_at, scenes_are_moved, tree_at}
 use Rattle.proto_statement_names.proofs.Common.{MeanTheSame}
 use Rattle.proto_statement_names.proofs.Less.{type_stays as type_keeps}
 use Rattle.proto_statement_deleted.specs.Scenes.{HaveTokens, IsReadWithout, OtherScenesStay}
@@ -158,16 +158,16 @@ module _ (files : List FileOf) (reads : List ReadOf) (after : List FileOf) (seen
 
   -- ---- what they say
 
-  said_here : map says (extensions_in None after seen place) ≡ map says (extensions_in None files reads place)
+  said_here : map saying_of (extensions_in None after seen place) ≡ map saying_of (extensions_in None files reads place)
   said_here =
       let v = deep_says g k w r tokens.middle (scene_at files reads place) (scene_at after seen place) is_old is_new (λ q. name_meant files reads place (move_reference g q)) (name_meant files reads place) (name_meant after seen place)
       (λ q. refl) name_alike x (tree_at reads place) (tree_at seen place) is.trees in
       extensions_said after seen place ∙ v.1 ∙ sym v.0 ∙ sym (extensions_said files reads place)
 
-  said : (j : ℕ) → map says (extensions_in None after seen j) ≡ map says (extensions_in None files reads j)
+  said : (j : ℕ) → map saying_of (extensions_in None after seen j) ≡ map saying_of (extensions_in None files reads j)
   said j = elim (cases_eq j place) [
-    | inl e ↦ subst (λ i. map says (extensions_in None after seen i) ≡ map says (extensions_in None files reads i)) (sym e) said_here
-    | inr n ↦ ap (map says) (extensions_left files reads after seen j (ap (λ (s : ReadOf). s.tree) (is.reads_stay j n)) (other_scene files reads after seen place g k w r x without is linked same j n) (other_meaning files reads after seen place g k w r x without is linked same j n))
+    | inl e ↦ subst (λ i. map saying_of (extensions_in None after seen i) ≡ map saying_of (extensions_in None files reads i)) (sym e) said_here
+    | inr n ↦ ap (map saying_of) (extensions_left files reads after seen j (ap (λ (s : ReadOf). s.tree) (is.reads_stay j n)) (other_scene files reads after seen place g k w r x without is linked same j n) (other_meaning files reads after seen place g k w r x without is linked same j n))
   ]
 
   -- ---- what they extend

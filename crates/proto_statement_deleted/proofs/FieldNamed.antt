@@ -3,10 +3,10 @@ use Rattle.std.proofs.Common.{◌≡◌, ℕ, ◌+◌, List, map, sym, ◌∙◌
 use Rattle.proto_files.proofs.Common.{AreRead, ReadOf, FileOf}
 use Rattle.proto_meaning.proofs.Common.{At, at, Declared, Source, Token, shifted_source, snoc_parts}
 use Rattle.proto_statement_names.specs.Targets.{Target}
-use Rattle.proto_statement_names.proofs.Declarations.{declared_by, path_of}
+use Rattle.proto_statement_names.proofs.Declarations.{declared_by, path_of_declared}
 use Rattle.proto_statement_changes.specs.DeletionChanges.{FieldAt, FieldsAreOne as StatementsAreOne, FieldsAreThere as StatementsAreThere, IsFieldAt}
 use Rattle.proto_statement_names.proofs.Common.{IsField, fields_are_one, fields_are_there}
-use Rattle.proto_statement_deleted.specs.Workspace.{FieldsAreOne, FieldsMayBeDeleted}
+use Rattle.proto_statement_deleted.specs.Workspace.{DeletableFieldsAreOne, FieldsMayBeDeleted}
 
 same_token : (x y : At) → ◌≡◌ {A = Source At} (Token x) (Token y) → x ≡ y
 same_token x y h = cc
@@ -24,7 +24,7 @@ its_statement law files reads name t are is =
     let same = are.same in
     let zero_is : 0 + d.k ≡ d.k = omega arith in
     let v = law files reads d.k d.p (omega (arith, inside, same)) d.within (ap (λ (z : Declared At). z.kind) d.is ∙ is.kind) in
-    let path = path_of 0 reads t.aim d in
+    let path = path_of_declared 0 reads t.aim d in
     let last : ◌≡◌ {A = Source At} (shifted_source (at (0 + d.k)) d.p.last) (Token t.token) =
     (snoc_parts (map (shifted_source (at (0 + d.k))) d.p.above) t.above (shifted_source (at (0 + d.k)) d.p.last) (Token t.token) (sym path ∙ is.named.path)).1 in
     record {
@@ -39,7 +39,7 @@ fields_may_be_deleted law files reads name are link checks admissible =
     let v = its_statement law files reads name t.0 are.read t.1 in
     (v.field, record { are = are; link = link; checks = checks; target = t.0; field = t.1; token = v.token; stands = v.stands; admissible = admissible })
 
-pub fields_are_one_alone : StatementsAreOne → FieldsAreOne
+pub fields_are_one_alone : StatementsAreOne → DeletableFieldsAreOne
 fields_are_one_alone law files reads name f g a b =
     let same : a.target ≡ b.target = fields_are_one files reads name a.target b.target a.are.read a.link a.field b.field in
     let tokens : at f.file f.name ≡ at g.file g.name = sym a.token ∙ ap (λ (t : Target). t.token) same ∙ b.token in

@@ -10,7 +10,7 @@ use Rattle.proto_tree.proofs.Common.{Move, move_header, move_separated, move_sta
 use Rattle.proto_meaning.specs.declared.kind.Kind.TheVariants as kind
 use Rattle.proto_meaning.proofs.Common.{Source, Token, Used, shifted_source, shifted_used, Placed, all_placed, beside, extend, items_placed, package_of, place, placed, prefixes, map_map}
 use Rattle.proto_listing.proofs.Common.{file_names, statement_uses, block_names, field_names, flat_uses, item_uses, items_in, member_uses, members_in, method_names, no_names, picked, value_names, dotted_moved}
-use Rattle.proto_statement_names.proofs.Common.{MayGoAt, HasMore, IsAny, move_placed, both_moved, extend_moved, extend_uses, flat_uses_moved, item_uses_moved, items_moved, member_uses_moved, names_moved, path_more, path_of, prefixes_moved}
+use Rattle.proto_statement_names.proofs.Common.{MayGoAt, HasMore, IsAny, move_placed, both_moved, extend_moved, extend_uses, flat_uses_moved, item_uses_moved, items_moved, member_uses_moved, moved_names, path_more, path_of, prefixes_moved}
 use Rattle.proto_statement_described.specs.Deletions.{BehindBlock, BehindLeaf, Deeper, InMessage, IsDeletedIn, Reservation, WrittenField, statement_of}
 use Rattle.proto_statement_described.proofs.DeletedHeads.{imports_less, packages_less}
 use Rattle.proto_statement_deleted.specs.NamedTrees.{TreesAreNamed}
@@ -148,6 +148,6 @@ trees_are_named g k w r x t u sw =
         used = used_more g k w r IsAny (any_use w) x t u sw;
         imports = is.0;
       };
-      same = names_moved k x u ps.1 (λ p. (in_items g k w r IsAny (any_use w) p x t u sw).new) (λ p. (in_items g k w r IsAny (any_use w) p x t u sw).new_used);
+      same = moved_names k x u ps.1 (λ p. (in_items g k w r IsAny (any_use w) p x t u sw).new) (λ p. (in_items g k w r IsAny (any_use w) p x t u sw).new_used);
       imports = is.1;
     }

@@ -12,8 +12,8 @@ use Rattle.proto_tree.specs.declared.tree.Separated.{Separated}
 use Rattle.proto_tree.proofs.Common.{Mark, flat_all, flat_behind, flat_dotted, flat_option, flat_settings, flat_statement, flat_type, flat_words, mark, one, only, word, Reads, first_of, Tree, numbered_at, trees_are_numbered}
 use Rattle.proto_meaning.specs.Skeleton.{Source, Used}
 use Rattle.proto_listing.specs.FromTree.{statement_uses, type_uses, used_as}
-use Rattle.proto_statement_laws.proofs.Common.{IsFieldOf, StandsAt, InMessage, InOneof, Deeper, PastLeaf, PastBlock, first_token, next_token, own, reserved_at, found, some_marks, name_mark, before_field, closed, close_at, through}
-use Rattle.proto_statement_described.proofs.Common.{OfMap, Plain, WrittenField, name_of, number_of, statement_of, new_tokens_are_own}
+use Rattle.proto_statement_laws.proofs.Common.{IsFieldOf, StandsAt, InMessage, InOneof, Deeper, PastLeaf, PastBlock, first_token, next_token, own, reservation_place, found, some_marks, name_mark, before_field, closed, close_at, through}
+use Rattle.proto_statement_described.proofs.Common.{OfMap, Plain, WrittenField, written_name, written_number, statement_of, new_tokens_are_own}
 use Rattle.proto_statement_deleted.specs.Trees.{to_old}
 
 -- ---- something stands before the statement
@@ -27,7 +27,7 @@ some_before _ (PastBlock o h i within j rest at) = let some = some_before rest a
 
 -- ---- the marks of a statement
 
-is_written : (w : WrittenField) → IsFieldOf (statement_of w) (name_of w) (number_of w)
+is_written : (w : WrittenField) → IsFieldOf (statement_of w) (written_name w) (written_number w)
 is_written (Plain f) = (refl, refl)
 is_written (OfMap f) = (refl, refl)
 
@@ -80,8 +80,8 @@ module _ (text : List ℕ) (tokens : List Token) (t : Tree) (w : WrittenField) (
       let long = own_long in
       new_tokens_are_own (first_token s) (length (own s (map (lexeme_at text) tokens))) i j (omega (arith, at, is)) (omega (arith, at, is, below, long)) e
 
-  pub name_apart : (j : ℕ) → (to_old text tokens (statement_of w) j == name_of w) ≡ false
-  name_apart j = ne_eqb (to_old text tokens (statement_of w) j) (name_of w) (mark_apart (name_of w) (mark want.Name (name_of w), name_mark (statement_of w) (name_of w) (number_of w) (is_written w), refl) j)
+  pub name_apart : (j : ℕ) → (to_old text tokens (statement_of w) j == written_name w) ≡ false
+  name_apart j = ne_eqb (to_old text tokens (statement_of w) j) (written_name w) (mark_apart (written_name w) (mark want.Name (written_name w), name_mark (statement_of w) (written_name w) (written_number w) (is_written w), refl) j)
 
   pub use_apart : (scope : List (Source ℕ)) (u : Used ℕ) → Contains (statement_uses scope (statement_of w)) u → (j : ℕ) → u.first ≢ to_old text tokens (statement_of w) j
   use_apart scope u c j e = mark_apart u.first (use_mark scope w u c) j (sym e)
@@ -94,7 +94,7 @@ module _ (text : List ℕ) (tokens : List Token) (t : Tree) (w : WrittenField) (
       omega (arith, at, some)
 
 -- the reservation is not put in first either
-pub reserved_behind : (text : List ℕ) (tokens : List Token) (t : Tree) (s : Statement) (o : Option ℕ) → Reads text tokens t → (h : StandsAt s o t) → 0 < reserved_at s o
+pub reserved_behind : (text : List ℕ) (tokens : List Token) (t : Tree) (s : Statement) (o : Option ℕ) → Reads text tokens t → (h : StandsAt s o t) → 0 < reservation_place s o
 reserved_behind text tokens t s None reads h =
     let fd = found text tokens t s reads h in
     let at = fd.at in

@@ -12,11 +12,11 @@ use Rattle.proto_files.specs.FilesRead.{read_at}
 use Rattle.proto_numbers.specs.declared.flaw.Flaw.{Flaw}
 use Rattle.proto_numbers.specs.declared.numbers.NumberAt.{NumberAt}
 use Rattle.proto_numbers.proofs.Common.{flaw_if, field_number_flaws, is_field_number, is_within, most_field, number_of_field as numbered, outside, range_of}
-use Rattle.proto_parts.proofs.Common.{BlockOf, FieldOf, blocks_in, closed_ranges, fields_from, fields_in, options_in, statement_fields, statements, Scene, number_at, number_of as number_of_digits}
+use Rattle.proto_parts.proofs.Common.{BlockOf, FieldOf, blocks_in, closed_ranges, fields_from, fields_in, options_in, statement_fields, statements, Scene, number_at, number_value as number_of_digits}
 use Rattle.proto_checks.proofs.Common.{field_flaws, file_flaws, option_flaws, block_flaws, flaws_in_blocks, message_flaws}
 use Rattle.proto_checks_laws.proofs.DeletedFlaws.{nil_parts}
 use Rattle.proto_parts.specs.declared.options.Element.TheVariants as element
-use Rattle.proto_statement_described.proofs.Common.{fault_of, flaws_of, of_flaw, OfMap, Plain, WrittenField, field_of, number_of, statement_of, scene_at}
+use Rattle.proto_statement_described.proofs.Common.{fault_of_flaw, flaws_of, of_flaw, OfMap, Plain, WrittenField, written_field, written_number, statement_of, scene_at}
 use Rattle.proto_faults.specs.declared.fault.FaultKind.{FaultKind}
 use Rattle.proto_faults.specs.declared.fault.FaultKind.TheVariants as kind
 use Rattle.proto_text.specs.Texts.{word_at}
@@ -38,17 +38,17 @@ record HasField (t : Tree) (number : ℕ) : Type 0 where
   there : Contains (fields_in block.within) field
   same : field.number ≡ number
 
-numbered_one : (o : Option ℕ) (w : WrittenField) → (field_of o w).number ≡ number_of w
+numbered_one : (o : Option ℕ) (w : WrittenField) → (written_field o w).number ≡ written_number w
 numbered_one o (Plain f) = refl
 numbered_one o (OfMap f) = refl
 
-first_of_message : (w : WrittenField) (rest : Tree) (n : ℕ) → Contains (fields_from n (Leaf (statement_of w) rest)) (field_of None w)
-first_of_message (Plain f) rest n = contains_head (field_of None (Plain f)) (fields_from n rest)
-first_of_message (OfMap f) rest n = contains_head (field_of None (OfMap f)) (fields_from n rest)
+first_of_message : (w : WrittenField) (rest : Tree) (n : ℕ) → Contains (fields_from n (Leaf (statement_of w) rest)) (written_field None w)
+first_of_message (Plain f) rest n = contains_head (written_field None (Plain f)) (fields_from n rest)
+first_of_message (OfMap f) rest n = contains_head (written_field None (OfMap f)) (fields_from n rest)
 
-first_of_oneof : (w : WrittenField) (rest : Tree) (o : Option ℕ) → Contains (flat_map (statement_fields o) (statements (Leaf (statement_of w) rest))) (field_of o w)
-first_of_oneof (Plain f) rest o = contains_head (field_of o (Plain f)) (flat_map (statement_fields o) (statements rest))
-first_of_oneof (OfMap f) rest o = contains_head (field_of o (OfMap f)) (flat_map (statement_fields o) (statements rest))
+first_of_oneof : (w : WrittenField) (rest : Tree) (o : Option ℕ) → Contains (flat_map (statement_fields o) (statements (Leaf (statement_of w) rest))) (written_field o w)
+first_of_oneof (Plain f) rest o = contains_head (written_field o (Plain f)) (flat_map (statement_fields o) (statements rest))
+first_of_oneof (OfMap f) rest o = contains_head (written_field o (OfMap f)) (flat_map (statement_fields o) (statements rest))
 
 module _ (w : WrittenField) where
   -- behind a block
@@ -56,27 +56,27 @@ module _ (w : WrittenField) where
   behind (header.Oneof h) i within j rest f c n = Contains-append_right (flat_map (statement_fields (Some n)) (statements within)) (fields_from (suc n) rest) f (c (suc n))
   behind whole i within j rest f c n = c n
 
-  in_members : (t : Tree) → StandsIn (statement_of w) t → (n : ℕ) → Contains (fields_from n t) (field_of None w)
+  in_members : (t : Tree) → StandsIn (statement_of w) t → (n : ℕ) → Contains (fields_from n t) (written_field None w)
   in_members _ (First rest) n = first_of_message w rest n
-  in_members _ (AfterLeaf x rest h) n = Contains-append_right (statement_fields None x) (fields_from n rest) (field_of None w) (in_members rest h n)
-  in_members _ (AfterBlock y i within j rest h) n = behind y i within j rest (field_of None w) (in_members rest h) n
+  in_members _ (AfterLeaf x rest h) n = Contains-append_right (statement_fields None x) (fields_from n rest) (written_field None w) (in_members rest h n)
+  in_members _ (AfterBlock y i within j rest h) n = behind y i within j rest (written_field None w) (in_members rest h) n
 
-  in_fellows : (t : Tree) → StandsIn (statement_of w) t → (o : Option ℕ) → Contains (flat_map (statement_fields o) (statements t)) (field_of o w)
+  in_fellows : (t : Tree) → StandsIn (statement_of w) t → (o : Option ℕ) → Contains (flat_map (statement_fields o) (statements t)) (written_field o w)
   in_fellows _ (First rest) o = first_of_oneof w rest o
-  in_fellows _ (AfterLeaf x rest h) o = Contains-append_right (statement_fields o x) (flat_map (statement_fields o) (statements rest)) (field_of o w) (in_fellows rest h o)
+  in_fellows _ (AfterLeaf x rest h) o = Contains-append_right (statement_fields o x) (flat_map (statement_fields o) (statements rest)) (written_field o w) (in_fellows rest h o)
   in_fellows _ (AfterBlock y i within j rest h) o = in_fellows rest h o
 
   -- the field is one of these items, of which so many oneofs stand before
   abbrev IsOne : Tree → Type 0
-  IsOne t = (n : ℕ) → (f : FieldOf) × Contains (fields_from n t) f × (f.number ≡ number_of w)
+  IsOne t = (n : ℕ) → (f : FieldOf) × Contains (fields_from n t) f × (f.number ≡ written_number w)
 
-  own_message : (h : Heading) (i : ℕ) (within : Tree) (j : ℕ) (rest : Tree) → IsOne within → HasField (Block (header.Message h) i within j rest) (number_of w)
+  own_message : (h : Heading) (i : ℕ) (within : Tree) (j : ℕ) (rest : Tree) → IsOne within → HasField (Block (header.Message h) i within j rest) (written_number w)
   own_message h i within j rest one =
       let b : BlockOf = record { header = header.Message h; within = within } in
       let f = one 0 in
       record { heading = h; block = b; within = contains_head b (blocks_in within ++ blocks_in rest); is = refl; field = f.0; there = f.1; same = f.2 }
 
-  inside : (y : Header) (i : ℕ) (within : Tree) (j : ℕ) (rest : Tree) → HasField within (number_of w) → HasField (Block y i within j rest) (number_of w)
+  inside : (y : Header) (i : ℕ) (within : Tree) (j : ℕ) (rest : Tree) → HasField within (written_number w) → HasField (Block y i within j rest) (written_number w)
   inside y i within j rest v = record {
     heading = v.heading;
     block = v.block;
@@ -87,7 +87,7 @@ module _ (w : WrittenField) where
     same = v.same;
   }
 
-  past : (y : Header) (i : ℕ) (within : Tree) (j : ℕ) (rest : Tree) → HasField rest (number_of w) → HasField (Block y i within j rest) (number_of w)
+  past : (y : Header) (i : ℕ) (within : Tree) (j : ℕ) (rest : Tree) → HasField rest (written_number w) → HasField (Block y i within j rest) (written_number w)
   past y i within j rest v = record {
     heading = v.heading;
     block = v.block;
@@ -98,14 +98,14 @@ module _ (w : WrittenField) where
     same = v.same;
   }
 
-  past_leaf : (x : Statement) (rest : Tree) → HasField rest (number_of w) → HasField (Leaf x rest) (number_of w)
+  past_leaf : (x : Statement) (rest : Tree) → HasField rest (written_number w) → HasField (Leaf x rest) (written_number w)
   past_leaf x rest v = record { heading = v.heading; block = v.block; within = v.within; is = v.is; field = v.field; there = v.there; same = v.same }
 
-  in_tree : (c : Context) (t : Tree) (o : Option ℕ) → IsWellFormed c t → StandsAt (statement_of w) o t → HasField t (number_of w) ⊎ ((c ≡ context.Message) × IsOne t)
-  in_tree c _ _ wf (InMessage h i within j rest at) = inl (own_message h i within j rest (λ n. (field_of None w, in_members within at n, numbered_one None w)))
+  in_tree : (c : Context) (t : Tree) (o : Option ℕ) → IsWellFormed c t → StandsAt (statement_of w) o t → HasField t (written_number w) ⊎ ((c ≡ context.Message) × IsOne t)
+  in_tree c _ _ wf (InMessage h i within j rest at) = inl (own_message h i within j rest (λ n. (written_field None w, in_members within at n, numbered_one None w)))
   in_tree c _ _ wf (InOneof h i within j rest at) = inr (
     in_oneof c wf.0,
-    λ n. (field_of (Some n) w, Contains-append_left (flat_map (statement_fields (Some n)) (statements within)) (fields_from (suc n) rest) (field_of (Some n) w) (in_fellows within at (Some n)), numbered_one (Some n) w),
+    λ n. (written_field (Some n) w, Contains-append_left (flat_map (statement_fields (Some n)) (statements within)) (fields_from (suc n) rest) (written_field (Some n) w) (in_fellows within at (Some n)), numbered_one (Some n) w),
   )
   in_tree c _ o wf (Deeper _ h i within j rest at) = elim (in_tree context.Message within o wf.1 at) [
     | inl v ↦ inl (inside (header.Message h) i within j rest v)
@@ -166,11 +166,11 @@ numbers_are_small files reads f are clean at =
     let tree : Tree = (read_at reads f.file).tree in
     let v = written f.statement f.name f.number at.declares in
     let stands = subst (λ (s : Statement). StandsAt s f.oneof tree) v.same at.stands in
-    let it : HasField tree (number_of v.field) = elim (in_tree v.field context.Start tree f.oneof (are.trees f.file at.within).spells.well_formed stands) [
+    let it : HasField tree (written_number v.field) = elim (in_tree v.field context.Start tree f.oneof (are.trees f.file at.within).spells.well_formed stands) [
       | inl x ↦ x
       | inr x ↦ absurd (start_no x.0)
     ] in
-    let none : flaws_of files reads f.file ≡ [] = none_of (flaws_of files reads f.file) (λ x c. clean (fault_of files reads f.file x) (of_flaw reads f.file x are at.within c)) in
+    let none : flaws_of files reads f.file ≡ [] = none_of (flaws_of files reads f.file) (λ x c. clean (fault_of_flaw files reads f.file x) (of_flaw reads f.file x are at.within c)) in
     let alone : file_flaws scene tree ≡ [] = (nil_parts (file_flaws scene tree) _ none).0 in
     let blocks : flaws_in_blocks scene tree ≡ [] = (nil_parts (option_flaws scene element.File (options_in tree)) (flaws_in_blocks scene tree) alone).1 in
     let block : block_flaws scene it.block.header it.block.within ≡ [] = none_at (λ (b : BlockOf). block_flaws scene b.header b.within) (blocks_in tree) it.block it.within blocks in

@@ -15,12 +15,12 @@ use Rattle.proto_tree.specs.declared.piece.Statement.{Statement}
 use Rattle.proto_tree.specs.declared.piece.Statement.TheVariants as statement
 use Rattle.proto_tree.specs.declared.tree.Field.{Field}
 use Rattle.proto_tree.specs.declared.tree.MapField.{MapField}
-use Rattle.proto_tree.proofs.Common.{Fit, Mark, one, flat_header, flat_statement, Move, move_header, move_heading, move_statement, move_tree, shift, Reads, Tree, End, Leaf, Block, flat, statement_kind, header_kind, allows, after, IsWellFormed, joined, Spells, classes, one_tree, trees_are_numbered, header_kind_moved, kind_moved}
+use Rattle.proto_tree.proofs.Common.{Fit, Mark, one, flat_header, flat_statement, Move, move_header, move_heading, move_statement, move_tree, shift, Reads, Tree, End, Leaf, Block, flat, statement_kind, header_kind, allows, after, IsWellFormed, joined_trees, Spells, classes, one_tree, trees_are_numbered, header_kind_moved, kind_moved}
 use Rattle.proto_parts.specs.Parts.{BlockOf, FieldOf, blocks_in, fields_in, statements}
 use Rattle.proto_checks.specs.FileFlaws.{is_empty}
-use Rattle.proto_statement_laws.proofs.Common.{StandsAt, InMessage as StandsInMessage, InOneof as StandsInOneof, Deeper as StandsDeeper, PastLeaf as StandsPastLeaf, PastBlock as StandsPastBlock, StandsIn, First, AfterLeaf, AfterBlock, first_token, next_token, own, reserved_at, without, IsExchanged, Here, Later, Inside, Behind, before, MovesBy, reservation, reservation_tokens, around, cut, statements_are_exchanged, found, moves_by, moves_in, reservation_fits, before_field, before_it, block_long, closed, close_at, leaf_long, through, through_message}
+use Rattle.proto_statement_laws.proofs.Common.{StandsAt, InMessage as StandsInMessage, InOneof as StandsInOneof, Deeper as StandsDeeper, PastLeaf as StandsPastLeaf, PastBlock as StandsPastBlock, StandsIn, First, AfterLeaf, AfterBlock, first_token, next_token, own, reservation_place, without, IsExchanged, Here, Later, Inside, Behind, before, MovesBy, reservation, reservation_tokens, around, cut_around, statements_are_exchanged, found, moved_moves_by, moves_in, reservation_fits, before_field, before_it, block_long, closed, close_at, leaf_long, through, through_message}
 use Rattle.proto_statement_laws.proofs.Reversed.{statement_long, tree_long}
-use Rattle.proto_statement_described.specs.Deletions.{AtField, AtOneof, BehindBlock, BehindLeaf, Deeper, Found, FurtherOn, InMessage, IsAmong, IsDeletedIn, IsDeletedRight, OfMap, PastBlock, PastLeaf, Plain, Reservation, WrittenField, name_of, reserved, statement_of}
+use Rattle.proto_statement_described.specs.Deletions.{AtField, AtOneof, BehindBlock, BehindLeaf, Deeper, Found, FurtherOn, InMessage, IsAmong, IsDeletedIn, IsDeletedRight, OfMap, PastBlock, PastLeaf, Plain, Reservation, WrittenField, written_name, reserved, statement_of}
 use Rattle.proto_statement_deleted.specs.Trees.{HasFellows, TreesAreDeleted, reservation_at, to_new, to_old}
 
 -- ---- contexts
@@ -147,7 +147,7 @@ module _ (d g k : Move) (w : WrittenField) (r : Reservation) where
     old = Leaf (statement_of w) (move_tree g (move_tree d rest));
     back = Here context.Message (move_tree d rest) (may_stand w, tt) (λ z. z);
     back_at = refl;
-    new = joined (reserved r) (move_tree k (move_tree d rest));
+    new = joined_trees (reserved r) (move_tree k (move_tree d rest));
     put = Here context.Message (move_tree d rest) (refl, (refl, tt)) (λ z. z);
     put_at = refl;
     deleted = AtField (move_tree d rest);
@@ -215,7 +215,7 @@ module _ (d g k : Move) (w : WrittenField) (r : Reservation) where
   fellow : (token : ℕ) (h : Heading) (i : ℕ) (within : Tree) (j : ℕ) (rest : Tree) → HasFellows (Block (header.Oneof h) i within j rest) token → map (λ (y : FieldOf). y.name) (fields_in within) ≡ token ∷ [] → ⊥
   fellow token h i within j rest f = f h (record { header = header.Oneof h; within = within }) (contains_head (let z : BlockOf = record { header = header.Oneof h; within = within } in z) (blocks_in within ++ blocks_in rest)) refl
 
-  in_tree : (c e : Context) (t : Tree) (o : Option ℕ) → e ≡ c → IsWellFormed c t → HasFellows t (name_of w) → (h : StandsAt (statement_of w) o t) → InTree c e t (before_field h) (through h)
+  in_tree : (c e : Context) (t : Tree) (o : Option ℕ) → e ≡ c → IsWellFormed c t → HasFellows t (written_name w) → (h : StandsAt (statement_of w) o t) → InTree c e t (before_field h) (through h)
   in_tree c e _ _ same wf fs (StandsInMessage h i within j rest at) =
       let v = in_members within at in
       let y : Header = header.Message (move_heading d h) in
@@ -238,7 +238,7 @@ module _ (d g k : Move) (w : WrittenField) (r : Reservation) where
       let y : Header = header.Oneof (move_heading d h) in
       let is : e ≡ context.Message = same ∙ in_oneof c wf.0 in
       let long = exchanged_long d (Leaf (statement_of w) End) End context.Oneof within v.x v.taken in
-      let named : name_of w ≡ f.name = ap name_of found.1 in
+      let named : written_name w ≡ f.name = ap written_name found.1 in
       record {
         x = Block y (d i) v.x (d j) (move_tree d rest);
         taken = Inside c (header.Oneof h) i within v.x j rest v.taken;
@@ -246,17 +246,17 @@ module _ (d g k : Move) (w : WrittenField) (r : Reservation) where
         old = Block (move_header g y) (g (d i)) v.old (g (d j)) (move_tree g (move_tree d rest));
         back = Inside e y (d i) v.x v.old (d j) (move_tree d rest) v.back;
         back_at = ap (λ (n : ℕ). length (flat_header (header.Oneof h) ++ one class.Open i) + n) v.back_at;
-        new = Block (move_header k y) (k (d i)) (move_tree k v.x) (k (d j)) (joined (reserved r) (move_tree k (move_tree d rest)));
-        put = Behind e y (d i) v.x (d j) (move_tree d rest) (joined (reserved r) (move_tree k (move_tree d rest)))
+        new = Block (move_header k y) (k (d i)) (move_tree k v.x) (k (d j)) (joined_trees (reserved r) (move_tree k (move_tree d rest)));
+        put = Behind e y (d i) v.x (d j) (move_tree d rest) (joined_trees (reserved r) (move_tree k (move_tree d rest)))
             (Here (after e kind.OpenOneof) (move_tree d rest) (subst (λ z. IsWellFormed z (reserved r)) (sym (in_message e is)) (refl, (refl, tt))) (λ z. subst (λ z. IsWellFormed z (move_tree d rest)) (in_message e is ∙ sym (ap (λ z. Rattle.proto_tree.specs.Tree.last_of z (reserved r)) (in_message e is))) z));
         put_at = omega (arith, long, leaf_long (statement_of w), block_long y (d i) v.x (d j) End, block_long (header.Oneof h) i within j End);
-        deleted = inl (is, AtOneof (move_heading d h) f (d i) v.x v.old (d j) (move_tree d rest) found.1 (v.some (λ alone. fellow (name_of w) h i within j rest fs (alone ∙ ap (λ (n : ℕ). n ∷ []) (sym named)))) v.among);
+        deleted = inl (is, AtOneof (move_heading d h) f (d i) v.x v.old (d j) (move_tree d rest) found.1 (v.some (λ alone. fellow (written_name w) h i within j rest fs (alone ∙ ap (λ (n : ℕ). n ∷ []) (sym named)))) v.among);
       }
     where
       in_message : (e : Context) → e ≡ context.Message → after e kind.OpenOneof ≡ context.Message
       in_message e is = ap (λ z. after z kind.OpenOneof) is
   in_tree c e _ o same wf fs (StandsDeeper _ h i within j rest at) =
-      let v = in_tree context.Message context.Message within o refl wf.1 (fellows_within (name_of w) (header.Message h) i within j rest fs) at in
+      let v = in_tree context.Message context.Message within o refl wf.1 (fellows_within (written_name w) (header.Message h) i within j rest fs) at in
       let y : Header = header.Message (move_heading d h) in
       record {
         x = Block y (d i) v.x (d j) (move_tree d rest);
@@ -288,7 +288,7 @@ module _ (d g k : Move) (w : WrittenField) (r : Reservation) where
         ];
       }
   in_tree c e _ o same wf fs (StandsPastBlock _ y i within j rest at) =
-      let v = in_tree (after c (header_kind y)) (after e (header_kind (move_header d y))) rest o (ap₂ after same (header_kind_moved d y)) wf.2 (fellows_behind (name_of w) y i within j rest fs) at in
+      let v = in_tree (after c (header_kind y)) (after e (header_kind (move_header d y))) rest o (ap₂ after same (header_kind_moved d y)) wf.2 (fellows_behind (written_name w) y i within j rest fs) at in
       record {
         x = Block (move_header d y) (d i) (move_tree d within) (d j) v.x;
         taken = Behind c y i within j rest v.x v.taken;
@@ -308,7 +308,7 @@ module _ (d g k : Move) (w : WrittenField) (r : Reservation) where
 -- ---- the place of the reservation
 
 -- where it is put in, by what stands before it
-put_place : (text : List ℕ) (tokens : List Token) (t : Tree) (s : Statement) (o : Option ℕ) → Reads text tokens t → (h : StandsAt s o t) → (n : ℕ) → n + length (flat_statement s) ≡ through h → n ≡ reserved_at s o
+put_place : (text : List ℕ) (tokens : List Token) (t : Tree) (s : Statement) (o : Option ℕ) → Reads text tokens t → (h : StandsAt s o t) → (n : ℕ) → n + length (flat_statement s) ≡ through h → n ≡ reservation_place s o
 put_place text tokens t s None reads h n e =
     let fd = found text tokens t s reads h in
     let at = fd.at in
@@ -339,7 +339,7 @@ trees_are_deleted text tokens t w o number name result after u reads fellows sta
     let whole : List Lexeme = map (lexeme_at text) tokens in
     let f : ℕ = first_token s in
     let q : ℕ = next_token s in
-    let p : ℕ = reserved_at s o in
+    let p : ℕ = reservation_place s o in
     let n : ℕ = length (flat_statement s) in
     let fd = found text tokens t s reads stands in
     let next = fd.next in
@@ -362,8 +362,8 @@ trees_are_deleted text tokens t w o number name result after u reads fellows sta
     let back_at : before v.back ≡ f = v.back_at ∙ fd.at in
     let put_at : before v.put ≡ p = put_place text tokens t s o reads stands (before v.put) v.put_at in
     let ar = around d (Leaf s End) End context.Start t v.x v.taken in
-    let c = cut t ar.front (flat (Leaf s End)) ar.back front mine back (ar.long ∙ taken_at ∙ sym front_long) (leaf_long s ∙ sym mine_long) ar.old spells.fits in
-    let by_d : MovesBy d (length front) (length mine) 0 = subst (λ (x : ℕ). MovesBy d x (length mine) 0) (sym front_long) (subst (λ (x : ℕ). MovesBy d f x 0) (sym mine_long) (moves_by f n 0)) in
+    let c = cut_around t ar.front (flat (Leaf s End)) ar.back front mine back (ar.long ∙ taken_at ∙ sym front_long) (leaf_long s ∙ sym mine_long) ar.old spells.fits in
+    let by_d : MovesBy d (length front) (length mine) 0 = subst (λ (x : ℕ). MovesBy d x (length mine) 0) (sym front_long) (subst (λ (x : ℕ). MovesBy d f x 0) (sym mine_long) (moved_moves_by f n 0)) in
     let by_g : MovesBy g (length front) 0 (length mine) = subst (λ (x : ℕ). MovesBy g x 0 (length mine)) (sym front_long) (moves_in f (length mine)) in
     let x_spells = statements_are_exchanged d (Leaf s End) End t v.x v.taken front mine [] back (taken_at ∙ sym front_long) (leaf_long s ∙ sym mine_long) tt by_d spells in
     let old_spells = statements_are_exchanged g End (Leaf s End) v.x v.old v.back front [] mine back (back_at ∙ sym front_long) refl c.old_fits by_g x_spells in

@@ -11,17 +11,17 @@ use Rattle.proto_files.proofs.Common.{ReadOf, read_at, FileOf, file_at}
 use Rattle.proto_meaning.proofs.Common.{at, IsLinked}
 use Rattle.proto_entries.proofs.Puts.{puts_are_once}
 use Rattle.proto_imports.specs.Links.{names_of_files}
-use Rattle.proto_parts.proofs.Common.{number_of as value_of_digits, string_of, value_or_none}
-use Rattle.proto_statement_described.proofs.Common.{lexemes_of, IsDeletedIn, Reservation, Reserves, WrittenField, name_of, number_of, statement_of, IsDeletion, scene_at, others_keep_apart, scenes_are_moved, deletions_leave_no_fault, deletions_map_descriptors}
+use Rattle.proto_parts.proofs.Common.{number_value as value_of_digits, string_of, value_or_none}
+use Rattle.proto_statement_described.proofs.Common.{lexemes_of, IsDeletedIn, Reservation, Reserves, WrittenField, written_name, written_number, statement_of, IsFileDeletion, scene_at, others_keep_apart, scenes_are_moved, deletions_leave_no_fault, deletions_map_descriptors}
 use Rattle.proto_statement_names.proofs.NoLinkFault.{files_are_linked, read_files_are_clean}
-use Rattle.proto_statement_laws.proofs.Common.{IsDeleted, StandsAt, first_token, own, reserved_at, without, LexemesAreMoved, reservation_tokens, word_is_string}
+use Rattle.proto_statement_laws.proofs.Common.{IsDeleted, StandsAt, first_token, own, reservation_place, without, LexemesAreMoved, reservation_tokens, word_is_string}
 use Rattle.proto_statement_laws.proofs.TextLaws.{Laws as TextLaws}
-use Rattle.proto_statement_changes.proofs.Common.{DeletionsAreChanges, FieldAt, IsFieldDeleted, changes_of_deletion, name_of_field, number_of_field, with_read, with_text}
+use Rattle.proto_statement_changes.proofs.Common.{DeletionsAreChanges, FieldAt, IsFieldDeleted, changes_of_deletion, name_of_field, field_number_value, with_read, with_text}
 use Rattle.proto_statement_names.proofs.Common.{IsAlone, last_of_oneof, AreClean, IsFieldLess, MeanTheSame}
 use Rattle.proto_statement_names.proofs.Kept.{deletions_keep_links, deletions_keep_meanings}
 use Rattle.proto_statement_deleted.specs.Scenes.{IsReadWithout}
 use Rattle.proto_statement_deleted.specs.Trees.{HasFellows, reservation_at, to_new, to_old}
-use Rattle.proto_statement_deleted.specs.Workspace.{AreLeft, DeletionsAreDeletions, DeletionsAreLess, DeletionsAreMade, DeletionsAreMapped, DeletionsLeaveFiles, DeletionsLeaveNoFault, DeletionsMeanTheSame, IsAllowed}
+use Rattle.proto_statement_deleted.specs.Workspace.{AreLeft, DeletionsAreDeletions, DeletionsAreLess, DeletionsAreMade, DeletionsAreMapped, DeletionsLeaveFiles, DeletionsLeaveNoFault, DeletionsMeanTheSame, IsAllowedDeletion}
 use Rattle.proto_statement_deleted.proofs.Decimals.{decimals_are_numbers}
 use Rattle.proto_statement_deleted.proofs.Declared.{named, new_text, old_text, other_texts}
 use Rattle.proto_statement_deleted.proofs.Enums.{same_words}
@@ -43,7 +43,7 @@ pub record Laws : Type 0 where
 front_stays : (p n : ℕ) → 0 < p → moved p p n 0 ≡ 0
 front_stays p n l = cond-true (ltb 0 p) 0 ((0 - p) + (p + n)) (lt-ltb 0 p l)
 
-module _ (laws : Laws) (files : List FileOf) (reads : List ReadOf) (name : List ℕ) (f : FieldAt) (result : List ℕ) (after : List Token) (tree : Tree) (ok : IsAllowed files reads name f) (fd : IsFieldDeleted files reads f result after tree) where
+module _ (laws : Laws) (files : List FileOf) (reads : List ReadOf) (name : List ℕ) (f : FieldAt) (result : List ℕ) (after : List Token) (tree : Tree) (ok : IsAllowedDeletion files reads name f) (fd : IsFieldDeleted files reads f result after tree) where
   abbrev place : ℕ
   place = f.file
 
@@ -75,19 +75,19 @@ module _ (laws : Laws) (files : List FileOf) (reads : List ReadOf) (name : List 
   unfolding w
   stands = subst (λ (s : Statement). StandsAt s f.oneof (read_at reads f.file).tree) is_written.same ok.stands.stands
 
-  deleted : IsDeleted (file_at files f.file).bytes (read_at reads f.file).tokens (read_at reads f.file).tree (statement_of w) f.oneof (number_of_field files reads f) (name_of_field files reads f) result after tree
+  deleted : IsDeleted (file_at files f.file).bytes (read_at reads f.file).tokens (read_at reads f.file).tree (statement_of w) f.oneof (field_number_value files reads f) (name_of_field files reads f) result after tree
   unfolding w
-  deleted = subst (λ (s : Statement). IsDeleted (file_at files f.file).bytes (read_at reads f.file).tokens (read_at reads f.file).tree s f.oneof (number_of_field files reads f) (name_of_field files reads f) result after tree) is_written.same fd.deleted
+  deleted = subst (λ (s : Statement). IsDeleted (file_at files f.file).bytes (read_at reads f.file).tokens (read_at reads f.file).tree s f.oneof (field_number_value files reads f) (name_of_field files reads f) result after tree) is_written.same fd.deleted
 
-  its_name : name_of w ≡ f.name
+  its_name : written_name w ≡ f.name
   unfolding w
   its_name = is_written.named
 
-  its_number : number_of w ≡ f.number
+  its_number : written_number w ≡ f.number
   unfolding w
   its_number = is_written.numbered
 
-  fellows : HasFellows (read_at reads f.file).tree (name_of w)
+  fellows : HasFellows (read_at reads f.file).tree (written_name w)
   fellows h b c oneof alone =
       let it : IsAlone reads (at f.file f.name) = record { h = h; b = b; block = c; oneof = oneof; only = alone ∙ ap (λ (n : ℕ). n ∷ []) its_name } in
       ok.admissible 10 (last_of_oneof ok.target ok.field (subst (IsAlone reads) (sym ok.token) it))
@@ -99,7 +99,7 @@ module _ (laws : Laws) (files : List FileOf) (reads : List ReadOf) (name : List 
   k = to_new (statement_of w) f.oneof
 
   r : Reservation
-  r = reservation_at (reserved_at (statement_of w) f.oneof)
+  r = reservation_at (reservation_place (statement_of w) f.oneof)
 
   mid : List Lexeme
   mid = without (statement_of w) (map (lexeme_at (file_at files f.file).bytes) (read_at reads f.file).tokens)
@@ -109,7 +109,7 @@ module _ (laws : Laws) (files : List FileOf) (reads : List ReadOf) (name : List 
 
   trees : IsDeletedIn g k w r x (read_at reads f.file).tree tree
   unfolding g k r x
-  trees = trees_are_deleted (file_at files f.file).bytes (read_at reads f.file).tokens (read_at reads f.file).tree w f.oneof (number_of_field files reads f) (name_of_field files reads f) result after tree reading fellows stands deleted
+  trees = trees_are_deleted (file_at files f.file).bytes (read_at reads f.file).tokens (read_at reads f.file).tree w f.oneof (field_number_value files reads f) (name_of_field files reads f) result after tree reading fellows stands deleted
 
   -- the tokens
   old_is : (i : ℕ) → slice_get (lexemes_of files reads f.file) (g i) ≡ slice_get mid i
@@ -128,9 +128,9 @@ module _ (laws : Laws) (files : List FileOf) (reads : List ReadOf) (name : List 
   new_is i =
       let s : Statement = statement_of w in
       let whole : List Lexeme = map (lexeme_at (file_at files f.file).bytes) (read_at reads f.file).tokens in
-      let p : ℕ = reserved_at s f.oneof in
+      let p : ℕ = reservation_place s f.oneof in
       ap (λ (ls : List Lexeme). slice_get ls (to_new s f.oneof i)) (new_lexemes ∙ deleted.new.tokens)
-      ∙ laws.lexemes (without s whole) (reservation_tokens (number_of_field files reads f) (name_of_field files reads f)) p p i (omega arith) deleted.new.within (cases_lt i p)
+      ∙ laws.lexemes (without s whole) (reservation_tokens (field_number_value files reads f) (name_of_field files reads f)) p p i (omega arith) deleted.new.within (cases_lt i p)
 
   read_so : IsReadWithout files reads now seen f.file g k w r x mid
   unfolding g k
@@ -149,9 +149,9 @@ module _ (laws : Laws) (files : List FileOf) (reads : List ReadOf) (name : List 
         old = old_is;
         new = new_is;
         old_apart = others_keep_apart (first_token s) (length (own s whole));
-        new_apart = others_keep_apart (reserved_at s f.oneof) 6;
+        new_apart = others_keep_apart (reservation_place s f.oneof) 6;
         old_first = front_stays (first_token s) (length (own s whole)) (first_stays (file_at files f.file).bytes (read_at reads f.file).tokens (read_at reads f.file).tree w f.oneof reading stands);
-        new_first = front_stays (reserved_at s f.oneof) 6 (reserved_behind (file_at files f.file).bytes (read_at reads f.file).tokens (read_at reads f.file).tree s f.oneof reading stands);
+        new_first = front_stays (reservation_place s f.oneof) 6 (reserved_behind (file_at files f.file).bytes (read_at reads f.file).tokens (read_at reads f.file).tree s f.oneof reading stands);
         own = use_apart (file_at files f.file).bytes (read_at reads f.file).tokens (read_at reads f.file).tree w f.oneof reading stands;
       }
 
@@ -189,28 +189,28 @@ module _ (laws : Laws) (files : List FileOf) (reads : List ReadOf) (name : List 
 
   -- ---- scenes
 
-  new_at : (i : ℕ) → i < 6 → slice_get (lexemes_of now seen f.file) (reserved_at (statement_of w) f.oneof + i) ≡ slice_get (reservation_tokens (number_of_field files reads f) (name_of_field files reads f)) i
+  new_at : (i : ℕ) → i < 6 → slice_get (lexemes_of now seen f.file) (reservation_place (statement_of w) f.oneof + i) ≡ slice_get (reservation_tokens (field_number_value files reads f) (name_of_field files reads f)) i
   new_at i l =
       let s : Statement = statement_of w in
       let whole : List Lexeme = map (lexeme_at (file_at files f.file).bytes) (read_at reads f.file).tokens in
-      let p : ℕ = reserved_at s f.oneof in
+      let p : ℕ = reservation_place s f.oneof in
       let within = deleted.new.within in
       ap (λ (ls : List Lexeme). slice_get ls (p + i)) (new_lexemes ∙ deleted.new.tokens)
-      ∙ come_in (take p (without s whole)) (reservation_tokens (number_of_field files reads f) (name_of_field files reads f)) (drop p (without s whole)) p i (omega (arith, length-take p (without s whole), within)) l
+      ∙ come_in (take p (without s whole)) (reservation_tokens (field_number_value files reads f) (name_of_field files reads f)) (drop p (without s whole)) p i (omega (arith, length-take p (without s whole), within)) l
 
   stands_for : StandsFor (quoted (name_of_field files reads f)) (name_of_field files reads f)
   stands_for =
       let run : IsRun Letter (name_of_field files reads f) = name_is_word (file_at files f.file).bytes (read_at reads f.file).tokens (read_at reads f.file).tree f.statement f.name f.number reading ok.stands.stands ok.stands.declares in
       (word_is_string laws.texts (name_of_field files reads f) run).1
 
-  small : number_of_field files reads f < 2 ^ 64
+  small : field_number_value files reads f < 2 ^ 64
   small = numbers_are_small files reads f ok.are.read ok.checks ok.stands
 
   says : Reserves (scene_at files reads f.file) (scene_at now seen f.file) w r
   unfolding r
   says =
-      let p : ℕ = reserved_at (statement_of w) f.oneof in
-      let n : ℕ = number_of_field files reads f in
+      let p : ℕ = reservation_place (statement_of w) f.oneof in
+      let n : ℕ = field_number_value files reads f in
       let v : List ℕ = name_of_field files reads f in
       let res : List Lexeme = reservation_tokens n v in
       record {
@@ -218,11 +218,11 @@ module _ (laws : Laws) (files : List FileOf) (reads : List ReadOf) (name : List 
         name = ap string_of (new_at 4 (omega arith)) ∙ ap (value_or_none Text) (value_again (quoted v) v stands_for) ∙ ap (word_at (lexemes_of files reads f.file)) (sym its_name);
       }
 
-  fresh : (i : ℕ) → (g i == name_of w) ≡ false
+  fresh : (i : ℕ) → (g i == written_name w) ≡ false
   unfolding g
   fresh = name_apart (file_at files f.file).bytes (read_at reads f.file).tokens (read_at reads f.file).tree w f.oneof reading stands
 
-  pub is_deletion : IsDeletion files reads now seen f.file f.name
+  pub is_deletion : IsFileDeletion files reads now seen f.file f.name
   is_deletion =
       let scenes = scenes_have_tokens files reads now seen f.file g k w r x mid read_so linked means_same in
       record {
@@ -265,7 +265,7 @@ pub deletions_are_mapped : Laws → DeletionsAreMapped
 deletions_are_mapped laws files reads name f result after tree ok fd ds new was is =
     deletions_map_descriptors files reads (with_text files f.file result) (with_read reads f.file after tree) f.file f.name (is_deletion laws files reads name f result after tree ok fd) ds new was is
 
-left_by : (laws : Laws) (files : List FileOf) (reads : List ReadOf) (name : List ℕ) (f : FieldAt) (result : List ℕ) (after : List Token) (tree : Tree) → IsAllowed files reads name f → IsFieldDeleted files reads f result after tree
+left_by : (laws : Laws) (files : List FileOf) (reads : List ReadOf) (name : List ℕ) (f : FieldAt) (result : List ℕ) (after : List Token) (tree : Tree) → IsAllowedDeletion files reads name f → IsFieldDeleted files reads f result after tree
     → AreLeft files reads f (with_text files f.file result)
 left_by laws files reads name f result after tree ok fd =
     let still = fd.changed.still in

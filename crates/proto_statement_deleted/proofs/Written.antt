@@ -3,13 +3,13 @@ use Rattle.std.proofs.Common.{◌≡◌, ℕ, refl}
 use Rattle.proto_tree.specs.declared.piece.Statement.{Statement}
 use Rattle.proto_tree.specs.declared.piece.Statement.TheVariants as statement
 use Rattle.proto_statement_laws.specs.Deletions.{IsFieldOf}
-use Rattle.proto_statement_described.specs.Deletions.{OfMap, Plain, WrittenField, name_of, number_of, statement_of}
+use Rattle.proto_statement_described.specs.Deletions.{OfMap, Plain, WrittenField, written_name, written_number, statement_of}
 
 pub record IsWritten (s : Statement) (name number : ℕ) : Type 0 where
   pub field : WrittenField
   pub same : s ≡ statement_of field
-  pub named : name_of field ≡ name
-  pub numbered : number_of field ≡ number
+  pub named : written_name field ≡ name
+  pub numbered : written_number field ≡ number
 
 pub written : (s : Statement) (name number : ℕ) → IsFieldOf s name number → IsWritten s name number
 written (statement.Field f) name number is = record { field = Plain f; same = refl; named = is.0; numbered = is.1 }

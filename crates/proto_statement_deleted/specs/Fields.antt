@@ -4,7 +4,7 @@ use Rattle.proto_files.specs.Faults.{HasNoFault}
 use Rattle.proto_files.specs.FilesRead.{AreRead, ReadOf}
 use Rattle.proto_files.specs.GivenFiles.{FileOf}
 use Rattle.proto_statement_described.specs.Checked.{CheckFaults}
-use Rattle.proto_statement_changes.specs.DeletionChanges.{FieldAt, IsFieldAt, number_of_field}
+use Rattle.proto_statement_changes.specs.DeletionChanges.{FieldAt, IsFieldAt, field_number_value}
 
 -- Without a fault of the checks the number of each field is below 2^64.
 abbrev pub NumbersAreSmall : Type 0
@@ -12,4 +12,4 @@ NumbersAreSmall = (files : List FileOf) (reads : List ReadOf) (f : FieldAt)
     → AreRead files reads
     → HasNoFault (CheckFaults files)
     → IsFieldAt files reads f
-    → number_of_field files reads f < 2 ^ 64
+    → field_number_value files reads f < 2 ^ 64

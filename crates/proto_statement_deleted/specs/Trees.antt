@@ -13,8 +13,8 @@ use Rattle.proto_tree.specs.Moved.{Move}
 use Rattle.proto_tree.specs.Reads.{Reads}
 use Rattle.proto_tree.specs.Tree.{Tree}
 use Rattle.proto_parts.specs.Parts.{BlockOf, blocks_in, fields_in}
-use Rattle.proto_statement_laws.specs.Deletions.{IsDeleted, StandsAt, first_token, own, reserved_at}
-use Rattle.proto_statement_described.specs.Deletions.{IsDeletedIn, Reservation, WrittenField, name_of, statement_of}
+use Rattle.proto_statement_laws.specs.Deletions.{IsDeleted, StandsAt, first_token, own, reservation_place}
+use Rattle.proto_statement_described.specs.Deletions.{IsDeletedIn, Reservation, WrittenField, written_name, statement_of}
 
 -- no oneof of the tree has the field of this name token alone
 abbrev pub HasFellows : Tree → ℕ → Type 0
@@ -41,7 +41,7 @@ to_old text tokens s =
 
 -- how tokens move where the reservation of six tokens comes in
 abbrev pub to_new : Statement → Option ℕ → Move
-to_new s o = moved (reserved_at s o) (reserved_at s o) 6
+to_new s o = moved (reservation_place s o) (reservation_place s o) 6
 
 -- Where a field is deleted that is not alone in its oneof, the old tree is the one without both
 -- with the field put in among the members of a message, or of a oneof of it, and the new one is the
@@ -51,8 +51,8 @@ TreesAreDeleted =
     (text : Text) (tokens : List Token) (t : Tree) (w : WrittenField) (o : Option ℕ) (number : ℕ)
     (name result : Text) (after : List Token) (u : Tree)
     → Reads text tokens t
-    → HasFellows t (name_of w)
+    → HasFellows t (written_name w)
     → StandsAt (statement_of w) o t
     → (d : IsDeleted text tokens t (statement_of w) o number name result after u)
     → IsDeletedIn (to_old text tokens (statement_of w)) (to_new (statement_of w) o) w
-    (reservation_at (reserved_at (statement_of w) o)) d.middle t u
+    (reservation_at (reservation_place (statement_of w) o)) d.middle t u

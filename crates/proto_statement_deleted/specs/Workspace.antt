@@ -19,13 +19,13 @@ use Rattle.proto_statement_changes.specs.OneFile.{AreFiles, IsTooLong, with_read
 use Rattle.proto_statement_names.specs.Cases.{DeletionCase, IsField}
 use Rattle.proto_statement_names.specs.Files.{IsFieldLess}
 use Rattle.proto_statement_names.specs.Kept.{MeanTheSame}
-use Rattle.proto_statement_described.specs.Files.{IsDeletion, tree_at}
+use Rattle.proto_statement_described.specs.Files.{IsFileDeletion, tree_at}
 use Rattle.proto_statement_described.specs.Lists.{changed_at}
 use Rattle.proto_statement_described.specs.Mapped.{mapped_deletion}
 
 -- files without a fault, and a field of theirs, by its full name and by its statement, of
 -- which no case refuses the deletion
-pub record IsAllowed
+pub record IsAllowedDeletion
     (files : List FileOf) (reads : List ReadOf) (name : Text) (f : FieldAt) : Type 0 where
   pub are : AreFiles files reads
   pub link : HasNoFault (LinkFaults files)
@@ -41,7 +41,7 @@ abbrev pub DeletionsAreLess : Type 0
 DeletionsAreLess =
     (files : List FileOf) (reads : List ReadOf) (name : Text) (f : FieldAt) (result : Text)
     (after : List Token) (tree : Tree)
-    → IsAllowed files reads name f
+    → IsAllowedDeletion files reads name f
     → IsFieldDeleted files reads f result after tree
     → IsFieldLess files reads (with_text files f.file result) (with_read reads f.file after tree)
 
@@ -50,7 +50,7 @@ abbrev pub DeletionsMeanTheSame : Type 0
 DeletionsMeanTheSame =
     (files : List FileOf) (reads : List ReadOf) (name : Text) (f : FieldAt) (result : Text)
     (after : List Token) (tree : Tree)
-    → IsAllowed files reads name f
+    → IsAllowedDeletion files reads name f
     → IsFieldDeleted files reads f result after tree
     → MeanTheSame files reads (with_text files f.file result) (with_read reads f.file after tree)
 
@@ -59,9 +59,9 @@ abbrev pub DeletionsAreDeletions : Type 0
 DeletionsAreDeletions =
     (files : List FileOf) (reads : List ReadOf) (name : Text) (f : FieldAt) (result : Text)
     (after : List Token) (tree : Tree)
-    → IsAllowed files reads name f
+    → IsAllowedDeletion files reads name f
     → IsFieldDeleted files reads f result after tree
-    → IsDeletion files reads (with_text files f.file result) (with_read reads f.file after tree)
+    → IsFileDeletion files reads (with_text files f.file result) (with_read reads f.file after tree)
     f.file f.name
 
 -- So no fault comes in,
@@ -69,7 +69,7 @@ abbrev pub DeletionsLeaveNoFault : Type 0
 DeletionsLeaveNoFault =
     (files : List FileOf) (reads : List ReadOf) (name : Text) (f : FieldAt) (result : Text)
     (after : List Token) (tree : Tree)
-    → IsAllowed files reads name f
+    → IsAllowedDeletion files reads name f
     → IsFieldDeleted files reads f result after tree
     → HasNoFault (LinkFaults (with_text files f.file result))
     × HasNoFault (CheckFaults (with_text files f.file result))
@@ -80,7 +80,7 @@ abbrev pub DeletionsAreMapped : Type 0
 DeletionsAreMapped =
     (files : List FileOf) (reads : List ReadOf) (name : Text) (f : FieldAt) (result : Text)
     (after : List Token) (tree : Tree)
-    → IsAllowed files reads name f
+    → IsAllowedDeletion files reads name f
     → IsFieldDeleted files reads f result after tree
     → (ds new : List FileDesc)
     → AreDescribed files ds
@@ -96,13 +96,13 @@ FieldsMayBeDeleted = (files : List FileOf) (reads : List ReadOf) (name : Text)
     → HasNoFault (LinkFaults files)
     → HasNoFault (CheckFaults files)
     → ((n : ℕ) → DeletionCase files reads name n → ⊥)
-    → (f : FieldAt) × IsAllowed files reads name f
+    → (f : FieldAt) × IsAllowedDeletion files reads name f
 
 -- A name is that of one field that may be deleted.
-abbrev pub FieldsAreOne : Type 0
-FieldsAreOne = (files : List FileOf) (reads : List ReadOf) (name : Text) (f g : FieldAt)
-    → IsAllowed files reads name f
-    → IsAllowed files reads name g
+abbrev pub DeletableFieldsAreOne : Type 0
+DeletableFieldsAreOne = (files : List FileOf) (reads : List ReadOf) (name : Text) (f g : FieldAt)
+    → IsAllowedDeletion files reads name f
+    → IsAllowedDeletion files reads name g
     → f ≡ g
 
 -- files of a workspace without a fault, whose descriptors are mapped
@@ -120,7 +120,7 @@ pub record AreLeft
 -- Unless the file would be too long, the changes of the deletion are an entry, and put such files,
 abbrev pub DeletionsAreMade : Type 0
 DeletionsAreMade = (files : List FileOf) (reads : List ReadOf) (name : Text) (f : FieldAt)
-    → IsAllowed files reads name f
+    → IsAllowedDeletion files reads name f
     → (IsTooLong (file_at files f.file) (splice_of_deletion files reads f) → ⊥)
     → IsEntry (changes_of_deletion files reads f)
     × ((after : List FileOf)
@@ -131,7 +131,7 @@ DeletionsAreMade = (files : List FileOf) (reads : List ReadOf) (name : Text) (f 
 abbrev pub DeletionsLeaveFiles : Type 0
 DeletionsLeaveFiles =
     (files : List FileOf) (reads : List ReadOf) (name : Text) (f : FieldAt) (after : List FileOf)
-    → IsAllowed files reads name f
+    → IsAllowedDeletion files reads name f
     → (IsTooLong (file_at files f.file) (splice_of_deletion files reads f) → ⊥)
     → IsPut files (changes_of_deletion files reads f) after
     → AreLeft files reads f after

@@ -5,7 +5,7 @@ ghost use Rattle.proto_statement_deleted.specs.NamedTrees.{TreesAreNamed};
 ghost use Rattle.proto_statement_deleted.specs.Numbers.{DecimalsAreNumbers};
 ghost use Rattle.proto_statement_deleted.specs.Scenes.{OtherScenesStay, ScenesHaveTokens};
 ghost use Rattle.proto_statement_deleted.specs.Trees.{TreesAreDeleted};
-ghost use Rattle.proto_statement_deleted.specs.Workspace.{DeletionsAreDeletions, DeletionsAreLess, DeletionsAreMade, DeletionsAreMapped, DeletionsLeaveFiles, DeletionsLeaveNoFault, DeletionsMeanTheSame, FieldsAreOne, FieldsMayBeDeleted};
+ghost use Rattle.proto_statement_deleted.specs.Workspace.{DeletionsAreDeletions, DeletionsAreLess, DeletionsAreMade, DeletionsAreMapped, DeletionsLeaveFiles, DeletionsLeaveNoFault, DeletionsMeanTheSame, DeletableFieldsAreOne, FieldsMayBeDeleted};
 
 use proto_statement_changes::laws::{deletions_are_changes, fields_are_one};
 use proto_statement_laws::laws::statements_are_exchanged;
@@ -37,7 +37,7 @@ pub fn numbers_are_read()
 /// A name that no case refuses to delete is that of one field.
 pub fn fields_may_be_deleted()
     ensures there { FieldsMayBeDeleted }
-    ensures one { FieldsAreOne }
+    ensures one { DeletableFieldsAreOne }
 {
     fields_are_one();
 }

@@ -10,14 +10,14 @@ use Rattle.proto_tree.specs.declared.tree.MapField.{MapField}
 use Rattle.proto_tree.proofs.Common.{Move, move_header, move_map_field, move_range, move_statement, move_tree, Tree, End, Leaf, Block}
 use Rattle.proto_parts.proofs.Common.{FieldOf, extension_ranges, fields_in, options_in, reserved_names, reserved_ranges, statement_options, statements, Scene, number_at, text, value, truth_option}
 use Rattle.proto_numbers.specs.NumberFlaws.{range_of}
-use Rattle.proto_checks_laws.proofs.Common.{flat_moved, maps_kept, extension_ranges_moved, move_field_of, move_option_of, options_moved, reserved_ranges_moved, statement_names_moved, statement_options_moved, range_moved}
+use Rattle.proto_checks_laws.proofs.Common.{flat_map_moved, maps_kept, extension_ranges_moved, move_field_of, move_option_of, options_moved, reserved_ranges_moved, statement_names_moved, statement_options_moved, range_moved}
 use Rattle.proto_listing.proofs.Common.{Wanted, imports_in, items_in, move_wanted}
 use Rattle.proto_meaning.specs.Tree.{package_of}
 use Rattle.proto_descriptors.specs.declared.file.Syntax.TheVariants as syntax
 use Rattle.proto_described.specs.Described.{field_number, file_options, package_named, package_prefix, public_places, services_described, below, entry_described, message_options, enums_described, extensions_described, field_described, message_described, messages_described, number_range, oneof_names}
 use Rattle.proto_descriptors.specs.declared.message.NumberRange.{NumberRange}
 use Rattle.proto_descriptors.specs.Descriptors.{FieldDesc, MessageDesc, Messages, NoMessages, Message}
-use Rattle.proto_statement_described.specs.Common.{Deeper, AtField, AtOneof, BehindBlock, BehindLeaf, InMessage, IsDeletedIn, IsDeletedRight, PastBlock, PastLeaf, Plain, OfMap, Reservation, Reserves, WrittenField, field_of, name_of, reserved, statement_of, at_place, places_before, with_more, without_place, DeletionsAreMapped, field_place, is_its, is_named_at, mapped_messages, range_of_field, statements_before, without_entry, without_field, IsMovedScene}
+use Rattle.proto_statement_described.specs.Common.{Deeper, AtField, AtOneof, BehindBlock, BehindLeaf, InMessage, IsDeletedIn, IsDeletedRight, PastBlock, PastLeaf, Plain, OfMap, Reservation, Reserves, WrittenField, written_field, written_name, reserved, statement_of, at_place, places_before, with_more, without_place, DeletionsMapTheDescriptor, field_place, is_its, is_named_at, messages_with_deletion, range_of_field, statements_before, without_entry, without_field, IsMovedScene}
 use Rattle.proto_statement_described.proofs.Parts.{IsReader, named_one, no_ranges, no_words, nothing_with, numbered_one, new_fields, new_read, old_fields, old_read, outer_fields, outer_statements}
 use Rattle.proto_statement_described.proofs.DeletedHeads.{imports_less, packages_less}
 use Rattle.proto_statement_described.proofs.MovedImports.{publics_moved}
@@ -42,9 +42,9 @@ message_by scene full name t v e f x n o = λ i. record {
   options = message_options scene false (flat_map statement_options (e i));
 }
 
-module _ (g k : Move) (middle old new : Scene) (to_old : IsMovedScene g middle old) (to_new : IsMovedScene k middle new) (aim : WrittenField) (res : Reservation) (reserving : Reserves old new aim res) (fresh : (i : ℕ) → (g i == name_of aim) ≡ false) where
+module _ (g k : Move) (middle old new : Scene) (to_old : IsMovedScene g middle old) (to_new : IsMovedScene k middle new) (aim : WrittenField) (res : Reservation) (reserving : Reserves old new aim res) (fresh : (i : ℕ) → (g i == written_name aim) ≡ false) where
   abbrev token : ℕ
-  token = name_of aim
+  token = written_name aim
 
   -- ---- what is right in a message, but for fields and reservations
 
@@ -109,7 +109,7 @@ module _ (g k : Move) (middle old new : Scene) (to_old : IsMovedScene g middle o
   entries_stay (Block (header.Message h) i within j rest) (Message m nested more) = ap (Message m nested) (entries_stay rest more)
   entries_stay (Block whole i within j rest) ms = entries_stay rest ms
 
-  entry_at : (full : List ℕ) (w : WrittenField) (rest : Tree) → name_of w ≡ token
+  entry_at : (full : List ℕ) (w : WrittenField) (rest : Tree) → written_name w ≡ token
       → messages_described new full (move_tree k rest) ≡ without_entry token (Leaf (statement_of w) (move_tree g rest)) (messages_described old full (Leaf (statement_of w) (move_tree g rest)))
   entry_at full (Plain f) rest is = all_over full rest ∙ sym (entries_stay rest (messages_described old full (move_tree g rest)))
   entry_at full (OfMap f) rest is =
@@ -141,7 +141,7 @@ module _ (g k : Move) (middle old new : Scene) (to_old : IsMovedScene g middle o
     place = parted g token fresh k res aim refl x t u sw
 
     read_over : (h : Move) (m : X → X) → IsReader h m f → (of : X → Y) → ((y : X) → of (m y) ≡ was y) → (ss : List Statement) → map of (flat_map f (map (move_statement h) ss)) ≡ map was (flat_map f ss)
-    read_over h m r of e ss = ap (map of) (flat_moved (move_statement h) m f f r.moves ss) ∙ maps_kept m was of e (flat_map f ss)
+    read_over h m r of e ss = ap (map of) (flat_map_moved (move_statement h) m f f r.moves ss) ∙ maps_kept m was of e (flat_map f ss)
 
     read_before : length (flat_map f (statements_before token t)) ≡ length (map was (flat_map f place.front))
     read_before =
@@ -175,7 +175,7 @@ module _ (g k : Move) (middle old new : Scene) (to_old : IsMovedScene g middle o
       let fs = old_fields g k aim res 0 x t u sw in
       let front : List FieldDesc = map (field_described middle full) fs.1.front in
       let back : List FieldDesc = map (field_described middle full) fs.1.back in
-      let field : FieldOf = field_of fs.0 aim in
+      let field : FieldOf = written_field fs.0 aim in
       let gone : FieldDesc = field_described old full field in
       let was : map (field_described old full) (fields_in t) ≡ front ++ gone ∷ back =
       ap (map (field_described old full)) fs.1.is ∙ map-append (field_described old full) (map (move_field_of g) fs.1.front) (field ∷ map (move_field_of g) fs.1.back)
@@ -264,60 +264,60 @@ module _ (g k : Move) (middle old new : Scene) (to_old : IsMovedScene g middle o
 
   -- a message without the field, and the one that has it
   past : (within : Tree) → is_its token within ≡ false → (m : MessageDesc) (inner more : Messages)
-      → Message (if is_its token within then without_field token within m else m) (if is_its token within then without_entry token within inner else mapped_messages token within inner) more
-      ≡ Message m (mapped_messages token within inner) more
+      → Message (if is_its token within then without_field token within m else m) (if is_its token within then without_entry token within inner else messages_with_deletion token within inner) more
+      ≡ Message m (messages_with_deletion token within inner) more
   past within absent m inner more =
-      ap₂ (λ (n : MessageDesc) (ns : Messages). Message n ns more) (cond-false (is_its token within) (without_field token within m) m absent) (cond-false (is_its token within) (without_entry token within inner) (mapped_messages token within inner) absent)
+      ap₂ (λ (n : MessageDesc) (ns : Messages). Message n ns more) (cond-false (is_its token within) (without_field token within m) m absent) (cond-false (is_its token within) (without_entry token within inner) (messages_with_deletion token within inner) absent)
 
   hit : (within : Tree) → is_its token within ≡ true → (m : MessageDesc) (inner more : Messages)
-      → Message (if is_its token within then without_field token within m else m) (if is_its token within then without_entry token within inner else mapped_messages token within inner) more
+      → Message (if is_its token within then without_field token within m else m) (if is_its token within then without_entry token within inner else messages_with_deletion token within inner) more
       ≡ Message (without_field token within m) (without_entry token within inner) more
   hit within present m inner more =
-      ap₂ (λ (n : MessageDesc) (ns : Messages). Message n ns more) (cond-true (is_its token within) (without_field token within m) m present) (cond-true (is_its token within) (without_entry token within inner) (mapped_messages token within inner) present)
+      ap₂ (λ (n : MessageDesc) (ns : Messages). Message n ns more) (cond-true (is_its token within) (without_field token within m) m present) (cond-true (is_its token within) (without_entry token within inner) (messages_with_deletion token within inner) present)
 
   its_own : (x t u : Tree) → IsDeletedRight g k aim res x t u → is_its token t ≡ true
   its_own x t u sw =
       let fs = old_fields g k aim res 0 x t u sw in
       ap (list_any (is_named_at token)) fs.1.is
-      ∙ some_behind (is_named_at token) (map (move_field_of g) fs.1.front) (field_of fs.0 aim ∷ map (move_field_of g) fs.1.back)
-      (ap (λ b. b || list_any (is_named_at token) (map (move_field_of g) fs.1.back)) (eq-eqb (field_of fs.0 aim).name token (named_one fs.0 aim)))
+      ∙ some_behind (is_named_at token) (map (move_field_of g) fs.1.front) (written_field fs.0 aim ∷ map (move_field_of g) fs.1.back)
+      (ap (λ b. b || list_any (is_named_at token) (map (move_field_of g) fs.1.back)) (eq-eqb (written_field fs.0 aim).name token (named_one fs.0 aim)))
 
   -- messages that are moved have no field of it
-  messages_stay : (y : Tree) (ms : Messages) → mapped_messages token (move_tree g y) ms ≡ ms
+  messages_stay : (y : Tree) (ms : Messages) → messages_with_deletion token (move_tree g y) ms ≡ ms
   messages_stay End ms = refl
   messages_stay (Leaf (statement.MapField f) rest) NoMessages = refl
   messages_stay (Leaf (statement.MapField f) rest) (Message m inner more) = ap (Message m inner) (messages_stay rest more)
   messages_stay (Leaf _ rest) ms = messages_stay rest ms
   messages_stay (Block (header.Message h) i within j rest) NoMessages = refl
   messages_stay (Block (header.Message h) i within j rest) (Message m inner more) =
-      past (move_tree g within) (none_in g token fresh within) m inner (mapped_messages token (move_tree g rest) more) ∙ ap₂ (Message m) (messages_stay within inner) (messages_stay rest more)
+      past (move_tree g within) (none_in g token fresh within) m inner (messages_with_deletion token (move_tree g rest) more) ∙ ap₂ (Message m) (messages_stay within inner) (messages_stay rest more)
   messages_stay (Block whole i within j rest) ms = messages_stay rest ms
 
-  messages_at : (full : List ℕ) (x t u : Tree) → IsDeletedIn g k aim res x t u → messages_described new full u ≡ mapped_messages token t (messages_described old full t)
+  messages_at : (full : List ℕ) (x t u : Tree) → IsDeletedIn g k aim res x t u → messages_described new full u ≡ messages_with_deletion token t (messages_described old full t)
   messages_at full _ _ _ (InMessage h i x t u j rest sw) =
       let same : text new (k h.name) ≡ text old (g h.name) = to_new.same.texts h.name ∙ sym (to_old.same.texts h.name) in
       let inner : List ℕ = below full (text old (g h.name)) in
       ap₂ (λ (w : List ℕ) (ms : Messages). Message (message_described new (below full w) (k h.name) u) (messages_described new (below full w) u) ms) same (all_over full rest ∙ sym (messages_stay rest (messages_described old full (move_tree g rest))))
-      ∙ ap₂ (λ (m : MessageDesc) (ms : Messages). Message m ms (mapped_messages token (move_tree g rest) (messages_described old full (move_tree g rest)))) (message_less inner h.name x t u sw) (nested inner x t u sw)
-      ∙ sym (hit t (its_own x t u sw) (message_described old inner (g h.name) t) (messages_described old inner t) (mapped_messages token (move_tree g rest) (messages_described old full (move_tree g rest))))
+      ∙ ap₂ (λ (m : MessageDesc) (ms : Messages). Message m ms (messages_with_deletion token (move_tree g rest) (messages_described old full (move_tree g rest)))) (message_less inner h.name x t u sw) (nested inner x t u sw)
+      ∙ sym (hit t (its_own x t u sw) (message_described old inner (g h.name) t) (messages_described old inner t) (messages_with_deletion token (move_tree g rest) (messages_described old full (move_tree g rest))))
   messages_at full _ _ _ (Deeper h i x t u j rest sw) =
       let same : text new (k h.name) ≡ text old (g h.name) = to_new.same.texts h.name ∙ sym (to_old.same.texts h.name) in
       let inner : List ℕ = below full (text old (g h.name)) in
       let fs = outer_fields g k aim res 0 x t u sw in
       ap₂ (λ (w : List ℕ) (ms : Messages). Message (message_described new (below full w) (k h.name) u) (messages_described new (below full w) u) ms) same (all_over full rest ∙ sym (messages_stay rest (messages_described old full (move_tree g rest))))
-      ∙ ap₂ (λ (m : MessageDesc) (ms : Messages). Message m ms (mapped_messages token (move_tree g rest) (messages_described old full (move_tree g rest)))) (sym (around inner h.name x t u sw)) (messages_at inner x t u sw)
-      ∙ sym (past t (ap (list_any (is_named_at token)) fs.0 ∙ none_in g token fresh x) (message_described old inner (g h.name) t) (messages_described old inner t) (mapped_messages token (move_tree g rest) (messages_described old full (move_tree g rest))))
+      ∙ ap₂ (λ (m : MessageDesc) (ms : Messages). Message m ms (messages_with_deletion token (move_tree g rest) (messages_described old full (move_tree g rest)))) (sym (around inner h.name x t u sw)) (messages_at inner x t u sw)
+      ∙ sym (past t (ap (list_any (is_named_at token)) fs.0 ∙ none_in g token fresh x) (message_described old inner (g h.name) t) (messages_described old inner t) (messages_with_deletion token (move_tree g rest) (messages_described old full (move_tree g rest))))
   messages_at full _ _ _ (BehindLeaf a x t u sw) = leaf a (messages_at full x t u sw)
     where
-      leaf : (a : Statement) → messages_described new full u ≡ mapped_messages token t (messages_described old full t)
-          → messages_described new full (Leaf (move_statement k a) u) ≡ mapped_messages token (Leaf (move_statement g a) t) (messages_described old full (Leaf (move_statement g a) t))
+      leaf : (a : Statement) → messages_described new full u ≡ messages_with_deletion token t (messages_described old full t)
+          → messages_described new full (Leaf (move_statement k a) u) ≡ messages_with_deletion token (Leaf (move_statement g a) t) (messages_described old full (Leaf (move_statement g a) t))
       leaf (statement.MapField f) e = ap₂ (λ (m : MessageDesc) (ms : Messages). Message m NoMessages ms) (entry_over f) e
       leaf whole e = e
   messages_at full _ _ _ (BehindBlock (header.Message h) i within j x t u sw) =
       let inner : List ℕ = below full (text old (g h.name)) in
       message_over full h.name within (messages_described new full u)
       ∙ ap₂ (λ (ms ns : Messages). Message (message_described old inner (g h.name) (move_tree g within)) ms ns) (sym (messages_stay within (messages_described old inner (move_tree g within)))) (messages_at full x t u sw)
-      ∙ sym (past (move_tree g within) (none_in g token fresh within) (message_described old inner (g h.name) (move_tree g within)) (messages_described old inner (move_tree g within)) (mapped_messages token t (messages_described old full t)))
+      ∙ sym (past (move_tree g within) (none_in g token fresh within) (message_described old inner (g h.name) (move_tree g within)) (messages_described old inner (move_tree g within)) (messages_with_deletion token t (messages_described old full t)))
   messages_at full _ _ _ (BehindBlock whole i within j x t u sw) = messages_at full x t u sw
 
   services_less : (x t u : Tree) (sw : IsDeletedIn g k aim res x t u) → (services_described old t ≡ services_described middle x) × (services_described new u ≡ services_described middle x)
@@ -329,7 +329,7 @@ module _ (g k : Move) (middle old new : Scene) (to_old : IsMovedScene g middle o
       (λ i. service_same g middle old to_old h.name within i ∷ r.0 i, λ i. service_same k middle new to_new h.name within i ∷ r.1 i)
   services_less _ _ _ (BehindBlock whole i within j x t u sw) = services_less x t u sw
 
-pub deletions_are_mapped : DeletionsAreMapped
+pub deletions_are_mapped : DeletionsMapTheDescriptor
 deletions_are_mapped g k middle old new path aim res x t u to_old to_new reserving sw fresh =
     let pk = packages_less g k aim res x t u sw in
     let is = imports_less g k aim res x t u sw in
@@ -338,7 +338,7 @@ deletions_are_mapped g k middle old new path aim res x t u to_old to_new reservi
     let xs = outer_extensions g k middle old new to_old to_new aim res reserving fresh x t u sw in
     let os = outer_statements g k aim res x t u sw in
     let same_package : package_named new (package_of (items_in u)) ≡ package_named old (package_of (items_in t)) = package_same k middle new to_new (package_of (items_in x)) (package_of (items_in u)) pk.1 ∙ sym (package_same g middle old to_old (package_of (items_in x)) (package_of (items_in t)) pk.0) in
-    let messages : messages_described new (package_prefix (package_named new (package_of (items_in u)))) u ≡ mapped_messages (name_of aim) t (messages_described old (package_prefix (package_named old (package_of (items_in t)))) t) =
+    let messages : messages_described new (package_prefix (package_named new (package_of (items_in u)))) u ≡ messages_with_deletion (written_name aim) t (messages_described old (package_prefix (package_named old (package_of (items_in t)))) t) =
     ap (λ (p : Option (List ℕ)). messages_described new (package_prefix p) u) same_package ∙ messages_at g k middle old new to_old to_new aim res reserving fresh (package_prefix (package_named old (package_of (items_in t)))) x t u sw in
     let dependencies : map (λ (w : Wanted). value new w.path) (imports_in u) ≡ map (λ (w : Wanted). value old w.path) (imports_in t) = paths k middle new to_new (imports_in x) (imports_in u) is.1 ∙ sym (paths g middle old to_old (imports_in x) (imports_in t) is.0) in
     let places : public_places 0 (imports_in u) ≡ public_places 0 (imports_in t) = ap (public_places 0) is.1 ∙ publics_moved k 0 (imports_in x) ∙ sym (ap (public_places 0) is.0 ∙ publics_moved g 0 (imports_in x)) in

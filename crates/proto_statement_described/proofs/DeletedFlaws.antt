@@ -8,7 +8,7 @@ use Rattle.proto_tree.specs.declared.piece.Header.TheVariants as header
 use Rattle.proto_tree.specs.declared.piece.Statement.{Statement}
 use Rattle.proto_tree.specs.declared.tree.Range.{Range}
 use Rattle.proto_tree.specs.declared.tree.Field.{Field}
-use Rattle.proto_tree.proofs.Common.{Move, move_header, move_range, move_statement, move_tree, Tree, Block, joined}
+use Rattle.proto_tree.proofs.Common.{Move, move_header, move_range, move_statement, move_tree, Tree, Block, joined_trees}
 use Rattle.proto_parts.proofs.Common.{is_one_of, BlockOf, FieldOf, blocks_in, closed_ranges, enum_ranges, extension_words, fields_in, options_in, reserved_names, reserved_names_in, statement_options, statement_values, statements, Scene, number_at, text, value}
 use Rattle.proto_parts.specs.declared.options.Element.TheVariants as element
 use Rattle.proto_numbers.specs.declared.flaw.Flaw.{Flaw}
@@ -17,9 +17,9 @@ use Rattle.proto_parts.specs.declared.ranges.RangeAt.{RangeAt}
 use Rattle.proto_checks_laws.specs.Deleted.{range_of_one}
 use Rattle.proto_checks.proofs.Common.{field_flaws, option_flaws, allows_alias, block_flaws, first_value_flaws, enum_flaws, extension_flaws, flaws_in_blocks, flaws_of_extension, is_empty, json_clashes, message_flaws, name_flaws, value_option_flaws, with_reserved_name, reserved_again}
 use Rattle.proto_numbers.proofs.Common.{flaw_if, marked, field_number_flaws, broken_ranges, enum_range_of, is_field_number, is_value_number, least_value, most_value, number_of_field, number_of_value, outside, overlaps, range_of, repeated_numbers, reserved_numbers}
-use Rattle.proto_checks_laws.proofs.Common.{IsMoved, moved, statement_ranges_moved, statement_words_moved, maps_kept, maps_moved, move_block_of, move_field_of, move_option_of, statement_names_moved, statement_options_moved, blocks_moved, statements_moved, options_moved, empty_kept, Moves, block_moved, clashes_moved, each, field_moved, field_number_moved, field_numbers_moved, if_moved, move_number_at, move_range_at, names_moved, option_flaws_moved, range_moved}
+use Rattle.proto_checks_laws.proofs.Common.{IsMoved, reindexed_flaw, statement_ranges_moved, statement_words_moved, maps_kept, maps_moved, move_block_of, move_field_of, move_option_of, statement_names_moved, statement_options_moved, blocks_moved, statements_moved, options_moved, empty_kept, Moves, block_moved, clashes_moved, each, field_moved, field_number_moved, field_numbers_moved, if_moved, move_number_at, move_range_at, names_moved, option_flaws_moved, range_moved}
 use Rattle.proto_checks_laws.proofs.DeletedFlaws.{nil_joined, nil_parts, deletions_keep_json_names, deletions_keep_names, deletions_keep_numbers}
-use Rattle.proto_statement_described.specs.Deletions.{Deeper, AtField, AtOneof, BehindBlock, BehindLeaf, Found, FurtherOn, InMessage, IsAmong, IsDeletedIn, IsDeletedRight, PastBlock, PastLeaf, FieldNamesDiffer, DeletionsBringNoFlaw, Reservation, Reserves, WrittenField, field_of, name_of, reserved}
+use Rattle.proto_statement_described.specs.Deletions.{Deeper, AtField, AtOneof, BehindBlock, BehindLeaf, Found, FurtherOn, InMessage, IsAmong, IsDeletedIn, IsDeletedRight, PastBlock, PastLeaf, FieldNamesDiffer, DeletionsBringNoFlaw, Reservation, Reserves, WrittenField, written_field, written_name, reserved}
 use Rattle.proto_statement_described.proofs.Parts.{IsWith, named_one, new_fields, no_ranges, no_words, nothing_with, numbered_one, new_read, old_fields, old_read, outer_fields, outer_statements}
 
 -- ---- nothing in a list
@@ -30,10 +30,10 @@ map_nil f (x ∷ xs) e = absurd cc
 
 -- nothing of what was moved, and of what is moved elsewhere
 from_old : {g : Move} {xs ys : List Flaw} → Moves g xs ys → xs ≡ [] → ys ≡ []
-from_old {g} {xs} {ys} m e = map_nil (moved g) ys (sym m.same ∙ e)
+from_old {g} {xs} {ys} m e = map_nil (reindexed_flaw g) ys (sym m.same ∙ e)
 
 to_new : {g : Move} {xs ys : List Flaw} → Moves g xs ys → ys ≡ [] → xs ≡ []
-to_new {g} {xs} {ys} m e = m.same ∙ ap (map (moved g)) e
+to_new {g} {xs} {ys} m e = m.same ∙ ap (map (reindexed_flaw g)) e
 
 over : {g k : Move} {xs ys zs : List Flaw} → Moves g xs ys → Moves k zs ys → xs ≡ [] → zs ≡ []
 over a b e = to_new b (from_old a e)
@@ -94,7 +94,7 @@ HaveOtherNames scene name fs = AllByRecursion (λ (f : FieldOf). bytes_eq name (
 
 -- ---- scenes
 
-module _ (g k : Move) (middle old new : Scene) (is_old : IsMoved g middle old) (is_new : IsMoved k middle new) (aim : WrittenField) (res : Reservation) (reserving : Reserves old new aim res) (fresh : (i : ℕ) → (g i == name_of aim) ≡ false) where
+module _ (g k : Move) (middle old new : Scene) (is_old : IsMoved g middle old) (is_new : IsMoved k middle new) (aim : WrittenField) (res : Reservation) (reserving : Reserves old new aim res) (fresh : (i : ℕ) → (g i == written_name aim) ≡ false) where
   -- a block that is moved, and moved elsewhere
   block_over : (h : Header) (x : Tree) → block_flaws old (move_header g h) (move_tree g x) ≡ [] → block_flaws new (move_header k h) (move_tree k x) ≡ []
   block_over h x e = over (block_moved g middle old is_old h x) (block_moved k middle new is_new h x) e
@@ -120,15 +120,15 @@ module _ (g k : Move) (middle old new : Scene) (is_old : IsMoved g middle old) (
 
   -- ---- a message
 
-  module _ (x t u : Tree) (sw : IsDeletedRight g k aim res x t u) (others : HaveOtherNames middle (text old (name_of aim)) (fields_in x)) where
-    fields_old : (o : Option ℕ) × IsWith (move_field_of g) (field_of o aim ∷ []) (fields_in x) (fields_in t)
+  module _ (x t u : Tree) (sw : IsDeletedRight g k aim res x t u) (others : HaveOtherNames middle (text old (written_name aim)) (fields_in x)) where
+    fields_old : (o : Option ℕ) × IsWith (move_field_of g) (written_field o aim ∷ []) (fields_in x) (fields_in t)
     fields_old = old_fields g k aim res 0 x t u sw
 
     fields_new : fields_in u ≡ map (move_field_of k) (fields_in x)
     fields_new = new_fields g k aim res 0 x t u sw
 
     gone : FieldOf
-    gone = field_of fields_old.0 aim
+    gone = written_field fields_old.0 aim
 
     front : List FieldOf
     front = fields_old.1.front
@@ -282,10 +282,10 @@ module _ (g k : Move) (middle old new : Scene) (is_old : IsMoved g middle old) (
         ∙ deletions_keep_names new (map k r.front) (map k r.back) (map k names) res.name (ap (λ (z : List ℕ). name_flaws new z (map k names)) (sym parted) ∙ clean) not_yet
         (All-from_recursion (λ (i : ℕ). bytes_eq (value new res.name) (text new i) ≡ false) (map k names) apart)
       where
-        names_word : value new res.name ≡ text old (name_of aim)
+        names_word : value new res.name ≡ text old (written_name aim)
         names_word = reserving.name
 
-        all_apart : value new res.name ≡ text old (name_of aim) → (fs : List FieldOf) → AllByRecursion (λ (f : FieldOf). bytes_eq (text old (name_of aim)) (text middle f.name) ≡ false) fs → AllByRecursion (λ (i : ℕ). bytes_eq (value new res.name) (text new i) ≡ false) (map k (map (λ (f : FieldOf). f.name) fs))
+        all_apart : value new res.name ≡ text old (written_name aim) → (fs : List FieldOf) → AllByRecursion (λ (f : FieldOf). bytes_eq (text old (written_name aim)) (text middle f.name) ≡ false) fs → AllByRecursion (λ (i : ℕ). bytes_eq (value new res.name) (text new i) ≡ false) (map k (map (λ (f : FieldOf). f.name) fs))
         all_apart same [] h = tt
         all_apart same (f ∷ fs) h = (ap₂ bytes_eq same (is_new.texts f.name) ∙ h.0, all_apart same fs h.1)
 
@@ -312,7 +312,7 @@ module _ (g k : Move) (middle old new : Scene) (is_old : IsMoved g middle old) (
   swapped_blocks _ _ _ (AtField rest) e = blocks_over rest e
   swapped_blocks _ _ _ (AtOneof h fd i x t j rest same some at) e =
       let p = block_parts old (move_header g (header.Oneof h)) (g i) t (g j) (move_tree g rest) e in
-      block_whole new (move_header k (header.Oneof h)) (k i) (move_tree k x) (k j) (joined (reserved res) (move_tree k rest))
+      block_whole new (move_header k (header.Oneof h)) (k i) (move_tree k x) (k j) (joined_trees (reserved res) (move_tree k rest))
       (ap (λ b. flaw_if b kind.EmptyOneof (k h.name)) (ap is_empty (statements_moved k x) ∙ empty_kept (move_statement k) (statements x) ∙ some))
       (blocks_over x (ap (flat_map (λ b. block_flaws old b.header b.within)) (sym (among_blocks fd x t at)) ∙ p.1))
       (blocks_over rest p.2)
@@ -324,21 +324,21 @@ module _ (g k : Move) (middle old new : Scene) (is_old : IsMoved g middle old) (
   -- ---- the file
 
   others_in : (x t u : Tree) → IsDeletedRight g k aim res x t u → ((f h : FieldOf) → Contains (fields_in t) f → Contains (fields_in t) h → f.name ≢ h.name → text old f.name ≢ text old h.name)
-      → HaveOtherNames middle (text old (name_of aim)) (fields_in x)
+      → HaveOtherNames middle (text old (written_name aim)) (fields_in x)
   others_in x t u sw apart =
       let fs = old_fields g k aim res 0 x t u sw in
-      let f : FieldOf = field_of fs.0 aim in
+      let f : FieldOf = written_field fs.0 aim in
       let front : List FieldOf = map (move_field_of g) fs.1.front in
       let back : List FieldOf = map (move_field_of g) fs.1.back in
       let among : (z : FieldOf) → Contains (front ++ f ∷ back) z → Contains (fields_in t) z = λ z c. subst (λ (hs : List FieldOf). Contains hs z) (sym fs.1.is) c in
       let own = among f (Contains-append_right front (f ∷ back) f (contains_head f back)) in
-      let other : (z : FieldOf) → Contains (fields_in t) (move_field_of g z) → text old (name_of aim) ≡ text middle z.name → ⊥ =
-      λ z c e. apart (move_field_of g z) f c own (λ q. both_ways (g z.name == name_of aim) (fresh z.name) (eq-eqb (g z.name) (name_of aim) (q ∙ named_one fs.0 aim)))
+      let other : (z : FieldOf) → Contains (fields_in t) (move_field_of g z) → text old (written_name aim) ≡ text middle z.name → ⊥ =
+      λ z c e. apart (move_field_of g z) f c own (λ q. both_ways (g z.name == written_name aim) (fresh z.name) (eq-eqb (g z.name) (written_name aim) (q ∙ named_one fs.0 aim)))
       (is_old.texts z.name ∙ sym e ∙ ap (text old) (sym (named_one fs.0 aim))) in
-      subst (HaveOtherNames middle (text old (name_of aim))) (sym fs.1.all)
-      (both (text old (name_of aim)) fs.1.front fs.1.back
-      (all_other (text old (name_of aim)) fs.1.front (λ z c. other z (among (move_field_of g z) (Contains-append_left front (f ∷ back) (move_field_of g z) (contains_map (move_field_of g) fs.1.front z c)))))
-      (all_other (text old (name_of aim)) fs.1.back (λ z c. other z (among (move_field_of g z) (Contains-append_right front (f ∷ back) (move_field_of g z) (contains_later f (move_field_of g z) back (contains_map (move_field_of g) fs.1.back z c)))))))
+      subst (HaveOtherNames middle (text old (written_name aim))) (sym fs.1.all)
+      (both (text old (written_name aim)) fs.1.front fs.1.back
+      (all_other (text old (written_name aim)) fs.1.front (λ z c. other z (among (move_field_of g z) (Contains-append_left front (f ∷ back) (move_field_of g z) (contains_map (move_field_of g) fs.1.front z c)))))
+      (all_other (text old (written_name aim)) fs.1.back (λ z c. other z (among (move_field_of g z) (Contains-append_right front (f ∷ back) (move_field_of g z) (contains_later f (move_field_of g z) back (contains_map (move_field_of g) fs.1.back z c)))))))
     where
       all_other : (name : List ℕ) (fs : List FieldOf) → ((z : FieldOf) → Contains fs z → name ≡ text middle z.name → ⊥) → HaveOtherNames middle name fs
       all_other name [] h = tt

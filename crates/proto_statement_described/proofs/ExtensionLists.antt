@@ -17,7 +17,7 @@ use Rattle.proto_checks_laws.proofs.Common.{IsMoved, any_kept, extension_ranges_
 use Rattle.proto_desc.specs.SceneOf.{declared_as, meaning_of}
 use Rattle.proto_extensions.specs.Extensions.{ExtensionOf, block_extensions, extendee_in, extensions_in, extensions_of, is_extendable, is_message_at, name_meant, ranges_at_place, ranges_within}
 use Rattle.proto_statement_described.specs.Deletions.{IsDeletedIn, IsDeletedRight, Reservation, WrittenField}
-use Rattle.proto_statement_described.specs.Extensions.{Saying, says}
+use Rattle.proto_statement_described.specs.Extensions.{Saying, saying_of}
 use Rattle.proto_statement_described.specs.Files.{scene_at, tree_at}
 use Rattle.proto_statement_described.proofs.Parts.{new_read, no_ranges, nothing_with, old_read, outer_statements}
 
@@ -25,20 +25,20 @@ use Rattle.proto_statement_described.proofs.Parts.{new_read, no_ranges, nothing_
 
 -- the fields of a block as extensions of what has this name, if there is one
 abbrev pub said_by : Scene → Option (List (List ℕ)) → Tree → List Saying
-said_by scene o within = map says (extensions_of scene o within)
+said_by scene o within = map saying_of (extensions_of scene o within)
 
 -- the same of any block, where references mean these names
 abbrev pub block_says : Scene → (Reference → Option (List (List ℕ))) → BlockOf → List Saying
 block_says scene name b = said_by scene (option_and_then name (extendee_in b.header)) b.within
 
-pub extensions_said : (files : List FileOf) (reads : List ReadOf) (k : ℕ) → map says (extensions_in None files reads k) ≡ flat_map (block_says (scene_at files reads k) (name_meant files reads k)) (blocks_in (tree_at reads k))
+pub extensions_said : (files : List FileOf) (reads : List ReadOf) (k : ℕ) → map saying_of (extensions_in None files reads k) ≡ flat_map (block_says (scene_at files reads k) (name_meant files reads k)) (blocks_in (tree_at reads k))
 extensions_said files reads k = go (blocks_in (tree_at reads k))
   where
-    go : (bs : List BlockOf) → map says (flat_map (block_extensions None files reads k) bs) ≡ flat_map (block_says (scene_at files reads k) (name_meant files reads k)) bs
+    go : (bs : List BlockOf) → map saying_of (flat_map (block_extensions None files reads k) bs) ≡ flat_map (block_says (scene_at files reads k) (name_meant files reads k)) bs
     go [] = refl
     go (b ∷ bs) =
-        map-append says (block_extensions None files reads k b) (flat_map (block_extensions None files reads k) bs)
-        ∙ ap (λ (z : List Saying). map says (block_extensions None files reads k b) ++ z) (go bs)
+        map-append saying_of (block_extensions None files reads k b) (flat_map (block_extensions None files reads k) bs)
+        ∙ ap (λ (z : List Saying). map saying_of (block_extensions None files reads k b) ++ z) (go bs)
 
 -- ---- moved blocks
 
@@ -47,14 +47,14 @@ module _ (g : Move) (a b : Scene) (is : IsMoved g a b) (was now : Reference → 
   abbrev extension_by : Scene → List (List ℕ) → FieldOf → ExtensionOf
   extension_by scene name f = record { number = number_of_field scene f; extendee = name }
 
-  fields_said : (name : List (List ℕ)) (fs : List FieldOf) → map says (map (extension_by b name) (map (move_field_of g) fs)) ≡ map says (map (extension_by a name) fs)
+  fields_said : (name : List (List ℕ)) (fs : List FieldOf) → map saying_of (map (extension_by b name) (map (move_field_of g) fs)) ≡ map saying_of (map (extension_by a name) fs)
   fields_said name [] = refl
   fields_said name (f ∷ fs) =
       ap₂ (λ (n : ℤ) (z : List Saying). (let s : Saying = record { number = n; extendee = name } in s) ∷ z) (number_moved g a b is f.number) (fields_said name fs)
 
   said_moved : (o : Option (List (List ℕ))) (within : Tree) → said_by b o (move_tree g within) ≡ said_by a o within
   said_moved None within = refl
-  said_moved (Some name) within = ap (λ (fs : List FieldOf). map says (map (extension_by b name) fs)) (fields_moved g 0 within) ∙ fields_said name (fields_in within)
+  said_moved (Some name) within = ap (λ (fs : List FieldOf). map saying_of (map (extension_by b name) fs)) (fields_moved g 0 within) ∙ fields_said name (fields_in within)
 
   pub block_said : (h : Header) (within : Tree) → said_by b (option_and_then now (extendee_in (move_header g h))) (move_tree g within) ≡ said_by a (option_and_then was (extendee_in h)) within
   block_said (header.Extend e) within = ap (λ (o : Option (List (List ℕ))). said_by b o (move_tree g within)) (same e.extendee) ∙ said_moved (was e.extendee) within

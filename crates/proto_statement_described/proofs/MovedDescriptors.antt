@@ -18,7 +18,7 @@ use Rattle.proto_tree.proofs.Common.{Move, move_constant, move_map_field, move_o
 use Rattle.proto_case.specs.Camel.{entry_name}
 use Rattle.proto_listing.proofs.Common.{imports_in, items_in, package_moved}
 use Rattle.proto_meaning.proofs.Common.{joined, key_word, package_of, value_word}
-use Rattle.proto_parts.proofs.Common.{is_named, text_of, text_option, truth_named, truth_option, value_named, word_of, word_option, FieldOf, OptionOf, enum_ranges, extension_ranges, fields_in, options_in, reserved_names_in, reserved_ranges, settings_of, statements, values_in, MeantOf, Scene, meant_by, text, value, has_label}
+use Rattle.proto_parts.proofs.Common.{is_named, text_of_constant, text_option, truth_named, truth_option, value_named, word_of, word_option, FieldOf, OptionOf, enum_ranges, extension_ranges, fields_in, options_in, reserved_names_in, reserved_ranges, settings_of, statements, values_in, MeantOf, Scene, meant_by, text, value, has_label}
 use Rattle.proto_checks_laws.proofs.Common.{IsMoved, without_imports, enum_ranges_moved, extension_ranges_moved, fields_moved, file_options_moved, find_moved, flat_kept, given_moved, maps_kept, move_field_of, move_option_of, options_moved, reserved_names_moved, reserved_ranges_moved, settings_moved, some_kept, values_moved, enum_range_moved, json_name_moved, label_moved, named_moved, number_moved, range_moved, signed_moved, text_moved, word_moved}
 use Rattle.proto_numbers.specs.NumberFlaws.{enum_range_of, range_of}
 use Rattle.proto_described.specs.Described.{absolute, below, default_number, default_text, entry_described, entry_field, enum_described, enums_described, extension_described, extensions_described, field_described, field_with, field_number, field_type_name, field_type_of, file_described, file_options, is_map, label_of, message_described, messages_described, method_described, methods_described, mode_named, level_named, number_range, oneof_names, package_named, package_prefix, public_places, scalar_type, service_described, services_described, type_name_of, type_of, type_text, value_described, value_number, value_range}
@@ -27,7 +27,7 @@ use Rattle.proto_descriptors.specs.declared.field.FieldType.TheVariants as field
 use Rattle.proto_descriptors.specs.declared.field.Label.TheVariants as label
 use Rattle.proto_descriptors.specs.declared.file.Syntax.TheVariants as syntax
 use Rattle.proto_descriptors.specs.Descriptors.{EnumDesc, FieldDesc, MessageDesc, Messages, NoMessages, Message, MethodDesc, ServiceDesc}
-use Rattle.proto_statement_described.specs.Common.{with_imports, IsMovedScene}
+use Rattle.proto_statement_described.specs.Common.{with_dependencies, IsMovedScene}
 
 and_then_map : {A B C : Type 0} (f : A → B) (h : B → Option C) (o : Option A) → option_and_then h (option_map f o) ≡ option_and_then (λ x. h (f x)) o
 and_then_map f h None = refl
@@ -72,8 +72,8 @@ module _ (g : Move) (a b : Scene) (all : IsMovedScene g a b) where
 
   texts : (w : List ℕ) (os : List OptionOf) → text_option (text b) (value b) w (map (move_option_of g) os) ≡ text_option (text a) (value a) w os
   texts w os =
-      ap (option_and_then (text_of (value b))) (named w os) ∙ and_then_map (move_constant g) (text_of (value b)) (value_named (text a) w os)
-      ∙ and_then_same (λ c. text_of (value b) (move_constant g c)) (text_of (value a)) (text_moved g a b all.same) (value_named (text a) w os)
+      ap (option_and_then (text_of_constant (value b))) (named w os) ∙ and_then_map (move_constant g) (text_of_constant (value b)) (value_named (text a) w os)
+      ∙ and_then_same (λ c. text_of_constant (value b) (move_constant g c)) (text_of_constant (value a)) (text_moved g a b all.same) (value_named (text a) w os)
 
   truth : (w : List ℕ) (x : Tree) → truth_option (text b) w (options_in (move_tree g x)) ≡ truth_option (text a) w (options_in x)
   truth w x = ap (truth_option (text b) w) (options_moved g x) ∙ truths w (options_in x)
@@ -341,7 +341,7 @@ options_same g a b all os ps e = λ i. record {
 
 -- all but the imports
 pub imports_alone : (g : Move) (a b : Scene) (path : List ℕ) (s t : Tree) → IsMovedScene g a b → without_imports t ≡ move_tree g (without_imports s)
-    → file_described b path t ≡ with_imports (map (λ w. value b w.path) (imports_in t)) (public_places 0 (imports_in t)) (file_described a path s)
+    → file_described b path t ≡ with_dependencies (map (λ w. value b w.path) (imports_in t)) (public_places 0 (imports_in t)) (file_described a path s)
 imports_alone g a b path s t all e = λ i. record {
   name = path;
   «package» = pk i;

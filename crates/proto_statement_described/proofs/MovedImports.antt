@@ -8,7 +8,7 @@ use Rattle.proto_parts.specs.Scenes.{Scene, value}
 use Rattle.proto_checks_laws.proofs.MovedParts.{maps_kept}
 use Rattle.proto_described.specs.Described.{file_described, public_places}
 use Rattle.proto_descriptors.specs.Descriptors.{FileDesc}
-use Rattle.proto_statement_described.specs.Common.{AdditionsAreMapped, DropsAreMapped, HasImport, lowered, with_imports, places_before, without_place, IsMovedScene}
+use Rattle.proto_statement_described.specs.Common.{AdditionsAreMapped, DropsAreMapped, HasImport, lowered, with_dependencies, places_before, without_place, IsMovedScene}
 use Rattle.proto_statement_described.proofs.MovedDescriptors.{imports_alone}
 use Rattle.proto_statement_described.proofs.Places.{place_is, without_is}
 
@@ -119,7 +119,7 @@ additions_are_mapped g a b path w s t scenes i last private =
     let places : public_places 0 (imports_in t) ≡ public_places 0 (imports_in s) =
     places_are g a b w s t scenes i ∙ ap₂ (λ (p : Bool) (ws : List Wanted). public_places 0 i.front ++ ((if p then length i.front ∷ [] else []) ++ public_places (suc (length i.front)) ws)) private last
     ∙ append-nil (public_places 0 i.front) ∙ sym (ap (public_places 0) front) in
-    imports_alone g a b path s t scenes i.others ∙ ap₂ (λ (y : List (List ℕ)) (z : List ℕ). with_imports y z (file_described a path s)) paths places
+    imports_alone g a b path s t scenes i.others ∙ ap₂ (λ (y : List (List ℕ)) (z : List ℕ). with_dependencies y z (file_described a path s)) paths places
 
 pub drops_are_mapped : DropsAreMapped
 drops_are_mapped g a b path w s t scenes i others =
@@ -139,5 +139,5 @@ drops_are_mapped g a b path w s t scenes i others =
     (flat_map-append (low n) (own n w) (public_places (suc n) i.back) ∙ ap₂ (λ (y z : List ℕ). y ++ z) (lowered_same n w) (lowered_behind n n i.back (omega arith)))
     ∙ sym (ap (public_places 0) i.was ∙ publics_append 0 i.front i.back ∙ ap (λ m. public_places 0 i.front ++ public_places m i.back) (from_zero (length i.front))) in
     let whole = imports_alone g a b path s t scenes i.others in
-    sym (ap (λ (d : FileDesc). with_imports (without_place (places_before (bytes_eq gone) now) now) (lowered (places_before (bytes_eq gone) now) (public_places 0 (imports_in t))) d) whole
-    ∙ ap₂ (λ (y : List (List ℕ)) (z : List ℕ). with_imports y z (file_described a path s)) paths places)
+    sym (ap (λ (d : FileDesc). with_dependencies (without_place (places_before (bytes_eq gone) now) now) (lowered (places_before (bytes_eq gone) now) (public_places 0 (imports_in t))) d) whole
+    ∙ ap₂ (λ (y : List (List ℕ)) (z : List ℕ). with_dependencies y z (file_described a path s)) paths places)

@@ -6,12 +6,12 @@ use Rattle.proto_files.proofs.Common.{HasNoFault, AreRead, ReadOf, read_at, File
 use Rattle.proto_parts.specs.Scenes.{Scene}
 use Rattle.proto_numbers.specs.declared.flaw.Flaw.{Flaw}
 use Rattle.proto_checks.specs.FileFlaws.{file_flaws}
-use Rattle.proto_checks_laws.proofs.Common.{moved, imports_move_flaws}
+use Rattle.proto_checks_laws.proofs.Common.{reindexed_flaw, imports_move_flaws}
 use Rattle.proto_described.specs.Described.{file_described}
 use Rattle.proto_descriptors.specs.Descriptors.{FileDesc}
 use Rattle.proto_extensions.specs.Extensions.{workspace_flaws}
-use Rattle.proto_desc.specs.Checked.{CheckFaults, described_from, fault_of, flaws_of, of_flaw}
-use Rattle.proto_statement_described.specs.Files.{AdditionsLeaveNoFault, AdditionsMapDescriptors, DeletionsLeaveNoFault, DeletionsMapDescriptors, DropsLeaveNoFault, DropsMapDescriptors, OthersStay, scene_at, tree_at}
+use Rattle.proto_desc.specs.Checked.{CheckFaults, described_from, fault_of_flaw, flaws_of, of_flaw}
+use Rattle.proto_statement_described.specs.Files.{AdditionsLeaveNoFault, AdditionsMapDescriptors, DeletionsPassTheChecks, DeletionsMapDescriptors, DropsLeaveNoFault, DropsMapDescriptors, OthersStay, scene_at, tree_at}
 use Rattle.proto_statement_described.specs.Common.{with_dependency, without_dependency, changed_at, mapped_deletion}
 use Rattle.proto_statement_described.proofs.DeletedDescriptors.{deletions_are_mapped}
 use Rattle.proto_statement_described.proofs.DeletedFlaws.{deletions_bring_no_flaw, map_nil}
@@ -27,13 +27,13 @@ no_flaws (f ∷ fs) h = absurd (h f (contains_head f fs))
 
 module _ (files : List FileOf) (reads : List ReadOf) (after : List FileOf) (seen : List ReadOf) (place : ℕ) (o : OthersStay files reads after seen place) where
   pub old_flaws : HasNoFault (CheckFaults files) → file_flaws (scene_at files reads place) (tree_at reads place) ≡ []
-  old_flaws clean = no_flaws (file_flaws (scene_at files reads place) (tree_at reads place)) (λ f h. clean (fault_of files reads place f) (of_flaw reads place f o.read o.within (Contains-append_left (file_flaws (scene_at files reads place) (tree_at reads place)) _ f h)))
+  old_flaws clean = no_flaws (file_flaws (scene_at files reads place) (tree_at reads place)) (λ f h. clean (fault_of_flaw files reads place f) (of_flaw reads place f o.read o.within (Contains-append_left (file_flaws (scene_at files reads place) (tree_at reads place)) _ f h)))
 
   -- no flaw of the numbers of extensions
   old_extensions : HasNoFault (CheckFaults files) → (k : ℕ) → k < length files → workspace_flaws None files reads k ≡ []
   old_extensions clean k l =
       let alone : List Flaw = file_flaws (scene_at files reads k) (tree_at reads k) in
-      no_flaws (workspace_flaws None files reads k) (λ f h. clean (fault_of files reads k f) (of_flaw reads k f o.read l (Contains-append_right alone (workspace_flaws None files reads k) f h)))
+      no_flaws (workspace_flaws None files reads k) (λ f h. clean (fault_of_flaw files reads k f) (of_flaw reads k f o.read l (Contains-append_right alone (workspace_flaws None files reads k) f h)))
 
   -- where the file has no flaw, there is no fault
   pub no_fault : HasNoFault (CheckFaults files) → file_flaws (scene_at after seen place) (tree_at seen place) ≡ [] → HasNoFault (CheckFaults after)
@@ -45,7 +45,7 @@ module _ (files : List FileOf) (reads : List ReadOf) (after : List FileOf) (seen
           | inl e ↦ nothing_in f (ap (λ m. file_flaws (scene_at after seen m) (tree_at seen m)) e ∙ none) alone
           | inr n ↦
               let same : file_flaws (scene_at after seen k) (tree_at seen k) ≡ file_flaws (scene_at files reads k) (tree_at reads k) = ap₂ file_flaws (o.scenes k n) (o.trees k n) in
-              clean (fault_of files reads k f) (of_flaw reads k f o.read there (Contains-append_left (file_flaws (scene_at files reads k) (tree_at reads k)) (workspace_flaws None files reads k) f (subst (λ (fs : List Flaw). Contains fs f) same alone)))
+              clean (fault_of_flaw files reads k f) (of_flaw reads k f o.read there (Contains-append_left (file_flaws (scene_at files reads k) (tree_at reads k)) (workspace_flaws None files reads k) f (subst (λ (fs : List Flaw). Contains fs f) same alone)))
         ]
         | inr joint ↦ nothing_in f (no_flaw_of_extensions files reads after seen o.extensions k (old_extensions clean k there)) joint
       ]
@@ -115,7 +115,7 @@ module _ (files : List FileOf) (reads : List ReadOf) (after : List FileOf) (seen
 
 -- ---- the laws
 
-pub deletions_leave_no_fault : DeletionsLeaveNoFault
+pub deletions_leave_no_fault : DeletionsPassTheChecks
 deletions_leave_no_fault files reads after seen place token d linked clean =
     no_fault files reads after seen place d.others clean
     (deletions_bring_no_flaw d.to_old d.to_new d.middle (scene_at files reads place) (scene_at after seen place) d.field d.reservation d.without (tree_at reads place) (tree_at seen place)
@@ -132,7 +132,7 @@ pub additions_leave_no_fault : AdditionsLeaveNoFault
 additions_leave_no_fault files reads after seen place path a clean =
     no_fault files reads after seen place a.others clean
     (imports_move_flaws a.move (scene_at files reads place) (scene_at after seen place) (tree_at reads place) (tree_at seen place) a.scenes.same a.trees.others
-    ∙ ap (map (moved a.move)) (old_flaws files reads after seen place a.others clean))
+    ∙ ap (map (reindexed_flaw a.move)) (old_flaws files reads after seen place a.others clean))
 
 pub additions_map_descriptors : AdditionsMapDescriptors
 additions_map_descriptors files reads after seen place path a ds new was is =
@@ -143,7 +143,7 @@ additions_map_descriptors files reads after seen place path a ds new was is =
 pub drops_leave_no_fault : DropsLeaveNoFault
 drops_leave_no_fault files reads after seen place path d clean =
     no_fault files reads after seen place d.others clean
-    (map_nil (moved d.move) (file_flaws (scene_at after seen place) (tree_at seen place))
+    (map_nil (reindexed_flaw d.move) (file_flaws (scene_at after seen place) (tree_at seen place))
     (sym (imports_move_flaws d.move (scene_at after seen place) (scene_at files reads place) (tree_at seen place) (tree_at reads place) d.scenes.same d.trees.others)
     ∙ old_flaws files reads after seen place d.others clean))
 

@@ -4,10 +4,10 @@ use Rattle.proto_faults.proofs.Common.{map-append, flat_map-append}
 use Rattle.proto_tree.specs.declared.piece.Header.TheVariants as header
 use Rattle.proto_tree.specs.declared.piece.Statement.{Statement}
 use Rattle.proto_tree.specs.declared.tree.Field.{Field}
-use Rattle.proto_tree.proofs.Common.{Move, move_statement, move_tree, Tree, End, Leaf, Block, joined}
+use Rattle.proto_tree.proofs.Common.{Move, move_statement, move_tree, Tree, End, Leaf, Block, joined_trees}
 use Rattle.proto_parts.specs.Parts.{FieldOf, closed_ranges, extension_ranges, extension_words, fields_from, plain_field, reserved_names, reserved_ranges, statement_fields, statement_options, statements}
 use Rattle.proto_checks_laws.proofs.MovedParts.{fields_moved, move_field_of, statement_fields_moved}
-use Rattle.proto_statement_described.specs.Deletions.{Deeper, AtField, AtOneof, BehindBlock, BehindLeaf, Found, FurtherOn, InMessage, IsAmong, IsDeletedIn, IsDeletedRight, PastBlock, PastLeaf, Plain, OfMap, Reservation, WrittenField, field_of, name_of, number_of, reserved, statement_of}
+use Rattle.proto_statement_described.specs.Deletions.{Deeper, AtField, AtOneof, BehindBlock, BehindLeaf, Found, FurtherOn, InMessage, IsAmong, IsDeletedIn, IsDeletedRight, PastBlock, PastLeaf, Plain, OfMap, Reservation, WrittenField, written_field, written_name, written_number, reserved, statement_of}
 
 -- ---- lists with something put in
 
@@ -53,15 +53,15 @@ read_moved g m f r (Block h i within j rest) = read_moved g m f r rest
 
 -- ---- the field
 
-pub declares_one : (o : Option ℕ) (w : WrittenField) → statement_fields o (statement_of w) ≡ field_of o w ∷ []
+pub declares_one : (o : Option ℕ) (w : WrittenField) → statement_fields o (statement_of w) ≡ written_field o w ∷ []
 declares_one o (Plain f) = refl
 declares_one o (OfMap f) = refl
 
-pub named_one : (o : Option ℕ) (w : WrittenField) → (field_of o w).name ≡ name_of w
+pub named_one : (o : Option ℕ) (w : WrittenField) → (written_field o w).name ≡ written_name w
 named_one o (Plain f) = refl
 named_one o (OfMap f) = refl
 
-pub numbered_one : (o : Option ℕ) (w : WrittenField) → (field_of o w).number ≡ number_of w
+pub numbered_one : (o : Option ℕ) (w : WrittenField) → (written_field o w).number ≡ written_number w
 numbered_one o (Plain f) = refl
 numbered_one o (OfMap f) = refl
 
@@ -82,7 +82,7 @@ module _ (g k : Move) (aim : WrittenField) (res : Reservation) where
   old_read m f r none _ _ _ (PastLeaf a x t u h) = ap₂ (λ y z. y ++ z) (r.moves a) (old_read m f r none x t u h) ∙ sym (map-append m (f a) (flat_map f (statements x)))
   old_read m f r none _ _ _ (PastBlock h i within j x t u sw) = old_read m f r none x t u sw
 
-  here : {X : Type 0} (m : X → X) (f : Statement → List X) → IsReader k m f → (rest : Tree) → IsWith m (flat_map f (statements (reserved res))) (flat_map f (statements rest)) (flat_map f (statements (joined (reserved res) (move_tree k rest))))
+  here : {X : Type 0} (m : X → X) (f : Statement → List X) → IsReader k m f → (rest : Tree) → IsWith m (flat_map f (statements (reserved res))) (flat_map f (statements rest)) (flat_map f (statements (joined_trees (reserved res) (move_tree k rest))))
   here {X} m f r rest = record {
     front = [];
     back = flat_map f (statements rest);
@@ -108,11 +108,11 @@ module _ (g k : Move) (aim : WrittenField) (res : Reservation) where
       behind_with (move_field_of g) _ _ _ (statement_fields (Some n) a) (statement_fields (Some n) (move_statement g a)) (statement_fields_moved g (Some n) a) (among_fields n fd x t h)
 
   -- the field comes in among the fields, in a oneof or in none
-  pub old_fields : (n : ℕ) (x t u : Tree) → IsDeletedRight g k aim res x t u → (o : Option ℕ) × IsWith (move_field_of g) (field_of o aim ∷ []) (fields_from n x) (fields_from n t)
+  pub old_fields : (n : ℕ) (x t u : Tree) → IsDeletedRight g k aim res x t u → (o : Option ℕ) × IsWith (move_field_of g) (written_field o aim ∷ []) (fields_from n x) (fields_from n t)
   old_fields n _ _ _ (AtField rest) = (None, record { front = []; back = fields_from n rest; all = refl; is = ap₂ (λ (y z : List FieldOf). y ++ z) (declares_one None aim) (fields_moved g n rest) })
   old_fields n _ _ _ (AtOneof h fd i x t j rest same some at) = (
     Some n,
-    subst (λ (w : WrittenField). IsWith (move_field_of g) (field_of (Some n) w ∷ []) (flat_map (statement_fields (Some n)) (statements x) ++ fields_from (suc n) rest) (flat_map (statement_fields (Some n)) (statements t) ++ fields_from (suc n) (move_tree g rest))) (sym same)
+    subst (λ (w : WrittenField). IsWith (move_field_of g) (written_field (Some n) w ∷ []) (flat_map (statement_fields (Some n)) (statements x) ++ fields_from (suc n) rest) (flat_map (statement_fields (Some n)) (statements t) ++ fields_from (suc n) (move_tree g rest))) (sym same)
         (before_with (move_field_of g) _ _ _ (fields_from (suc n) rest) (fields_from (suc n) (move_tree g rest)) (fields_moved g (suc n) rest) (among_fields n fd x t at)),
   )
   old_fields n _ _ _ (PastLeaf a x t u h) =

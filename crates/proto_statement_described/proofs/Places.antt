@@ -6,8 +6,8 @@ use Rattle.proto_tree.specs.declared.piece.Statement.{Statement}
 use Rattle.proto_tree.specs.declared.tree.Field.{Field}
 use Rattle.proto_tree.proofs.Common.{Move, move_statement, move_tree, Tree}
 use Rattle.proto_parts.specs.Parts.{FieldOf, fields_in, statement_fields, statements}
-use Rattle.proto_checks_laws.proofs.MovedParts.{fields_moved, flat_moved, move_field_of, statement_fields_moved, statements_moved}
-use Rattle.proto_statement_described.specs.Common.{AtField, AtOneof, Found, FurtherOn, IsAmong, IsDeletedRight, OfMap, PastBlock, PastLeaf, Plain, Reservation, WrittenField, name_of, reserved, statement_of, at_place, places_before, with_more, without_place, declare, is_its, is_named_at, statements_before}
+use Rattle.proto_checks_laws.proofs.MovedParts.{fields_moved, flat_map_moved, move_field_of, statement_fields_moved, statements_moved}
+use Rattle.proto_statement_described.specs.Common.{AtField, AtOneof, Found, FurtherOn, IsAmong, IsDeletedRight, OfMap, PastBlock, PastLeaf, Plain, Reservation, WrittenField, written_name, reserved, statement_of, at_place, places_before, with_more, without_place, declare, is_its, is_named_at, statements_before}
 
 -- ---- lists
 
@@ -45,7 +45,7 @@ some_behind p xs ys e = list_any-append p xs ys ∙ ap (λ b. list_any p xs || b
     either true = refl
     either false = refl
 
-pub declares_itself : (w : WrittenField) → declare (name_of w) (statement_of w ∷ []) ≡ true
+pub declares_itself : (w : WrittenField) → declare (written_name w) (statement_of w ∷ []) ≡ true
 declares_itself (Plain f) = ap (λ b. b || false) (is_itself f.name)
 declares_itself (OfMap f) = ap (λ b. b || false) (is_itself f.name)
 
@@ -55,7 +55,7 @@ module _ (g : Move) (token : ℕ) (fresh : (i : ℕ) → (g i == token) ≡ fals
   none_moved (f ∷ fs) = ap₂ (λ b c. b || c) (fresh f.name) (none_moved fs)
 
   pub none_declared : (ss : List Statement) → declare token (map (move_statement g) ss) ≡ false
-  none_declared ss = ap (list_any (is_named_at token)) (flat_moved (move_statement g) (move_field_of g) (statement_fields None) (statement_fields None) (statement_fields_moved g None) ss) ∙ none_moved (flat_map (statement_fields None) ss)
+  none_declared ss = ap (list_any (is_named_at token)) (flat_map_moved (move_statement g) (move_field_of g) (statement_fields None) (statement_fields None) (statement_fields_moved g None) ss) ∙ none_moved (flat_map (statement_fields None) ss)
 
   pub none_in : (x : Tree) → is_its token (move_tree g x) ≡ false
   none_in x = ap (list_any (is_named_at token)) (fields_moved g 0 x) ∙ none_moved (fields_in x)
@@ -75,7 +75,7 @@ module _ (g : Move) (token : ℕ) (fresh : (i : ℕ) → (g i == token) ≡ fals
     pub before : statements_before token t ≡ map (move_statement g) front
     pub new : statements u ≡ map (move_statement k) front ++ (statements (reserved res) ++ map (move_statement k) back)
 
-  pub parted : (k : Move) (res : Reservation) (aim : WrittenField) → name_of aim ≡ token → (x t u : Tree) → IsDeletedRight g k aim res x t u → IsParted k res x t u
+  pub parted : (k : Move) (res : Reservation) (aim : WrittenField) → written_name aim ≡ token → (x t u : Tree) → IsDeletedRight g k aim res x t u → IsParted k res x t u
   parted k res aim is _ _ _ (AtField rest) = record {
     front = [];
     back = statements rest;
@@ -87,7 +87,7 @@ module _ (g : Move) (token : ℕ) (fresh : (i : ℕ) → (g i == token) ≡ fals
     front = [];
     back = statements rest;
     all = refl;
-    before = cond-true (declare token (statements t)) [] (statements_before token (move_tree g rest)) (ap (λ n. declare n (statements t)) (sym is ∙ ap name_of same) ∙ among_declares f x t at);
+    before = cond-true (declare token (statements t)) [] (statements_before token (move_tree g rest)) (ap (λ n. declare n (statements t)) (sym is ∙ ap written_name same) ∙ among_declares f x t at);
     new = ap (λ (ss : List Statement). statements (reserved res) ++ ss) (statements_moved k rest);
   }
   parted k res aim is _ _ _ (PastLeaf a x t u sw) =

@@ -9,7 +9,7 @@ use Rattle.proto_numbers.proofs.Common.{earlier, flaw_if, is_inside, marked}
 use Rattle.proto_checks_laws.proofs.Common.{any_kept}
 use Rattle.proto_checks_laws.proofs.DeletedFlaws.{nil_joined, nil_parts}
 use Rattle.proto_extensions.specs.Extensions.{ExtensionOf, are_same, extensions_before, extensions_in, is_extendable, not_extendable, ranges_named, repeated_extensions, workspace_flaws}
-use Rattle.proto_statement_described.specs.Extensions.{ExtensionsStay, Saying, says}
+use Rattle.proto_statement_described.specs.Extensions.{ExtensionsStay, Saying, saying_of}
 use Rattle.proto_statement_described.proofs.DeletedFlaws.{no_flaw}
 
 -- ---- flaws at other tokens
@@ -30,12 +30,12 @@ marked_elsewhere k (t ∷ ts) (u ∷ us) (b ∷ bs) l n =
 abbrev alike : Saying → Saying → Bool
 alike a b = same_name a.extendee b.extendee && int_eq a.number b.number
 
-earlier_says : (before es : List ExtensionOf) → earlier are_same before es ≡ earlier alike (map says before) (map says es)
+earlier_says : (before es : List ExtensionOf) → earlier are_same before es ≡ earlier alike (map saying_of before) (map saying_of es)
 earlier_says before [] = refl
 earlier_says before (e ∷ es) =
     ap₂ (λ (b : Bool) (bs : List Bool). b ∷ bs)
-    (sym (any_kept says (λ (p : ExtensionOf). are_same p e) (λ (p : Saying). alike p (says e)) (λ p. refl) before))
-    (earlier_says (before ++ e ∷ []) es ∙ ap (λ (z : List Saying). earlier alike z (map says es)) (map-append says before (e ∷ [])))
+    (sym (any_kept saying_of (λ (p : ExtensionOf). are_same p e) (λ (p : Saying). alike p (saying_of e)) (λ p. refl) before))
+    (earlier_says (before ++ e ∷ []) es ∙ ap (λ (z : List Saying). earlier alike z (map saying_of es)) (map-append saying_of before (e ∷ [])))
 
 -- ---- files
 
@@ -43,13 +43,13 @@ module _ (files : List FileOf) (reads : List ReadOf) (after : List FileOf) (seen
   abbrev holds : Saying → Bool
   holds s = list_any (is_inside s.number) (ranges_named None after seen s.extendee)
 
-  no_outside : (xs ys : List ExtensionOf) → map says ys ≡ map says xs → ((e : ExtensionOf) → Contains xs e → is_extendable None after seen e ≡ is_extendable None files reads e)
+  no_outside : (xs ys : List ExtensionOf) → map saying_of ys ≡ map saying_of xs → ((e : ExtensionOf) → Contains xs e → is_extendable None after seen e ≡ is_extendable None files reads e)
       → not_extendable None files reads xs ≡ [] → not_extendable None after seen ys ≡ []
   no_outside xs [] e same n = refl
   no_outside [] (y ∷ ys) e same n = absurd cc
   no_outside (x ∷ xs) (y ∷ ys) e same n =
-      let here : says y ≡ says x = cc in
-      let rest : map says ys ≡ map says xs = cc in
+      let here : saying_of y ≡ saying_of x = cc in
+      let rest : map saying_of ys ≡ map saying_of xs = cc in
       let b : Bool = not (is_extendable None files reads x) in
       let c : Bool = not (is_extendable None after seen y) in
       let p = nil_parts (flaw_if b kind.NotExtendable x.number.token) (not_extendable None files reads xs) n in
@@ -57,12 +57,12 @@ module _ (files : List FileOf) (reads : List ReadOf) (after : List FileOf) (seen
       (elsewhere kind.NotExtendable b c x.number.token y.number.token (ap not (ap holds here ∙ same x (contains_head x xs))) p.0)
       (no_outside xs ys rest (λ z d. same z (contains_later x z xs d)) p.1)
 
-  said_before : (k : ℕ) → map says (extensions_before None after seen k) ≡ map says (extensions_before None files reads k)
+  said_before : (k : ℕ) → map saying_of (extensions_before None after seen k) ≡ map saying_of (extensions_before None files reads k)
   said_before zero = refl
   said_before (suc k) =
-      map-append says (extensions_before None after seen k) (extensions_in None after seen k)
+      map-append saying_of (extensions_before None after seen k) (extensions_in None after seen k)
       ∙ ap₂ (λ (y z : List Saying). y ++ z) (said_before k) (stay.said k)
-      ∙ sym (map-append says (extensions_before None files reads k) (extensions_in None files reads k))
+      ∙ sym (map-append saying_of (extensions_before None files reads k) (extensions_in None files reads k))
 
   pub no_flaw_of_extensions : (k : ℕ) → workspace_flaws None files reads k ≡ [] → workspace_flaws None after seen k ≡ []
   no_flaw_of_extensions k n =
@@ -75,7 +75,7 @@ module _ (files : List FileOf) (reads : List ReadOf) (after : List FileOf) (seen
       let flags : earlier are_same before new ≡ earlier are_same was old =
       earlier_says before new ∙ ap₂ (earlier alike) (said_before k) (stay.said k) ∙ sym (earlier_says was old) in
       let many : length (tokens new) ≡ length (tokens old) =
-      length-map new (λ (e : ExtensionOf). e.number.token) ∙ sym (length-map new says) ∙ ap length (stay.said k) ∙ length-map old says ∙ sym (length-map old (λ (e : ExtensionOf). e.number.token)) in
+      length-map new (λ (e : ExtensionOf). e.number.token) ∙ sym (length-map new saying_of) ∙ ap length (stay.said k) ∙ length-map old saying_of ∙ sym (length-map old (λ (e : ExtensionOf). e.number.token)) in
       nil_joined (not_extendable None after seen new) (repeated_extensions before new)
       (no_outside old new (stay.said k) (stay.extendable k) p.0)
       (ap (marked kind.DuplicateExtension (tokens new)) flags ∙ marked_elsewhere kind.DuplicateExtension (tokens old) (tokens new) (earlier are_same was old) many p.1)

@@ -11,7 +11,7 @@ use Rattle.proto_tree.specs.declared.tree.Field.{Field}
 use Rattle.proto_tree.specs.declared.tree.MapField.{MapField}
 use Rattle.proto_tree.specs.declared.tree.ReservedList.TheVariants as reserved_list
 use Rattle.proto_tree.specs.Moved.{Move, move_header, move_statement, move_tree}
-use Rattle.proto_tree.specs.Tree.{Tree, End, Leaf, Block, joined}
+use Rattle.proto_tree.specs.Tree.{Tree, End, Leaf, Block, joined_trees}
 use Rattle.proto_parts.specs.Parts.{BlockOf, FieldOf, blocks_in, fields_in, map_field, plain_field, statements}
 use Rattle.proto_parts.specs.Scenes.{Scene, number_at, text, value}
 use Rattle.proto_checks.specs.FileFlaws.{file_flaws, is_empty}
@@ -30,19 +30,19 @@ statement_of (Plain f) = statement.Field f
 statement_of (OfMap f) = statement.MapField f
 
 -- the field that it is in a oneof or in none
-abbrev pub field_of : Option ℕ → WrittenField → FieldOf
-field_of oneof (Plain f) = plain_field oneof f
-field_of oneof (OfMap f) = map_field f
+abbrev pub written_field : Option ℕ → WrittenField → FieldOf
+written_field oneof (Plain f) = plain_field oneof f
+written_field oneof (OfMap f) = map_field f
 
 -- the token of its name
-abbrev pub name_of : WrittenField → ℕ
-name_of (Plain f) = f.name
-name_of (OfMap f) = f.name
+abbrev pub written_name : WrittenField → ℕ
+written_name (Plain f) = f.name
+written_name (OfMap f) = f.name
 
 -- the token of its number
-abbrev pub number_of : WrittenField → ℕ
-number_of (Plain f) = f.number
-number_of (OfMap f) = f.number
+abbrev pub written_number : WrittenField → ℕ
+written_number (Plain f) = f.number
+written_number (OfMap f) = f.number
 
 -- the tokens of `reserved N; reserved "name";`
 pub record Reservation : Type 0 where
@@ -84,7 +84,7 @@ pub data IsDeletedRight
     (g k : Move) (w : WrittenField) (r : Reservation) : Tree → Tree → Tree → Type 0 where
   AtField : (rest : Tree)
       → IsDeletedRight g k w r rest (Leaf (statement_of w) (move_tree g rest))
-      (joined (reserved r) (move_tree k rest))
+      (joined_trees (reserved r) (move_tree k rest))
   AtOneof : (h : Heading) (f : Field) (i : ℕ) (x t : Tree) (j : ℕ) (rest : Tree)
       → w ≡ Plain f
       → is_empty (statements x) ≡ false
@@ -92,7 +92,7 @@ pub data IsDeletedRight
       → IsDeletedRight g k w r (Block (header.Oneof h) i x j rest)
       (Block (move_header g (header.Oneof h)) (g i) t (g j) (move_tree g rest))
       (Block (move_header k (header.Oneof h)) (k i) (move_tree k x) (k j)
-      (joined (reserved r) (move_tree k rest)))
+      (joined_trees (reserved r) (move_tree k rest)))
   PastLeaf : (a : Statement) (x t u : Tree)
       → IsDeletedRight g k w r x t u
       → IsDeletedRight g k w r (Leaf a x) (Leaf (move_statement g a) t)
@@ -128,8 +128,8 @@ pub data IsDeletedIn
 
 -- the reservation says the field's number and its name
 pub record Reserves (old new : Scene) (w : WrittenField) (r : Reservation) : Type 0 where
-  pub number : number_at new r.number ≡ number_at old (number_of w)
-  pub name : value new r.name ≡ text old (name_of w)
+  pub number : number_at new r.number ≡ number_at old (written_number w)
+  pub name : value new r.name ≡ text old (written_name w)
 
 -- fields of a message that stand at different tokens have different names
 abbrev pub FieldNamesDiffer : Scene → Tree → Type 0
@@ -149,7 +149,7 @@ DeletionsBringNoFlaw =
     → IsMoved k middle new
     → Reserves old new w r
     → IsDeletedIn g k w r x t u
-    → ((i : ℕ) → (g i == name_of w) ≡ false)
+    → ((i : ℕ) → (g i == written_name w) ≡ false)
     → FieldNamesDiffer old t
     → file_flaws old t ≡ []
     → file_flaws new u ≡ []

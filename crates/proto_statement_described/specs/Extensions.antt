@@ -13,8 +13,8 @@ pub record Saying : Type 0 where
   pub extendee : List Text
 
 -- the same of an extension of a file
-abbrev pub says : ExtensionOf → Saying
-says e = record { number = e.number.number; extendee = e.extendee }
+abbrev pub saying_of : ExtensionOf → Saying
+saying_of e = record { number = e.number.number; extendee = e.extendee }
 
 -- The extensions of each file say what they said, in their order, and what they extend leaves them
 -- their numbers where it did.
@@ -22,7 +22,8 @@ pub record ExtensionsStay
     (files : List FileOf) (reads : List ReadOf) (after : List FileOf) (seen : List ReadOf)
     : Type 0 where
   pub said : (k : ℕ)
-      → map says (extensions_in None after seen k) ≡ map says (extensions_in None files reads k)
+      → map saying_of (extensions_in None after seen k) ≡ map saying_of
+      (extensions_in None files reads k)
   pub extendable : (k : ℕ) (e : ExtensionOf)
       → Contains (extensions_in None files reads k) e
       → is_extendable None after seen e ≡ is_extendable None files reads e

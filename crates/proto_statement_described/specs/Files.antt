@@ -16,7 +16,7 @@ use Rattle.proto_parts.specs.Scenes.{Scene, value}
 use Rattle.proto_descriptors.specs.Descriptors.{FileDesc}
 use Rattle.proto_desc.specs.SceneOf.{scene_of}
 use Rattle.proto_desc.specs.Checked.{AreDescribed, CheckFaults}
-use Rattle.proto_statement_described.specs.Deletions.{IsDeletedIn, Reservation, Reserves, WrittenField, name_of}
+use Rattle.proto_statement_described.specs.Deletions.{IsDeletedIn, Reservation, Reserves, WrittenField, written_name}
 use Rattle.proto_statement_described.specs.Extensions.{ExtensionsStay}
 use Rattle.proto_statement_described.specs.Imports.{HasImport, with_dependency, without_dependency}
 use Rattle.proto_statement_described.specs.Lists.{changed_at}
@@ -50,7 +50,7 @@ pub record OthersStay
 -- The field with this name token is deleted from the file, and its number and name are reserved. Of
 -- one scene and tree without both, the old ones are those with the field put in, and the new ones
 -- those with the reservation put in.
-pub record IsDeletion
+pub record IsFileDeletion
     (files : List FileOf) (reads : List ReadOf) (after : List FileOf) (seen : List ReadOf)
     (place token : ℕ) : Type 0 where
   pub others : OthersStay files reads after seen place
@@ -65,15 +65,15 @@ pub record IsDeletion
   pub says : Reserves (scene_at files reads place) (scene_at after seen place) field reservation
   pub trees : IsDeletedIn to_old to_new field reservation without (tree_at reads place)
       (tree_at seen place)
-  pub named : name_of field ≡ token
-  pub fresh : (i : ℕ) → (to_old i == name_of field) ≡ false
+  pub named : written_name field ≡ token
+  pub fresh : (i : ℕ) → (to_old i == written_name field) ≡ false
 
 -- No fault of the checks comes in, where the old files are linked,
-abbrev pub DeletionsLeaveNoFault : Type 0
-DeletionsLeaveNoFault =
+abbrev pub DeletionsPassTheChecks : Type 0
+DeletionsPassTheChecks =
     (files : List FileOf) (reads : List ReadOf) (after : List FileOf) (seen : List ReadOf)
     (place token : ℕ)
-    → IsDeletion files reads after seen place token
+    → IsFileDeletion files reads after seen place token
     → IsLinked (names_of_files files reads)
     → HasNoFault (CheckFaults files)
     → HasNoFault (CheckFaults after)
@@ -83,7 +83,7 @@ abbrev pub DeletionsMapDescriptors : Type 0
 DeletionsMapDescriptors =
     (files : List FileOf) (reads : List ReadOf) (after : List FileOf) (seen : List ReadOf)
     (place token : ℕ)
-    → IsDeletion files reads after seen place token
+    → IsFileDeletion files reads after seen place token
     → (ds new : List FileDesc)
     → AreDescribed files ds
     → AreDescribed after new
@@ -116,7 +116,7 @@ MapDescriptors IsChange mapped =
     → new ≡ changed_at place (mapped path) ds
 
 -- The file imports the path as well, as its last import, which is not public.
-pub record IsAddition
+pub record IsFileAddition
     (files : List FileOf) (reads : List ReadOf) (after : List FileOf) (seen : List ReadOf)
     (place : ℕ) (path : Path) : Type 0 where
   pub others : OthersStay files reads after seen place
@@ -130,11 +130,11 @@ pub record IsAddition
 
 -- An added import brings no fault of the checks,
 abbrev pub AdditionsLeaveNoFault : Type 0
-AdditionsLeaveNoFault = LeaveNoFault IsAddition
+AdditionsLeaveNoFault = LeaveNoFault IsFileAddition
 
 -- and the descriptors are the old ones, of which that of the file has one dependency more.
 abbrev pub AdditionsMapDescriptors : Type 0
-AdditionsMapDescriptors = MapDescriptors IsAddition with_dependency
+AdditionsMapDescriptors = MapDescriptors IsFileAddition with_dependency
 
 -- The file imports the path no more: the old file is the new one with the import put in, and
 -- had no earlier import of the path.

@@ -17,8 +17,8 @@ use Rattle.proto_statement_described.specs.Scenes.{IsMovedScene}
 -- ---- descriptors
 
 -- with other imports
-abbrev pub with_imports : List Path → List ℕ → FileDesc → FileDesc
-with_imports dependency public d = record {
+abbrev pub with_dependencies : List Path → List ℕ → FileDesc → FileDesc
+with_dependencies dependency public d = record {
   name = d.name;
   «package» = d.«package»;
   dependency = dependency;
@@ -33,7 +33,7 @@ with_imports dependency public d = record {
 
 -- the path comes in last, and is no public import
 abbrev pub with_dependency : Path → FileDesc → FileDesc
-with_dependency path d = with_imports (d.dependency ++ path ∷ []) d.public_dependency d
+with_dependency path d = with_dependencies (d.dependency ++ path ∷ []) d.public_dependency d
 
 -- a place goes, and those behind it are lowered by one
 abbrev pub lowered : ℕ → List ℕ → List ℕ
@@ -43,7 +43,7 @@ lowered n places =
 -- the path goes, and its place from the public ones
 abbrev pub without_dependency : Path → FileDesc → FileDesc
 without_dependency path d =
-    with_imports (without_place (places_before (bytes_eq path) d.dependency) d.dependency)
+    with_dependencies (without_place (places_before (bytes_eq path) d.dependency) d.dependency)
     (lowered (places_before (bytes_eq path) d.dependency) d.public_dependency) d
 
 -- ---- trees

@@ -13,7 +13,7 @@ use Rattle.proto_parts.specs.Scenes.{Scene}
 use Rattle.proto_described.specs.Described.{file_described}
 use Rattle.proto_descriptors.specs.declared.message.NumberRange.{NumberRange}
 use Rattle.proto_descriptors.specs.Descriptors.{FieldDesc, FileDesc, MessageDesc, Messages, NoMessages, Message}
-use Rattle.proto_statement_described.specs.Deletions.{IsDeletedIn, Reservation, Reserves, WrittenField, name_of}
+use Rattle.proto_statement_described.specs.Deletions.{IsDeletedIn, Reservation, Reserves, WrittenField, written_name}
 use Rattle.proto_statement_described.specs.Lists.{at_place, places_before, with_more, without_place}
 use Rattle.proto_statement_described.specs.Scenes.{IsMovedScene}
 
@@ -80,20 +80,23 @@ abbrev pub is_its : ℕ → Tree → Bool
 is_its token within = list_any (is_named_at token) (fields_in within)
 
 -- the messages of a file or of a message, of which one at any depth has the field
-abbrev pub mapped_messages : ℕ → Tree → Messages → Messages
-mapped_messages token End ms = ms
-mapped_messages token (Leaf (statement.MapField f) rest) NoMessages = NoMessages
-mapped_messages token (Leaf (statement.MapField f) rest) (Message m nested more) =
-    Message m nested (mapped_messages token rest more)
-mapped_messages token (Leaf s rest) ms = mapped_messages token rest ms
-mapped_messages token (Block (header.Message h) opens within closes rest) NoMessages = NoMessages
-mapped_messages token (Block (header.Message h) opens within closes rest) (Message m nested more) =
+abbrev pub messages_with_deletion : ℕ → Tree → Messages → Messages
+messages_with_deletion token End ms = ms
+messages_with_deletion token (Leaf (statement.MapField f) rest) NoMessages = NoMessages
+messages_with_deletion token (Leaf (statement.MapField f) rest) (Message m nested more) =
+    Message m nested (messages_with_deletion token rest more)
+messages_with_deletion token (Leaf s rest) ms = messages_with_deletion token rest ms
+messages_with_deletion token (Block (header.Message h) opens within closes rest) NoMessages =
+    NoMessages
+messages_with_deletion token (Block (header.Message h) opens within closes rest)
+    (Message m nested more) =
     Message (if is_its token within then without_field token within m else m)
     (if is_its token within
     then without_entry token within nested
-    else mapped_messages token within nested)
-    (mapped_messages token rest more)
-mapped_messages token (Block h opens within closes rest) ms = mapped_messages token rest ms
+    else messages_with_deletion token within nested)
+    (messages_with_deletion token rest more)
+messages_with_deletion token (Block h opens within closes rest) ms =
+    messages_with_deletion token rest ms
 
 -- a file, all else of which stays
 abbrev pub mapped_deletion : ℕ → Tree → FileDesc → FileDesc
@@ -102,7 +105,7 @@ mapped_deletion token tree d = record {
   «package» = d.«package»;
   dependency = d.dependency;
   public_dependency = d.public_dependency;
-  message_type = mapped_messages token tree d.message_type;
+  message_type = messages_with_deletion token tree d.message_type;
   enum_type = d.enum_type;
   service = d.service;
   extension = d.extension;
@@ -112,13 +115,13 @@ mapped_deletion token tree d = record {
 
 -- A deletion maps the descriptor so, where the field's name token
 -- is not that of anything that stays.
-abbrev pub DeletionsAreMapped : Type 0
-DeletionsAreMapped =
+abbrev pub DeletionsMapTheDescriptor : Type 0
+DeletionsMapTheDescriptor =
     (g k : Move) (middle old new : Scene) (path : Path) (w : WrittenField) (r : Reservation)
     (x t u : Tree)
     → IsMovedScene g middle old
     → IsMovedScene k middle new
     → Reserves old new w r
     → IsDeletedIn g k w r x t u
-    → ((i : ℕ) → (g i == name_of w) ≡ false)
-    → file_described new path u ≡ mapped_deletion (name_of w) t (file_described old path t)
+    → ((i : ℕ) → (g i == written_name w) ≡ false)
+    → file_described new path u ≡ mapped_deletion (written_name w) t (file_described old path t)

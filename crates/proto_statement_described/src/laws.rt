@@ -1,10 +1,10 @@
 //! The laws, as functions that do nothing.
 
 ghost use Rattle.proto_statement_described.specs.Deletions.{DeletionsBringNoFlaw};
-ghost use Rattle.proto_statement_described.specs.Files.{AdditionsLeaveNoFault, AdditionsMapDescriptors, DeletionsLeaveNoFault, DeletionsMapDescriptors, DropsLeaveNoFault, DropsMapDescriptors};
+ghost use Rattle.proto_statement_described.specs.Files.{AdditionsLeaveNoFault, AdditionsMapDescriptors, DeletionsPassTheChecks, DeletionsMapDescriptors, DropsLeaveNoFault, DropsMapDescriptors};
 ghost use Rattle.proto_statement_described.specs.Imports.{AdditionsAreMapped, DropsAreMapped};
 ghost use Rattle.proto_statement_described.specs.Kept.{DeletionsKeepVersions, ImportsKeepVersions, NewTokensAreOwn, OthersKeepApart};
-ghost use Rattle.proto_statement_described.specs.Mapped.{DeletionsAreMapped};
+ghost use Rattle.proto_statement_described.specs.Mapped.{DeletionsMapTheDescriptor};
 ghost use Rattle.proto_statement_described.specs.Scenes.{ScenesAreMoved};
 
 /// Where the tokens of a file are moved and an import comes in or goes, its descriptor
@@ -23,7 +23,7 @@ pub fn deletions_bring_no_flaw()
 /// The descriptor of the file is then the old one without the field, with its number and name
 /// reserved where it stood, or behind its oneof.
 pub fn deletions_are_mapped()
-    ensures { DeletionsAreMapped }
+    ensures { DeletionsMapTheDescriptor }
 {}
 
 /// A scene with the tokens of another at moved indices reads the same at these, and
@@ -44,7 +44,7 @@ pub fn tokens_and_versions_are_kept()
 /// The deletion of a field from one of some files brings no fault of the checks, and changes
 /// the descriptor of that file alone.
 pub fn deletions_leave_files_clean()
-    ensures faults { DeletionsLeaveNoFault }
+    ensures faults { DeletionsPassTheChecks }
     ensures descriptors { DeletionsMapDescriptors }
 {}
 

@@ -8,7 +8,7 @@ use Rattle.proto_entries.specs.declared.refusal.Refusal.{Refusal}
 use Rattle.proto_entries.specs.declared.refusal.Refusal.TheVariants as refusal
 use Rattle.proto_imports.specs.Links.{link_imports, link_skeleton, names_of_files, text_of, uses_of}
 use Rattle.proto_meaning.proofs.Common.{Leads, IsOvertaken, At, at, used_in, Workspace, Used, reference_of}
-use Rattle.proto_captures.proofs.Common.{IsCapturedPlace, StandsAtToken, IsFirstPlace, StandsBefore}
+use Rattle.proto_captures.proofs.Common.{IsCapturedPlace, RefusalStandsAtToken, IsFirstPlace, StandsBefore}
 use Rattle.proto_captures.specs.Overtaking.{IsFirstOvertaken, Overtakes}
 use Rattle.proto_statement_changes.proofs.Common.{splice_of_addition, IsTooLong}
 use Rattle.proto_statement_names.specs.Cases.{AdditionCase, IsImported, IsNoFile, IsOvertakenIn, IsPlaceOf, already_imported, captured, cycle, unknown_file, unknown_path, with_added}
@@ -113,7 +113,7 @@ module _ (files : List FileOf) (reads : List ReadOf) (are : AreRead files reads)
       | inr (inr (inr (inr x))) ↦ (let e = x.0 in omega (arith, l, e))
     ]
 
-    first_place : (token : ℕ) → IsFirstOvertaken files reads v k (Some token) → (where_is : List ℕ) (offset : ℕ) → StandsAtToken files k token where_is offset
+    first_place : (token : ℕ) → IsFirstOvertaken files reads v k (Some token) → (where_is : List ℕ) (offset : ℕ) → RefusalStandsAtToken files k token where_is offset
         → IsFirstPlace files reads (IsOvertakenIn files reads k to) where_is offset
     first_place token x where_is offset stands = record {
       u = used_in k x.0;

@@ -13,7 +13,7 @@ use Rattle.proto_tree.specs.declared.tree.Block.{Block as Braced}
 use Rattle.proto_tree.specs.declared.tree.Field.{Field}
 use Rattle.proto_tree.specs.declared.tree.Member.{Member}
 use Rattle.proto_tree.specs.declared.tree.Signature.{Signature}
-use Rattle.proto_tree.proofs.Common.{field_tree, member_tree, message_tree, oneof_tree, trees, Tree, End, Leaf, Block, IsWellFormed, after, allows, header_kind, joined, statement_kind}
+use Rattle.proto_tree.proofs.Common.{field_tree, member_tree, message_tree, oneof_tree, trees, Tree, End, Leaf, Block, IsWellFormed, after, allows, header_kind, joined_trees, statement_kind}
 
 or_assoc : (a b c : Bool) → ((a || b) || c) ≡ (a || (b || c))
 or_assoc true b c = refl
@@ -23,7 +23,7 @@ or_none : (a : Bool) → (a || false) ≡ a
 or_none true = refl
 or_none false = refl
 
-pub alone_joined : (name : ℕ) (t u : Tree) → alone_in name (joined t u) ≡ (alone_in name t || alone_in name u)
+pub alone_joined : (name : ℕ) (t u : Tree) → alone_in name (joined_trees t u) ≡ (alone_in name t || alone_in name u)
 alone_joined name End u = refl
 alone_joined name (Leaf s rest) u = alone_joined name rest u
 alone_joined name (Block (header.Message h) i within j rest) u =

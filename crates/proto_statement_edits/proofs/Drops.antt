@@ -7,7 +7,7 @@ use Rattle.proto_entries.specs.declared.refusal.Refusal.{Refusal}
 use Rattle.proto_entries.specs.declared.refusal.Refusal.TheVariants as refusal
 use Rattle.proto_meaning.proofs.Common.{At, Used}
 use Rattle.proto_names.specs.declared.link.RefId.{RefId}
-use Rattle.proto_captures.proofs.Common.{StandsAtToken, IsFirstPlace}
+use Rattle.proto_captures.proofs.Common.{RefusalStandsAtToken, IsFirstPlace}
 use Rattle.proto_statement_names.specs.Cases.{DropCase, IsImported, IsNeededIn, IsNoFile, IsPlaceOf, needed, no_such_file, not_imported}
 use Rattle.proto_statement_edits.specs.Edits.{IsDropCase, IsDropRefusal}
 use Rattle.proto_statement_edits.specs.Steps.{IsFirstNeeded, IsNeededAtToken}
@@ -87,7 +87,7 @@ module _ (files : List FileOf) (reads : List ReadOf) (are : AreRead files reads)
       | inr (inr x) ↦ none x.1.1 (subst (λ m. IsNeededIn files reads m path x.1.1) (same_Some x.1.0 k (sym x.1.2 ∙ place)) x.1.3)
     ]
 
-    first_place : (id : RefId) → IsFirstNeeded files reads k path (Some id) → (where_is : List ℕ) (offset : ℕ) → StandsAtToken files id.file id.token where_is offset
+    first_place : (id : RefId) → IsFirstNeeded files reads k path (Some id) → (where_is : List ℕ) (offset : ℕ) → RefusalStandsAtToken files id.file id.token where_is offset
         → IsFirstPlace files reads (IsNeededIn files reads k path) where_is offset
     first_place id x where_is offset stands = record {
       u = x.0;

@@ -7,7 +7,7 @@ use Rattle.proto_imports.specs.Links.{LinkFaults, names_of_files}
 use Rattle.proto_meaning.specs.declared.kind.Kind.{Kind}
 use Rattle.proto_meaning.specs.declared.kind.Kind.TheVariants.{Field, Package}
 use Rattle.proto_meaning.proofs.Common.{place_from, place_of, at, joined, is_package, Symbol}
-use Rattle.proto_names.proofs.Common.{HoldsNames, IsLinkOf, LinkOf, NameOf, file_at, name_at, own_file, own_token, text_at, token_at}
+use Rattle.proto_names.proofs.Common.{HoldsNames, IsLinkOf, LinkOf, NameOf, declaring_file, name_at, own_file, own_token, name_text, declaring_token}
 use Rattle.proto_captures.proofs.Common.{IsUnknown, Target, place_last}
 use Rattle.proto_statement_changes.proofs.Common.{FieldAt, splice_of_deletion, IsTooLong}
 use Rattle.proto_statement_names.proofs.Common.{DeletionCase, IsAlone, IsField, kind_not_allowed, last_of_oneof, unknown_target, fields_are_there}
@@ -59,7 +59,7 @@ module _ (files : List FileOf) (reads : List ReadOf) (are : AreRead files reads)
   names : HoldsNames (names_of_files files reads) l
   names = (link reads are).by.names
 
-  pub refused_1 : ((row : ℕ) → text_at l row ≢ Some name) → IsDeletionRefusal files name refusal.UnknownTarget
+  pub refused_1 : ((row : ℕ) → name_text l row ≢ Some name) → IsDeletionRefusal files name refusal.UnknownTarget
   refused_1 none = record { is = (reads, are, by_name 1 (unknown_target unknown)); least = below }
     where
       unknown : IsUnknown files reads name
@@ -77,7 +77,7 @@ module _ (files : List FileOf) (reads : List ReadOf) (are : AreRead files reads)
 
   -- ---- a name of the link
 
-  module _ (row : ℕ) (text : text_at l row ≡ Some name) where
+  module _ (row : ℕ) (text : name_text l row ≡ Some name) where
     has : (n : NameOf) × (name_at l row ≡ Some n) × (n.text ≡ name)
     has = named_at l row name text
 
@@ -113,16 +113,16 @@ module _ (files : List FileOf) (reads : List ReadOf) (are : AreRead files reads)
       field : has.0.kind ≡ Field
       field = field_from has.0.kind (sym (ap is_field told) ∙ h)
 
-      file_is : file_at l row ≡ Some (get_or has.0.files 0 0)
+      file_is : declaring_file l row ≡ Some (get_or has.0.files 0 0)
       file_is = ap (option_and_then own_file) has.1 ∙ cond-false (is_package has.0.kind) None (Some (get_or has.0.files 0 0)) (no_package has.0.kind field)
 
-      token_is : token_at l row ≡ Some has.0.token
+      token_is : declaring_token l row ≡ Some has.0.token
       token_is = ap (option_and_then own_token) has.1 ∙ cond-false (is_package has.0.kind) None (Some has.0.token) (no_package has.0.kind field)
 
-      pub has_file : file_at l row ≡ None → ⊥
+      pub has_file : declaring_file l row ≡ None → ⊥
       has_file e = none-some (get_or has.0.files 0 0) (sym e ∙ file_is)
 
-      pub has_token : token_at l row ≡ None → ⊥
+      pub has_token : declaring_token l row ≡ None → ⊥
       has_token e = none-some has.0.token (sym e ∙ token_is)
 
       module _ (clean : HasNoFault (LinkFaults files)) where
@@ -151,7 +151,7 @@ module _ (files : List FileOf) (reads : List ReadOf) (are : AreRead files reads)
         target : (t : Target) × IsField files reads name t
         target = fields_are_there files reads name are known allowed
 
-        pub target_at : (file token : ℕ) → file_at l row ≡ Some file → token_at l row ≡ Some token → (t : Target) × IsField files reads name t × (t.token ≡ at file token)
+        pub target_at : (file token : ℕ) → declaring_file l row ≡ Some file → declaring_token l row ≡ Some token → (t : Target) × IsField files reads name t × (t.token ≡ at file token)
         target_at file token f k =
             let t = target in
             let file_same : get_or has.0.files 0 0 ≡ file = same_Some (get_or has.0.files 0 0) file (sym file_is ∙ f) in

@@ -12,7 +12,7 @@ use Rattle.proto_tree.specs.declared.piece.Statement.{Statement}
 use Rattle.proto_tree.specs.declared.piece.Statement.TheVariants as statement
 use Rattle.proto_tree.specs.Tree.{Tree, End, Leaf, Block, IsWellFormed, after, allows, field_kind, header_kind, statement_kind}
 use Rattle.proto_statement_laws.specs.Deletions.{AfterBlock, AfterLeaf, Deeper, First, InMessage, InOneof, IsFieldOf, PastBlock, PastLeaf, StandsAt, StandsIn}
-use Rattle.proto_statement_edits.specs.FieldPlaces.{FieldAt, field_among, field_if, field_in, has_name, number_token, or_else}
+use Rattle.proto_statement_edits.specs.FieldPlaces.{FieldStatement, field_among, field_if, field_in, has_name, number_token, or_else}
 
 -- ---- the first of two
 
@@ -37,16 +37,16 @@ field_named name number (statement.MapField f) h = eq-eqb f.name name h.0
 field_named name number _ h = absurd h
 
 -- what is found is this statement
-pub record IsFieldAs (name : ℕ) (close : Option ℕ) (a : FieldAt) : Type 0 where
+pub record IsFieldAs (name : ℕ) (close : Option ℕ) (a : FieldStatement) : Type 0 where
   pub close_is : a.close ≡ close
   pub field : IsFieldOf a.statement name (number_token a.statement)
 
-found_if : (name : ℕ) (close : Option ℕ) (s : Statement) (a : FieldAt) → field_if name close s ≡ Some a → (s ≡ a.statement) × IsFieldAs name close a
+found_if : (name : ℕ) (close : Option ℕ) (s : Statement) (a : FieldStatement) → field_if name close s ≡ Some a → (s ≡ a.statement) × IsFieldAs name close a
 found_if name close s a h = elim (cases_Bool (has_name name s)) [
   | inl t ↦
-      let same : (let b : FieldAt = record { statement = s; close = close } in b) ≡ a = same_Some (record { statement = s; close = close }) a (sym (cond-true (has_name name s) (Some (record { statement = s; close = close })) None t) ∙ h) in
-      let e : s ≡ a.statement = ap (λ (z : FieldAt). z.statement) same in
-      (e, record { close_is = sym (ap (λ (z : FieldAt). z.close) same); field = subst (λ z. IsFieldOf z name (number_token z)) e (named_field name s t) })
+      let same : (let b : FieldStatement = record { statement = s; close = close } in b) ≡ a = same_Some (record { statement = s; close = close }) a (sym (cond-true (has_name name s) (Some (record { statement = s; close = close })) None t) ∙ h) in
+      let e : s ≡ a.statement = ap (λ (z : FieldStatement). z.statement) same in
+      (e, record { close_is = sym (ap (λ (z : FieldStatement). z.close) same); field = subst (λ z. IsFieldOf z name (number_token z)) e (named_field name s t) })
   | inr f ↦ absurd (none-some a (sym (cond-false (has_name name s) (Some (record { statement = s; close = close })) None f) ∙ h))
 ]
 
@@ -55,7 +55,7 @@ found_if name close s a h = elim (cases_Bool (has_name name s)) [
 leaf_here : (s x : Statement) (rest : Tree) → s ≡ x → StandsIn x (Leaf s rest)
 leaf_here s x rest e = subst (λ z. StandsIn x (Leaf z rest)) (sym e) (First rest)
 
-stands_among : (name : ℕ) (close : Option ℕ) (t : Tree) (a : FieldAt) → field_among name close t ≡ Some a → StandsIn a.statement t × IsFieldAs name close a
+stands_among : (name : ℕ) (close : Option ℕ) (t : Tree) (a : FieldStatement) → field_among name close t ≡ Some a → StandsIn a.statement t × IsFieldAs name close a
 stands_among name close End a h = absurd (none-some a h)
 stands_among name close (Leaf s rest) a h = elim (or_some (field_if name close s) (field_among name close rest) a h) [
   | inl e ↦ (let x = found_if name close s a e in (leaf_here s a.statement rest x.0, x.1))
@@ -64,22 +64,22 @@ stands_among name close (Leaf s rest) a h = elim (or_some (field_if name close s
 stands_among name close (Block k i within j rest) a h = let x = stands_among name close rest a h in (AfterBlock k i within j rest x.0, x.1)
 
 -- right among these, or in one of their messages
-abbrev StandsFound : FieldAt → Tree → Type 0
+abbrev StandsFound : FieldStatement → Tree → Type 0
 StandsFound a t = (StandsIn a.statement t × (a.close ≡ None)) ⊎ StandsAt a.statement a.close t
 
-past_leaf : (a : FieldAt) (s : Statement) (rest : Tree) → StandsFound a rest → StandsFound a (Leaf s rest)
+past_leaf : (a : FieldStatement) (s : Statement) (rest : Tree) → StandsFound a rest → StandsFound a (Leaf s rest)
 past_leaf a s rest (inl (k, c)) = inl (AfterLeaf s rest k, c)
 past_leaf a s rest (inr k) = inr (PastLeaf a.close s rest k)
 
-past_block : (a : FieldAt) (h : Header) (i : ℕ) (within : Tree) (j : ℕ) (rest : Tree) → StandsFound a rest → StandsFound a (Block h i within j rest)
+past_block : (a : FieldStatement) (h : Header) (i : ℕ) (within : Tree) (j : ℕ) (rest : Tree) → StandsFound a rest → StandsFound a (Block h i within j rest)
 past_block a h i within j rest (inl (k, c)) = inl (AfterBlock h i within j rest k, c)
 past_block a h i within j rest (inr k) = inr (PastBlock a.close h i within j rest k)
 
-in_block : (a : FieldAt) (h : Heading) (i : ℕ) (within : Tree) (j : ℕ) (rest : Tree) → StandsFound a within → StandsFound a (Block (header.Message h) i within j rest)
+in_block : (a : FieldStatement) (h : Heading) (i : ℕ) (within : Tree) (j : ℕ) (rest : Tree) → StandsFound a within → StandsFound a (Block (header.Message h) i within j rest)
 in_block a h i within j rest (inl (k, c)) = inr (subst (λ o. StandsAt a.statement o (Block (header.Message h) i within j rest)) (sym c) (InMessage h i within j rest k))
 in_block a h i within j rest (inr k) = inr (Deeper a.close h i within j rest k)
 
-found_in : (name : ℕ) (t : Tree) (a : FieldAt) → field_in name t ≡ Some a → StandsFound a t × IsFieldOf a.statement name (number_token a.statement)
+found_in : (name : ℕ) (t : Tree) (a : FieldStatement) → field_in name t ≡ Some a → StandsFound a t × IsFieldOf a.statement name (number_token a.statement)
 found_in name End a h = absurd (none-some a h)
 found_in name (Leaf s rest) a h = elim (or_some (field_if name None s) (field_in name rest) a h) [
   | inl e ↦ (let x = found_if name None s a e in (inl (leaf_here s a.statement rest x.0, x.1.close_is), x.1.field))
@@ -145,7 +145,7 @@ none_outer {s} c _ name number o f (First rest) w = not_allowed c s name number 
 none_outer c _ name number o f (AfterLeaf x rest k) w = none_outer (after c (statement_kind x)) rest name number (outer_after c (statement_kind x) o) f k w.1
 none_outer c _ name number o f (AfterBlock h i within j rest k) w = none_outer (after c (header_kind h)) rest name number (outer_after c (header_kind h) o) f k w.2
 
-pub stands_found : (name : ℕ) (t : Tree) (a : FieldAt) → IsWellFormed context.Start t → field_in name t ≡ Some a → StandsAt a.statement a.close t × IsFieldOf a.statement name (number_token a.statement)
+pub stands_found : (name : ℕ) (t : Tree) (a : FieldStatement) → IsWellFormed context.Start t → field_in name t ≡ Some a → StandsAt a.statement a.close t × IsFieldOf a.statement name (number_token a.statement)
 stands_found name t a w h = let x = found_in name t a h in (by x.1 x.0, x.1)
   where
     by : IsFieldOf a.statement name (number_token a.statement) → StandsFound a t → StandsAt a.statement a.close t

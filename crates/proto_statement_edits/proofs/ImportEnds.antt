@@ -5,9 +5,9 @@ use Rattle.proto_statement_laws.specs.Imports.{behind_import, behind_package, be
 use Rattle.proto_statement_edits.specs.declared.import_places.LastEnds.{LastEnds}
 use Rattle.proto_statement_edits.specs.Common.{or_else, behind_all, ends_in, ends_of, place_behind, with_statement}
 use Rattle.proto_tree.specs.declared.piece.Statement.TheVariants as statement
-use Rattle.proto_tree.specs.Tree.{Tree, End, Leaf, Block, joined}
+use Rattle.proto_tree.specs.Tree.{Tree, End, Leaf, Block, joined_trees}
 
-pub ends_joined : (e : LastEnds) (t u : Tree) → ends_in e (joined t u) ≡ ends_in (ends_in e t) u
+pub ends_joined : (e : LastEnds) (t u : Tree) → ends_in e (joined_trees t u) ≡ ends_in (ends_in e t) u
 ends_joined e End u = refl
 ends_joined e (Leaf s rest) u = ends_joined (with_statement e s) rest u
 ends_joined e (Block h i within j rest) u = ends_joined e rest u

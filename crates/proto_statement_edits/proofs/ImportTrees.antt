@@ -4,7 +4,7 @@ use Rattle.proto_faults.proofs.Common.{cases_Bool, cond-false, cond-true, none-s
 use Rattle.proto_tree.specs.declared.piece.Statement.{Statement}
 use Rattle.proto_tree.specs.declared.piece.Statement.TheVariants as statement
 use Rattle.proto_tree.specs.declared.tree.Import.{Import}
-use Rattle.proto_tree.specs.Tree.{Tree, End, Leaf, Block, joined}
+use Rattle.proto_tree.specs.Tree.{Tree, End, Leaf, Block, joined_trees}
 use Rattle.proto_statement_laws.specs.Deletions.{AfterBlock, AfterLeaf, First, StandsIn}
 use Rattle.proto_statement_edits.specs.FieldPlaces.{or_else}
 use Rattle.proto_statement_edits.specs.Imported.{import_if, import_in}
@@ -14,16 +14,16 @@ or_else_assoc None b c = refl
 or_else_assoc (Some x) b c = refl
 
 module _ (says : ℕ → Bool) where
-  pub import_joined : (t u : Tree) → import_in says (joined t u) ≡ or_else (import_in says t) (import_in says u)
+  pub import_joined : (t u : Tree) → import_in says (joined_trees t u) ≡ or_else (import_in says t) (import_in says u)
   import_joined End u = refl
   import_joined (Leaf s rest) u = ap (or_else (import_if says s)) (import_joined rest u) ∙ sym (or_else_assoc (import_if says s) (import_in says rest) (import_in says u))
   import_joined (Block h i within j rest) u = import_joined rest u
 
   -- the first of two
-  pub import_here : (t u : Tree) (i : Import) → Some i ≡ import_in says t → Some i ≡ import_in says (joined t u)
+  pub import_here : (t u : Tree) (i : Import) → Some i ≡ import_in says t → Some i ≡ import_in says (joined_trees t u)
   import_here t u i h = ap (λ o. or_else o (import_in says u)) h ∙ sym (import_joined t u)
 
-  pub import_behind : (t u : Tree) → None ≡ import_in says t → import_in says (joined t u) ≡ import_in says u
+  pub import_behind : (t u : Tree) → None ≡ import_in says t → import_in says (joined_trees t u) ≡ import_in says u
   import_behind t u h = import_joined t u ∙ ap (λ o. or_else o (import_in says u)) (sym h)
 
   -- ---- what is found stands there

@@ -2,14 +2,14 @@
 use Rattle.std.proofs.Common.{◌≡◌, ◌↔◌, ℕ, ◌<◌, Bool, true, false, ◌==◌, not, List, [], ◌∷◌, ◌++◌, length, get_or, filter, refl, sym, ◌∙◌, ap, subst, inl, inr, arith, slice_set, Option, Some, None, option_map, Contains, bytes_eq, eqb-true, eq-eqb}
 use Rattle.proto_faults.proofs.Common.{and_from, and_parts, both_ways, cases_eq, length-map, Contains-append_cases, Contains-append_left, Contains-append_right, position-Some, none-some, same_Some, contains_cases, contains_head, same_from_word, word_from_same, contains_filter, from_filter}
 use Rattle.proto_files.proofs.Common.{ReadOf, FileOf, paths_of}
-use Rattle.proto_meaning.proofs.Common.{Asked, file_of, import_at, imports_of, Import}
+use Rattle.proto_meaning.proofs.Common.{AskedImport, file_with_path, import_from_asked, imports_of, Import}
 use Rattle.proto_imports.proofs.Common.{all_imports, import_from, link_imports}
 use Rattle.proto_imports.specs.declared.import.FileImport.{FileImport}
 use Rattle.proto_statement_names.proofs.Common.{IsPlaceOf, asked_in, is_import_of, import_own, own_import, set_imports}
 use Rattle.proto_statement_names.proofs.Imports.{asked_import, import_asked}
 
 -- two paths at one place are one
-pub one_path : (paths : List (List ℕ)) (a b : List ℕ) (k : ℕ) → file_of paths a ≡ Some k → file_of paths b ≡ Some k → a ≡ b
+pub one_path : (paths : List (List ℕ)) (a b : List ℕ) (k : ℕ) → file_with_path paths a ≡ Some k → file_with_path paths b ≡ Some k → a ≡ b
 one_path paths a b k e f =
     let p = position-Some (bytes_eq a) paths k [] e in
     let q = position-Some (bytes_eq b) paths k [] f in
@@ -63,29 +63,29 @@ module _ (files : List FileOf) (reads : List ReadOf) (k to : ℕ) (path : List �
   abbrev paths : List (List ℕ)
   paths = paths_of files
 
-  abbrev asked : List Asked
+  abbrev asked : List AskedImport
   asked = asked_in files reads
 
-  abbrev resolved : Asked → ℕ → Import
+  abbrev resolved : AskedImport → ℕ → Import
   resolved a t = record { from = a.place.file; to = t; is_public = a.is_public }
 
   -- what an import that was asked for is
-  named : (a : Asked) (i : Import) → import_at paths a ≡ Some i → (file_of paths a.path ≡ Some i.to) × (a.place.file ≡ i.from)
-  named a i h = by (file_of paths a.path) refl
+  named : (a : AskedImport) (i : Import) → import_from_asked paths a ≡ Some i → (file_with_path paths a.path ≡ Some i.to) × (a.place.file ≡ i.from)
+  named a i h = by (file_with_path paths a.path) refl
     where
-      by : (o : Option ℕ) → file_of paths a.path ≡ o → (file_of paths a.path ≡ Some i.to) × (a.place.file ≡ i.from)
+      by : (o : Option ℕ) → file_with_path paths a.path ≡ o → (file_with_path paths a.path ≡ Some i.to) × (a.place.file ≡ i.from)
       by None e = absurd (none-some i (sym (ap (option_map (resolved a)) e) ∙ h))
       by (Some t) e =
           let same : resolved a t ≡ i = same_Some (resolved a t) i (sym (ap (option_map (resolved a)) e) ∙ h) in
           (e ∙ ap Some (ap (λ (x : Import). x.to) same), ap (λ (x : Import). x.from) same)
 
   -- an import of the path by the file is that of the place by it
-  dropped : (a : Asked) (i : Import) → import_at paths a ≡ Some i → (is_import_of k path a ≡ true) ↔ ((i.from ≡ k) × (i.to ≡ to))
+  dropped : (a : AskedImport) (i : Import) → import_from_asked paths a ≡ Some i → (is_import_of k path a ≡ true) ↔ ((i.from ≡ k) × (i.to ≡ to))
   dropped a i h =
       let n = named a i h in (
         λ e. (
             let p = and_parts (a.place.file == k) (bytes_eq a.path path) e in
-            (sym n.1 ∙ eqb-true a.place.file k p.0, same_Some i.to to (sym n.0 ∙ ap (file_of paths) (word_from_same a.path path p.1) ∙ place))),
+            (sym n.1 ∙ eqb-true a.place.file k p.0, same_Some i.to to (sym n.0 ∙ ap (file_with_path paths) (word_from_same a.path path p.1) ∙ place))),
         λ e. and_from (a.place.file == k) (bytes_eq a.path path) (eq-eqb a.place.file k (n.1 ∙ e.0)) (same_from_word a.path path (one_path paths a.path path to (n.0 ∙ ap Some e.1) place)),
       )
 
@@ -93,7 +93,7 @@ module _ (files : List FileOf) (reads : List ReadOf) (k to : ℕ) (path : List �
   abbrev is_left : FileImport → Bool
   is_left x = not (x.to == to)
 
-  abbrev is_kept : Asked → Bool
+  abbrev is_kept : AskedImport → Bool
   is_kept a = not (is_import_of k path a)
 
   pub one_less : (is : List (List FileImport)) → k < length is → all_imports 0 is ≡ link_imports files reads → (i : Import)

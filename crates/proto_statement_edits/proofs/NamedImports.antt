@@ -14,10 +14,10 @@ use Rattle.proto_tree.specs.declared.tree.Item.{Item}
 use Rattle.proto_tree.proofs.Common.{item_tree, tree_of_file, trees, Tree, End, Leaf, Block}
 use Rattle.proto_files.proofs.Common.{ReadOf, AreRead, read_at, FileOf, file_at, is_string, string_at}
 use Rattle.proto_listing.proofs.Common.{Wanted, imports_in, statement_imports, import_here as path_here, imports_are_strings}
-use Rattle.proto_meaning.proofs.Common.{Asked, At}
+use Rattle.proto_meaning.proofs.Common.{AskedImport, At}
 use Rattle.proto_imports.specs.Links.{all_wanted, asked_as, text_of}
 use Rattle.proto_statement_laws.specs.Deletions.{AfterBlock, AfterLeaf, First, StandsIn}
-use Rattle.proto_statement_changes.specs.OneFile.{word_of}
+use Rattle.proto_statement_changes.specs.OneFile.{word_of_token}
 use Rattle.proto_statement_names.specs.Cases.{IsImported, asked_in}
 use Rattle.proto_statement_edits.specs.Imported.{IsImportNamed, import_in}
 use Rattle.proto_statement_edits.proofs.ImportTrees.{import_here, import_there, none_there}
@@ -104,7 +104,7 @@ asked_there T n (r ∷ rs) (suc k) w l c =
     Contains-append_right (map (asked_as T n) (imports_in r.tree)) (all_wanted T (suc n) rs) (asked_as T (n + suc k) w)
     (subst (λ m. Contains (all_wanted T (suc n) rs) (asked_as T m w)) e (asked_there T (suc n) rs k w (omega (arith, l)) c))
 
-asked_from : (T : At → List ℕ) (n : ℕ) (rs : List ReadOf) (a : Asked) → Contains (all_wanted T n rs) a → (k : ℕ) × (w : Wanted) × (k < length rs) × Contains (imports_in (read_at rs k).tree) w × (asked_as T (n + k) w ≡ a)
+asked_from : (T : At → List ℕ) (n : ℕ) (rs : List ReadOf) (a : AskedImport) → Contains (all_wanted T n rs) a → (k : ℕ) × (w : Wanted) × (k < length rs) × Contains (imports_in (read_at rs k).tree) w × (asked_as T (n + k) w ≡ a)
 asked_from T n [] a c = absurd (omega (arith, c.1))
 asked_from T n (r ∷ rs) a c = elim (Contains-append_cases (map (asked_as T n) (imports_in r.tree)) (all_wanted T (suc n) rs) a c) [
   | inl d ↦
@@ -137,28 +137,28 @@ module _ (files : List FileOf) (reads : List ReadOf) (are : AreRead files reads)
   found : (i : Import) → import_in says tree ≡ Some i → IsImportNamed files reads file path (Some i)
   found i h =
       let x = import_there says tree i h in
-      let value : value_of (word_of files reads file i.path) ≡ Some path = ap (λ z. value_of (word_at z i.path)) (sym lexemes) ∙ value_said ls i.path path x.1 in
+      let value : value_of (word_of_token files reads file i.path) ≡ Some path = ap (λ z. value_of (word_at z i.path)) (sym lexemes) ∙ value_said ls i.path path x.1 in
       let w : Wanted = record { path = i.path; is_public = is_some i.public } in
       let e : 0 + file ≡ file = omega arith in
       let c = subst (λ m. Contains (asked_in files reads) (asked_as T m w)) e (asked_there T 0 reads file w inside (stands_wanted i tree x.0)) in
-      ((asked_as T file w, c, refl, ap or_nothing value), record { within = within; stands = x.0; value = (value_is_value_of (word_of files reads file i.path) path).1 value })
+      ((asked_as T file w, c, refl, ap or_nothing value), record { within = within; stands = x.0; value = (value_is_value_of (word_of_token files reads file i.path) path).1 value })
 
   none : import_in says tree ≡ None → IsImported files reads file path → ⊥
   none h x =
       let a = x.0 in
       let o = asked_from T 0 reads a x.1 in
       let e : 0 + o.0 ≡ o.0 = omega arith in
-      let here : o.0 ≡ file = sym e ∙ ap (λ (z : Asked). z.place.file) o.4 ∙ x.2 in
+      let here : o.0 ≡ file = sym e ∙ ap (λ (z : AskedImport). z.place.file) o.4 ∙ x.2 in
       let c : Contains (imports_in tree) o.1 = subst (λ k. Contains (imports_in (read_at reads k).tree) o.1) here o.3 in
       let w = o.1 in
       let bytes = (file_at files file).bytes in
       let tokens = (read_at reads file).tokens in
       let s = wanted_stands tree w c in
       let string = imports_are_strings bytes tokens tree (are.trees file within) w c in
-      let v = strings_have_values (word_of files reads file w.path) string in
-      let value : value_of (word_of files reads file w.path) ≡ Some v.0 = value_again (word_of files reads file w.path) v.0 v.1 in
+      let v = strings_have_values (word_of_token files reads file w.path) string in
+      let value : value_of (word_of_token files reads file w.path) ≡ Some v.0 = value_again (word_of_token files reads file w.path) v.0 v.1 in
       let asked : asked_as T file w ≡ a = subst (λ m. asked_as T m w ≡ a) (e ∙ here) o.4 in
-      let same : v.0 ≡ path = sym (ap or_nothing value) ∙ ap (λ (z : Asked). z.path) asked ∙ x.3 in
+      let same : v.0 ≡ path = sym (ap or_nothing value) ∙ ap (λ (z : AskedImport). z.path) asked ∙ x.3 in
       let all = map (lexeme_at bytes) tokens in
       let none_at : Lexeme = record { kind = Word; text = [] } in
       let there = path_here bytes tokens tree (are.trees file within) w c in

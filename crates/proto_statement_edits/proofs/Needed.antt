@@ -6,7 +6,7 @@ use Rattle.proto_files.proofs.Common.{HasNoFault, ReadOf, AreRead, FileOf}
 use Rattle.proto_imports.specs.Links.{LinkFaults, link_skeleton, names_of_files, text_of, uses_of, used_named}
 use Rattle.proto_meaning.proofs.Common.{IsNeeded, At, at, used_in, ArePlain, joined, IsLinked, is_package, MarksSeen, Reference, Symbol, Workspace, hit, is_type, meaning, meaning_at, sees, shows, typed, Used, reference_of, joined_apart, typed_is, package_from, one_symbol, shown}
 use Rattle.proto_meaning.specs.declared.kind.Kind.{Kind}
-use Rattle.proto_names.proofs.Common.{HoldsNames, IsLinkOf, TextMeant, meant_by_link, meant_by_use, LinkOf, NameOf, file_at, name_at, own_file, text_at, from_use, use_there}
+use Rattle.proto_names.proofs.Common.{HoldsNames, IsLinkOf, TextMeant, meant_by_link, meant_by_use, LinkOf, NameOf, declaring_file, name_at, own_file, name_text, from_use, use_there}
 use Rattle.proto_names.specs.declared.references.Meant.{Meant}
 use Rattle.proto_captures.proofs.Common.{StandsBefore, files_are_linked}
 use Rattle.proto_statement_names.specs.Cases.{IsNeededIn, with_dropped}
@@ -46,14 +46,14 @@ own_is n g h = elim (cases_Bool (is_package n.kind)) [
   | inr f ↦ (f, same_Some (get_or n.files 0 0) g (sym (cond-false (is_package n.kind) None (Some (get_or n.files 0 0)) f) ∙ h))
 ]
 
-file_is : (l : LinkOf) (row g : ℕ) → file_at l row ≡ Some g → (n : NameOf) × (name_at l row ≡ Some n) × (is_package n.kind ≡ false) × (get_or n.files 0 0 ≡ g)
+file_is : (l : LinkOf) (row g : ℕ) → declaring_file l row ≡ Some g → (n : NameOf) × (name_at l row ≡ Some n) × (is_package n.kind ≡ false) × (get_or n.files 0 0 ≡ g)
 file_is l row g h = by (name_at l row) refl
   where
     by : (o : Option NameOf) → name_at l row ≡ o → (n : NameOf) × (name_at l row ≡ Some n) × (is_package n.kind ≡ false) × (get_or n.files 0 0 ≡ g)
     by None e = absurd (none-some g (sym (ap (option_and_then own_file) e) ∙ h))
     by (Some n) e = let x = own_is n g (sym (ap (option_and_then own_file) e) ∙ h) in (n, e, x.0, x.1)
 
-pub named_at : (l : LinkOf) (row : ℕ) (text : List ℕ) → text_at l row ≡ Some text → (n : NameOf) × (name_at l row ≡ Some n) × (n.text ≡ text)
+pub named_at : (l : LinkOf) (row : ℕ) (text : List ℕ) → name_text l row ≡ Some text → (n : NameOf) × (name_at l row ≡ Some n) × (n.text ≡ text)
 named_at l row text h = by (name_at l row) refl
   where
     by : (o : Option NameOf) → name_at l row ≡ o → (n : NameOf) × (name_at l row ≡ Some n) × (n.text ≡ text)
@@ -98,10 +98,10 @@ module _ (files : List FileOf) (reads : List ReadOf) (are : AreRead files reads)
         by None h = absurd (linked.resolved (used_named T file u) (contains_map (reference_of T entry_name) (link_skeleton files reads).used (used_in file u) there) h)
         by (Some m) h = (m, h)
 
-    forth : (u : Used ℕ) (m : List (List ℕ)) → meaning w (used_named T file u) ≡ Some m → (row : ℕ) → text_at l row ≡ Some (joined m) → is_hidden l marks row ≡ true → P u
+    forth : (u : Used ℕ) (m : List (List ℕ)) → meaning w (used_named T file u) ≡ Some m → (row : ℕ) → name_text l row ≡ Some (joined m) → is_hidden l marks row ≡ true → P u
     forth u m means row text h =
         let q = used_named T file u in
-        let f = hidden_file marks (file_at l row) h in
+        let f = hidden_file marks (declaring_file l row) h in
         let n = file_is l row f.0 f.1 in
         let named : n.0.text ≡ joined m = same_Some n.0.text (joined m) (sym (ap (option_map (λ (z : NameOf). z.text)) n.1) ∙ text) in
         let own = names.declared row n.0 n.1 in
@@ -111,7 +111,7 @@ module _ (files : List FileOf) (reads : List ReadOf) (are : AreRead files reads)
         let same : s.0.name ≡ m = joined_apart s.0.name m (names.plain s.0 s.1) plain (s.2 ∙ named) in
         (s.0, s.1, means ∙ ap Some (sym same), ap (λ g. sees v file g) (s.4 ∙ n.3) ∙ sym (seen f.0) ∙ sym (marked_is marks f.0) ∙ f.2)
 
-    back : (u : Used ℕ) (row : ℕ) → (p : P u) → text_at l row ≡ Some (joined p.0.name) → is_hidden l marks row ≡ true
+    back : (u : Used ℕ) (row : ℕ) → (p : P u) → name_text l row ≡ Some (joined p.0.name) → is_hidden l marks row ≡ true
     back u row p text =
         let q = used_named T file u in
         let n = named_at l row (joined p.0.name) text in
@@ -135,7 +135,7 @@ module _ (files : List FileOf) (reads : List ReadOf) (are : AreRead files reads)
     decided : (u : Used ℕ) → Contains (uses_of reads file) u → IsDecided u
     decided u c y same =
         let m = has_meaning u c in
-        let text : text_at l y.row ≡ Some (joined m.0) = ap (λ (z : TextMeant). z.text) same ∙ ap (option_map joined) m.1 in (
+        let text : name_text l y.row ≡ Some (joined m.0) = ap (λ (z : TextMeant). z.text) same ∙ ap (option_map joined) m.1 in (
           λ h. forth u m.0 m.1 y.row text h,
           λ p. back u y.row p (text ∙ ap (λ z. Some (joined z)) (same_Some m.0 p.0.name (sym m.1 ∙ p.2))),
         )

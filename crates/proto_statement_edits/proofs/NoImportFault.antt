@@ -4,7 +4,7 @@ use Rattle.proto_faults.specs.declared.fault.FaultKind.{FaultKind}
 use Rattle.proto_faults.specs.declared.fault.FaultKind.TheVariants as kind
 use Rattle.proto_files.proofs.Common.{FaultAt, HasNoFault, ReadOf, AreRead, read_at, FileOf, file_at, paths_of}
 use Rattle.proto_text.specs.Texts.{offset_at}
-use Rattle.proto_meaning.specs.Faults.{Asked, Fault, ImportFault, IsLeast, cycle, double, fault, file_of, unknown}
+use Rattle.proto_meaning.specs.Faults.{AskedImport, Fault, ImportFault, IsLeast, cycle, double, fault, file_with_path, unknown}
 use Rattle.proto_imports.specs.Links.{LinkFaults, all_wanted, of_import, text_of}
 use Rattle.proto_statement_names.specs.Cases.{IsImported, IsNoFile}
 
@@ -18,10 +18,10 @@ module _ (files : List FileOf) (reads : List ReadOf) (are : AreRead files reads)
   no_import f (cycle a to ca h l) = clean (standing f kind.ImportCycle) (of_import reads f (standing f kind.ImportCycle) are (record { path = refl; offset = refl; number = refl }) (cycle a to ca h l))
 
   -- so none is the least of what is asked for
-  pub no_least : (paths : List (List ℕ)) (asked : List Asked) (f : Fault) → paths ≡ paths_of files → asked ≡ all_wanted (text_of files reads) 0 reads → IsLeast (ImportFault paths asked) f → ⊥
+  pub no_least : (paths : List (List ℕ)) (asked : List AskedImport) (f : Fault) → paths ≡ paths_of files → asked ≡ all_wanted (text_of files reads) 0 reads → IsLeast (ImportFault paths asked) f → ⊥
   no_least paths asked f same_paths same_asked least =
-      no_import f (subst (λ (ps : List (List ℕ)). ImportFault ps (all_wanted (text_of files reads) 0 reads) f) same_paths (subst (λ (xs : List Asked). ImportFault paths xs f) same_asked least.holds))
+      no_import f (subst (λ (ps : List (List ℕ)). ImportFault ps (all_wanted (text_of files reads) 0 reads) f) same_paths (subst (λ (xs : List AskedImport). ImportFault paths xs f) same_asked least.holds))
 
   -- and each path that is imported is that of a file
   pub none_missing : (k : ℕ) (path : List ℕ) → IsImported files reads k path → IsNoFile files path → ⊥
-  none_missing k path x none = no_import (fault x.0.place 10) (unknown x.0 x.1 (ap (file_of (paths_of files)) x.3 ∙ none))
+  none_missing k path x none = no_import (fault x.0.place 10) (unknown x.0 x.1 (ap (file_with_path (paths_of files)) x.3 ∙ none))

@@ -7,11 +7,11 @@ use Rattle.proto_files.specs.GivenFiles.{FileOf, file_at}
 use Rattle.proto_entries.specs.declared.refusal.Refusal.{Refusal}
 use Rattle.proto_entries.specs.declared.refusal.Refusal.TheVariants as refusal
 use Rattle.proto_entries.specs.Entries.{ChangeOf}
-use Rattle.proto_entries.specs.RefusalTable.{number_of}
+use Rattle.proto_entries.specs.RefusalTable.{refusal_number}
 use Rattle.proto_meaning.specs.Grown.{at}
 use Rattle.proto_captures.specs.Targets.{Target}
 use Rattle.proto_tree.specs.declared.tree.Import.{Import}
-use Rattle.proto_statement_changes.specs.DeletionChanges.{FieldAt, IsFieldAt, changes_of_deletion, number_of_field, splice_of_deletion}
+use Rattle.proto_statement_changes.specs.DeletionChanges.{FieldAt, IsFieldAt, changes_of_deletion, field_number_value, splice_of_deletion}
 use Rattle.proto_statement_changes.specs.ImportChanges.{IsImportOf, changes_of_addition, changes_of_drop, splice_of_addition}
 use Rattle.proto_statement_changes.specs.OneFile.{IsTooLong}
 use Rattle.proto_statement_names.specs.Cases.{AdditionCase, DeletionCase, DropCase, IsField, IsNeededAt, IsOvertakenAt, IsPlaceOf}
@@ -53,10 +53,11 @@ abbrev pub IsDeletionRefusal : List FileOf → Text → Refusal → Type 0
 IsDeletionRefusal files name refusal.NoMemory = Unit {0}
 IsDeletionRefusal files name (refusal.Captured path offset) = ⊥
 IsDeletionRefusal files name (refusal.Needed path offset) = ⊥
-IsDeletionRefusal files name r = IsLeastOf (IsDeletionCase files name) (number_of r)
+IsDeletionRefusal files name r = IsLeastOf (IsDeletionCase files name) (refusal_number r)
 
 -- no case refuses it, and these are the changes
-pub record IsDeleted (files : List FileOf) (name : Text) (cs : List ChangeOf) : Type 0 where
+pub record HasDeletionChanges (files : List FileOf) (name : Text)
+    (cs : List ChangeOf) : Type 0 where
   pub admissible : (n : ℕ) → IsDeletionCase files name n → ⊥
   pub changes : SomeReading files (λ reads.
       (f : FieldAt) × IsFieldNamed files reads name f × (cs ≡ changes_of_deletion files reads f))
@@ -67,7 +68,7 @@ HaveSmallNumbers files = (reads : List ReadOf)
     → AreRead files reads
     → (f : FieldAt)
     → IsFieldAt files reads f
-    → number_of_field files reads f < 2 ^ 64
+    → field_number_value files reads f < 2 ^ 64
 
 -- ---- an import added
 
@@ -92,10 +93,11 @@ IsAdditionRefusal files file path (refusal.Captured place offset) =
     IsLeastOf (IsAdditionCase files file path) 7
     × SomeReading files (λ reads. IsOvertakenAt files reads file path (string_bytes place) offset)
 IsAdditionRefusal files file path (refusal.Needed place offset) = ⊥
-IsAdditionRefusal files file path r = IsLeastOf (IsAdditionCase files file path) (number_of r)
+IsAdditionRefusal files file path r = IsLeastOf (IsAdditionCase files file path) (refusal_number r)
 
 -- no case refuses it, and these are the changes
-pub record IsAdded (files : List FileOf) (file path : Path) (cs : List ChangeOf) : Type 0 where
+pub record HasAdditionChanges (files : List FileOf) (file path : Path)
+    (cs : List ChangeOf) : Type 0 where
   pub admissible : (n : ℕ) → IsAdditionCase files file path n → ⊥
   pub changes : SomeReading files
       (λ reads. (k : ℕ) × IsPlaceOf files file k × (cs ≡ changes_of_addition files reads k path))
@@ -113,10 +115,11 @@ IsDropRefusal files file path (refusal.Captured place offset) = ⊥
 IsDropRefusal files file path (refusal.Needed place offset) =
     IsLeastOf (IsDropCase files file path) 15
     × SomeReading files (λ reads. IsNeededAt files reads file path (string_bytes place) offset)
-IsDropRefusal files file path r = IsLeastOf (IsDropCase files file path) (number_of r)
+IsDropRefusal files file path r = IsLeastOf (IsDropCase files file path) (refusal_number r)
 
 -- no case refuses it, and these are the changes
-pub record IsDropped (files : List FileOf) (file path : Path) (cs : List ChangeOf) : Type 0 where
+pub record HasDropChanges (files : List FileOf) (file path : Path)
+    (cs : List ChangeOf) : Type 0 where
   pub admissible : (n : ℕ) → IsDropCase files file path n → ⊥
   pub changes : SomeReading files (λ reads. (k : ℕ) × (i : Import) × IsPlaceOf files file k
       × IsImportOf files reads k path i × (cs ≡ changes_of_drop files reads k i))

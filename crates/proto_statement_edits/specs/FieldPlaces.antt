@@ -9,7 +9,7 @@ use Rattle.proto_statement_laws.specs.Deletions.{first_token}
 use Rattle.proto_statement_edits.specs.declared.fields.FieldPlace.{FieldPlace}
 
 -- a field's statement, and the `}` of the oneof around it, if it is of one
-pub record FieldAt : Type 0 where
+pub record FieldStatement : Type 0 where
   pub statement : Statement
   pub close : Option ℕ
 
@@ -25,18 +25,18 @@ or_else (Some x) other = Some x
 or_else None other = other
 
 -- the statement, with the `}` of its oneof, if it declares the field with this name token
-abbrev pub field_if : ℕ → Option ℕ → Statement → Option FieldAt
+abbrev pub field_if : ℕ → Option ℕ → Statement → Option FieldStatement
 field_if name close s =
     if has_name name s then Some (record { statement = s; close = close }) else None
 
 -- the first such field among the statements of a block
-abbrev pub field_among : ℕ → Option ℕ → Tree → Option FieldAt
+abbrev pub field_among : ℕ → Option ℕ → Tree → Option FieldStatement
 field_among name close End = None
 field_among name close (Leaf s rest) = or_else (field_if name close s) (field_among name close rest)
 field_among name close (Block h i within j rest) = field_among name close rest
 
 -- the first such field of a tree: right in a message, or in a oneof of one, at any depth
-abbrev pub field_in : ℕ → Tree → Option FieldAt
+abbrev pub field_in : ℕ → Tree → Option FieldStatement
 field_in name End = None
 field_in name (Leaf s rest) = or_else (field_if name None s) (field_in name rest)
 field_in name (Block (header.Message h) i within j rest) =
@@ -52,17 +52,17 @@ number_token (statement.MapField f) = f.number
 number_token _ = 0
 
 -- the `;` of the statement of a field
-abbrev pub last_token : Statement → ℕ
-last_token (statement.Field f) = f.semicolon
-last_token (statement.MapField f) = f.semicolon
-last_token _ = 0
+abbrev pub statement_end : Statement → ℕ
+statement_end (statement.Field f) = f.semicolon
+statement_end (statement.MapField f) = f.semicolon
+statement_end _ = 0
 
 -- the tokens that are told of it
-abbrev pub place_of : FieldAt → FieldPlace
-place_of a = record {
+abbrev pub place_of_statement : FieldStatement → FieldPlace
+place_of_statement a = record {
   first = first_token a.statement;
   number = number_token a.statement;
-  semicolon = last_token a.statement;
+  semicolon = statement_end a.statement;
   oneof = a.close;
 }
 

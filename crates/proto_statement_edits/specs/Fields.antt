@@ -12,7 +12,7 @@ use Rattle.proto_meaning.specs.Grown.{at}
 use Rattle.proto_captures.specs.Targets.{Target}
 use Rattle.proto_statement_edits.specs.declared.deleting.FieldName.{FieldName}
 use Rattle.proto_statement_names.specs.Cases.{IsField}
-use Rattle.proto_statement_edits.specs.FieldPlaces.{field_in, place_of}
+use Rattle.proto_statement_edits.specs.FieldPlaces.{field_in, place_of_statement}
 use Rattle.proto_statement_edits.specs.declared.fields.FieldPlace.{FieldPlace}
 
 -- whether a symbol of this kind is a written field
@@ -34,7 +34,8 @@ IsFieldToken files reads name field = (t : Target)
 -- where the statement of this name token stands
 abbrev pub IsPlaceOfField : List FileOf → List ReadOf → FieldName → FieldPlace → Type 0
 IsPlaceOfField files reads field place =
-    option_map place_of (field_in field.token (read_at reads field.file).tree) ≡ Some place
+    option_map place_of_statement (field_in field.token (read_at reads field.file).tree)
+    ≡ Some place
 
 -- ---- the tokens of the statement
 
@@ -44,15 +45,15 @@ last_by None semicolon = semicolon
 last_by (Some close) semicolon = close
 
 -- the last token that is replaced where the field stands here: its `;`, or its oneof's `}`
-abbrev pub last_of : FieldPlace → ℕ
-last_of p = last_by p.oneof p.semicolon
+abbrev pub last_replaced : FieldPlace → ℕ
+last_replaced p = last_by p.oneof p.semicolon
 
 -- these are tokens of the file, in order
 abbrev pub StandsInOrder : List FileOf → ℕ → FieldPlace → Type 0
 StandsInOrder files file p = (p.first ≤ p.semicolon)
-    × (p.semicolon ≤ last_of p)
+    × (p.semicolon ≤ last_replaced p)
     × ((tokens : List Token) → AreTokens (file_at files file).bytes tokens
-    → last_of p < length tokens)
+    → last_replaced p < length tokens)
 
 -- what comes in their place, with the reservation
 abbrev pub text_if : Text → List Token → ℕ → Option ℕ → Text → Text

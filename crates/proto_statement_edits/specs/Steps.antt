@@ -14,9 +14,9 @@ use Rattle.proto_meaning.specs.Grown.{At, at}
 use Rattle.proto_meaning.specs.Marks.{MarksSeen}
 use Rattle.proto_meaning.specs.Names.{Workspace}
 use Rattle.proto_meaning.specs.Skeleton.{Used}
-use Rattle.proto_names.specs.Linking.{LinkOf, file_at as file_of_row}
+use Rattle.proto_names.specs.Linking.{LinkOf, declaring_file as file_of_row}
 use Rattle.proto_names.specs.declared.link.RefId.{RefId}
-use Rattle.proto_captures.specs.CapturedPlaces.{StandsAtToken}
+use Rattle.proto_captures.specs.CapturedPlaces.{RefusalStandsAtToken}
 use Rattle.proto_captures.specs.Cases.{StandsBefore}
 use Rattle.proto_statement_names.specs.Cases.{IsNeededIn}
 
@@ -59,5 +59,5 @@ IsFirstNeeded files reads k path (Some id) = (u : Used At)
 -- the refusal is of a reference that needs the import, and has the place of this token
 abbrev pub IsNeededAtToken : List FileOf → ℕ → ℕ → Refusal → Type 0
 IsNeededAtToken files file token (Needed path offset) =
-    StandsAtToken files file token (string_bytes path) offset
+    RefusalStandsAtToken files file token (string_bytes path) offset
 IsNeededAtToken files file token _ = ⊥

@@ -6,7 +6,7 @@ ghost use Rattle.proto_files.specs.Faults.{HasNoFault};
 ghost use Rattle.proto_files.specs.FilesRead.{AreRead, ReadOf};
 ghost use Rattle.proto_imports.specs.Links.{LinkFaults};
 ghost use Rattle.proto_names.specs.LinkOfFiles.{IsLinkOf};
-ghost use Rattle.proto_statement_edits.specs.Edits.{IsAdded, IsAdditionCase, IsAdditionRefusal};
+ghost use Rattle.proto_statement_edits.specs.Edits.{HasAdditionChanges, IsAdditionCase, IsAdditionRefusal};
 ghost use Rattle.proto_statement_names.specs.Cases.{IsPlaceOf};
 ghost use Rattle.proto_statement_laws.specs.Imports.{added_text};
 ghost use Rattle.proto_statement_edits.specs.ImportPlaces.{place_behind};
@@ -18,8 +18,8 @@ use crate::imports::seen_with;
 use crate::leading::leads;
 use crate::only::only;
 use crate::paths::Paths;
-use crate::splicing::spliced;
-use proto_captures::{captured, first_overtaken};
+use crate::splicing::splice_change;
+use proto_captures::{captured_refusal, first_overtaken};
 use proto_entries::{Change, Refusal};
 use proto_faults::NoMemory;
 use proto_files::{Files, are_read, file_named};
@@ -50,7 +50,7 @@ fn check_captured(
     let seen = seen_with(alloc, files, file, to)?;
     match first_overtaken(alloc, files, link, file, &seen[file as usize])? {
         None => Ok(()),
-        Some(token) => Err(captured(alloc, files, file, token)?),
+        Some(token) => Err(captured_refusal(alloc, files, file, token)?),
     }
 }
 
@@ -115,15 +115,21 @@ fn change_of_file(
     };
     let text = text_of(alloc, end, paths.path)?;
     let span = Span { start: at, end: at };
-    spliced(alloc, files, file, span, text.as_str())
+    splice_change(alloc, files, file, span, text.as_str())
 }
 
 /// What the import changes, and case 16.
-fn changed(alloc: Global, files: &Files, paths: Paths, file: u32) -> Result<Vec<Change>, Refusal>
+fn changes_of_addition(
+    alloc: Global,
+    files: &Files,
+    paths: Paths,
+    file: u32,
+) -> Result<Vec<Change>, Refusal>
     requires file { IsPlaceOf files.now paths.file.now file }
     requires before { (n : ℕ) → n < 15 → IsAdditionCase files.now paths.file.now paths.path.now n
         → ⊥ }
-    ensures ok { IfOk result (λ cs. IsAdded files.now paths.entry.file.now paths.entry.path.now
+    ensures ok { IfOk result (λ cs. HasAdditionChanges files.now paths.entry.file.now
+        paths.entry.path.now
         (map change_of cs.items)) }
     ensures err { IfErr result
         (IsAdditionRefusal files.now paths.entry.file.now paths.entry.path.now) }
@@ -146,7 +152,8 @@ pub fn add_import(
 ) -> Result<Vec<Change>, Refusal>
     requires link { IsLinkOf files.now link.now }
     requires linked { HasNoFault (LinkFaults files.now) }
-    ensures ok { IfOk result (λ cs. IsAdded files.now file.now path.now (map change_of cs.items)) }
+    ensures ok { IfOk result (λ cs. HasAdditionChanges files.now file.now path.now
+        (map change_of cs.items)) }
     ensures err { IfErr result (IsAdditionRefusal files.now file.now path.now) }
 {
     are_read(files);
@@ -162,5 +169,5 @@ pub fn add_import(
     let (from, to) = (from as u32, to as u32);
     check_captured(alloc, files, link, paths, from, to)?;
     check_new(alloc, files, paths, from, to)?;
-    changed(alloc, files, paths, from)
+    changes_of_addition(alloc, files, paths, from)
 }

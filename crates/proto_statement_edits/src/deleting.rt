@@ -6,9 +6,9 @@ ghost use Rattle.proto_files.specs.Faults.{HasNoFault};
 ghost use Rattle.proto_files.specs.FilesRead.{ReadOf, AreRead};
 ghost use Rattle.proto_imports.specs.Links.{LinkFaults};
 ghost use Rattle.proto_names.specs.LinkOfFiles.{IsLinkOf};
-ghost use Rattle.proto_statement_edits.specs.Edits.{HaveSmallNumbers, IsDeleted, IsDeletionCase, IsDeletionRefusal};
+ghost use Rattle.proto_statement_edits.specs.Edits.{HaveSmallNumbers, HasDeletionChanges, IsDeletionCase, IsDeletionRefusal};
 ghost use Rattle.proto_files.specs.GivenFiles.{file_at};
-ghost use Rattle.proto_statement_edits.specs.Fields.{IsFieldToken, IsPlaceOfField, StandsInOrder, is_field, last_of, text_by};
+ghost use Rattle.proto_statement_edits.specs.Fields.{IsFieldToken, IsPlaceOfField, StandsInOrder, is_field, last_replaced, text_by};
 ghost use Rattle.proto_text.specs.Segments.{bytes_between, end_before};
 ghost use Rattle.proto_text.specs.Texts.{offset_at};
 ghost use Rattle.proto_text.specs.Tokens.{AreTokens};
@@ -19,7 +19,7 @@ ghost use Rattle.proto_statement_edits.specs.Spliced.{IsChangeOfDeletion};
 use crate::alone::is_alone;
 use crate::fields::{FieldPlace, field_at};
 use crate::only::only;
-use crate::splicing::spliced;
+use crate::splicing::splice_change;
 use proto_entries::{Change, Refusal};
 use proto_faults::NoMemory;
 use proto_files::{Files, Words, are_read};
@@ -124,7 +124,7 @@ fn span_of(files: &Files, file: u32, place: FieldPlace) -> Span
     requires within { StandsInOrder files.now file place }
     ensures { (tokens : List Token) → AreTokens (file_at files.now file).bytes tokens
         → (result.start ≡ offset_at tokens place.first)
-        × (result.end ≡ end_before tokens (suc (last_of place))) }
+        × (result.end ≡ end_before tokens (suc (last_replaced place))) }
 {
     let tokens = files.tokens(file as usize);
     let last = place.oneof.unwrap_or(place.semicolon);
@@ -156,11 +156,11 @@ fn change_of_file(
     let reservation = reservation(alloc, number, words.get(field.token))?;
     let text = text_of(alloc, files, field.file, place, reservation.as_str())?;
     let span = span_of(files, field.file, place);
-    spliced(alloc, files, field.file, span, text.as_str())
+    splice_change(alloc, files, field.file, span, text.as_str())
 }
 
 /// What the deletion changes, and case 16.
-fn changed(
+fn changes_of_deletion(
     alloc: Global,
     files: &Files,
     name: &str,
@@ -174,7 +174,8 @@ fn changed(
     requires place { (reads : List ReadOf) → AreRead files.now reads
         → IsPlaceOfField files.now reads field place }
     requires before { (n : ℕ) → n < 11 → IsDeletionCase files.now name.now n → ⊥ }
-    ensures ok { IfOk result (λ cs. IsDeleted files.now name.now (map change_of cs.items)) }
+    ensures ok { IfOk result (λ cs. HasDeletionChanges files.now name.now
+        (map change_of cs.items)) }
     ensures err { IfErr result (IsDeletionRefusal files.now name.now) }
 {
     are_read(files);
@@ -196,7 +197,8 @@ pub fn delete_field(
     requires link { IsLinkOf files.now link.now }
     requires linked { HasNoFault (LinkFaults files.now) }
     requires small { HaveSmallNumbers files.now }
-    ensures ok { IfOk result (λ cs. IsDeleted files.now name.now (map change_of cs.items)) }
+    ensures ok { IfOk result (λ cs. HasDeletionChanges files.now name.now
+        (map change_of cs.items)) }
     ensures err { IfErr result (IsDeletionRefusal files.now name.now) }
 {
     are_read(files);
@@ -210,5 +212,5 @@ pub fn delete_field(
     let Some(place) = field_at(tree, field.token) else {
         unreachable!();
     };
-    changed(alloc, files, name, field, place)
+    changes_of_deletion(alloc, files, name, field, place)
 }

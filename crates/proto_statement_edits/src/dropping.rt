@@ -7,7 +7,7 @@ ghost use Rattle.proto_files.specs.FilesRead.{ReadOf, AreRead};
 ghost use Rattle.proto_imports.specs.Links.{LinkFaults};
 ghost use Rattle.proto_names.specs.LinkOfFiles.{IsLinkOf};
 ghost use Rattle.proto_statement_changes.specs.ImportChanges.{IsImportOf};
-ghost use Rattle.proto_statement_edits.specs.Edits.{IsDropCase, IsDropped, IsDropRefusal};
+ghost use Rattle.proto_statement_edits.specs.Edits.{IsDropCase, HasDropChanges, IsDropRefusal};
 ghost use Rattle.proto_statement_edits.specs.Steps.{IsNeededAtToken};
 ghost use Rattle.proto_statement_names.specs.Cases.{IsPlaceOf};
 
@@ -16,7 +16,7 @@ use crate::imports::seen_without;
 use crate::needing::first_needed;
 use crate::only::only;
 use crate::paths::Paths;
-use crate::splicing::spliced;
+use crate::splicing::splice_change;
 use proto_entries::{Change, Refusal};
 use proto_faults::NoMemory;
 use proto_files::{Files, are_read, file_named, offset_of};
@@ -26,7 +26,7 @@ use proto_tree::Import;
 use std::alloc::Global;
 
 /// The refusal for a reference that needs the import, with its place.
-fn needed(alloc: Global, files: &Files, reference: RefId) -> Result<Refusal, NoMemory>
+fn needed_refusal(alloc: Global, files: &Files, reference: RefId) -> Result<Refusal, NoMemory>
     requires { reference.file < length files.now }
     ensures { IfOk result (IsNeededAtToken files.now reference.file reference.token) }
 {
@@ -59,12 +59,12 @@ fn check_needed(
     let seen = seen_without(alloc, files, file, to)?;
     match first_needed(files, link, &seen) {
         None => Ok(()),
-        Some(reference) => Err(needed(alloc, files, reference)?),
+        Some(reference) => Err(needed_refusal(alloc, files, reference)?),
     }
 }
 
 /// What it changes that the statement is taken out.
-fn changed(
+fn changes_of_drop(
     alloc: Global,
     files: &Files,
     paths: Paths,
@@ -75,7 +75,8 @@ fn changed(
     requires import { (reads : List ReadOf) → AreRead files.now reads
         → IsImportOf files.now reads file paths.path.now import }
     requires free { (n : ℕ) → IsDropCase files.now paths.file.now paths.path.now n → ⊥ }
-    ensures ok { IfOk result (λ cs. IsDropped files.now paths.entry.file.now paths.entry.path.now
+    ensures ok { IfOk result (λ cs. HasDropChanges files.now paths.entry.file.now
+        paths.entry.path.now
         (map change_of cs.items)) }
     ensures err { IfErr result (IsDropRefusal files.now paths.entry.file.now paths.entry.path.now) }
 {
@@ -87,7 +88,7 @@ fn changed(
         start: tokens[import.keyword as usize].span.start,
         end: tokens[import.semicolon as usize].span.end,
     };
-    match spliced(alloc, files, file, span, "")? {
+    match splice_change(alloc, files, file, span, "")? {
         Some(change) => Ok(only(alloc, change)?),
         // No file gets longer.
         None => unreachable!(),
@@ -105,7 +106,7 @@ pub fn drop_import(
 ) -> Result<Vec<Change>, Refusal>
     requires link { IsLinkOf files.now link.now }
     requires linked { HasNoFault (LinkFaults files.now) }
-    ensures ok { IfOk result (λ cs. IsDropped files.now file.now path.now
+    ensures ok { IfOk result (λ cs. HasDropChanges files.now file.now path.now
         (map change_of cs.items)) }
     ensures err { IfErr result (IsDropRefusal files.now file.now path.now) }
 {
@@ -125,5 +126,5 @@ pub fn drop_import(
         unreachable!();
     };
     check_needed(alloc, files, link, paths, from, to as u32)?;
-    changed(alloc, files, paths, from, import)
+    changes_of_drop(alloc, files, paths, from, import)
 }

@@ -1,8 +1,8 @@
 //! Where the statement of a field stands.
 
 ghost use Rattle.std.specs.Prelude.{◌≡◌, Some, None, option_map};
-ghost use Rattle.proto_statement_laws.specs.Deletions.{first_of, first_token};
-ghost use Rattle.proto_statement_edits.specs.FieldPlaces.{field_among, field_if, field_in, place_of};
+ghost use Rattle.proto_statement_laws.specs.Deletions.{first_index, first_token};
+ghost use Rattle.proto_statement_edits.specs.FieldPlaces.{field_among, field_if, field_in, place_of_statement};
 ghost use Rattle.proto_tree.specs.declared.piece.Statement.TheVariants as statement;
 ghost use Rattle.proto_tree.specs.File.{field_tree, item_tree, member_tree, message_tree, oneof_tree, tree_of_file, trees};
 ghost use Rattle.proto_tree.specs.Flat.{flat_type};
@@ -21,7 +21,7 @@ pub struct FieldPlace {
 
 /// The first token of a type.
 fn first_of_type(kind: &FieldType) -> u32
-    ensures { result ≡ first_of (flat_type kind.now) }
+    ensures { result ≡ first_index (flat_type kind.now) }
 {
     match kind {
         FieldType::Scalar(word) => *word,
@@ -44,7 +44,8 @@ fn first_of_field(field: &Field) -> u32
 
 /// The place of the field, if it has this name token.
 fn field_place(field: &Field, name: u32, oneof: Option<u32>) -> Option<FieldPlace>
-    ensures { result ≡ option_map place_of (field_if name oneof (statement.Field field.now)) }
+    ensures { result ≡ option_map place_of_statement
+        (field_if name oneof (statement.Field field.now)) }
 {
     if field.name != name {
         return None;
@@ -58,7 +59,8 @@ fn field_place(field: &Field, name: u32, oneof: Option<u32>) -> Option<FieldPlac
 }
 
 fn map_place(field: &MapField, name: u32) -> Option<FieldPlace>
-    ensures { result ≡ option_map place_of (field_if name None (statement.MapField field.now)) }
+    ensures { result ≡ option_map place_of_statement
+        (field_if name None (statement.MapField field.now)) }
 {
     if field.name != name {
         return None;
@@ -73,7 +75,8 @@ fn map_place(field: &MapField, name: u32) -> Option<FieldPlace>
 
 fn place_in_fields(fields: &[Field], name: u32, close: u32) -> Option<FieldPlace>
     ensures { result
-        ≡ option_map place_of (field_among name (Some close) (trees field_tree fields.now)) }
+        ≡ option_map place_of_statement (field_among name (Some close)
+        (trees field_tree fields.now)) }
 {
     for field in fields {
         if let Some(place) = field_place(field, name, Some(close)) {
@@ -85,21 +88,22 @@ fn place_in_fields(fields: &[Field], name: u32, close: u32) -> Option<FieldPlace
 
 #[tactic(auto, using(crate::proofs::FieldTrees::oneof_place))]
 fn place_in_oneof(oneof: &Oneof, name: u32) -> Option<FieldPlace>
-    ensures { result ≡ option_map place_of (field_in name (oneof_tree oneof.now)) }
+    ensures { result ≡ option_map place_of_statement (field_in name (oneof_tree oneof.now)) }
 {
     place_in_fields(&oneof.members, name, oneof.close)
 }
 
 #[cycle(messages)]
 fn place_in_message(message: &Message, name: u32) -> Option<FieldPlace>
-    ensures { result ≡ option_map place_of (field_in name (message_tree message.now)) }
+    ensures { result ≡ option_map place_of_statement (field_in name (message_tree message.now)) }
 {
     place_in_members(&message.members, name)
 }
 
 #[cycle(messages)]
 fn place_in_members(members: &[Member], name: u32) -> Option<FieldPlace>
-    ensures { result ≡ option_map place_of (field_in name (trees member_tree members.now)) }
+    ensures { result ≡ option_map place_of_statement
+        (field_in name (trees member_tree members.now)) }
 {
     for member in members {
         if let Some(place) = place_in_member(member, name) {
@@ -111,7 +115,7 @@ fn place_in_members(members: &[Member], name: u32) -> Option<FieldPlace>
 
 #[cycle(messages)]
 fn place_in_member(member: &Member, name: u32) -> Option<FieldPlace>
-    ensures { result ≡ option_map place_of (field_in name (member_tree member.now)) }
+    ensures { result ≡ option_map place_of_statement (field_in name (member_tree member.now)) }
 {
     match member {
         Member::Field(field) => field_place(field, name, None),
@@ -123,7 +127,7 @@ fn place_in_member(member: &Member, name: u32) -> Option<FieldPlace>
 }
 
 fn place_in_item(item: &Item, name: u32) -> Option<FieldPlace>
-    ensures { result ≡ option_map place_of (field_in name (item_tree item.now)) }
+    ensures { result ≡ option_map place_of_statement (field_in name (item_tree item.now)) }
 {
     match item {
         Item::Message(message) => place_in_message(message, name),
@@ -133,7 +137,7 @@ fn place_in_item(item: &Item, name: u32) -> Option<FieldPlace>
 
 /// The place of the field with this name token, if a file has one.
 pub fn field_at(file: &File, name: u32) -> Option<FieldPlace>
-    ensures { result ≡ option_map place_of (field_in name (tree_of_file file.now)) }
+    ensures { result ≡ option_map place_of_statement (field_in name (tree_of_file file.now)) }
 {
     for item in &file.items {
         if let Some(place) = place_in_item(item, name) {

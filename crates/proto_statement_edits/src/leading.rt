@@ -10,7 +10,7 @@ use crate::imports::linked_imports;
 use proto_faults::NoMemory;
 use proto_files::Files;
 use proto_imports::import::all_targets;
-use proto_imports::walk::reached;
+use proto_imports::walk::reached_files;
 use std::alloc::Global;
 
 /// Whether a file is the other, or leads to it by imports, public or not.
@@ -23,6 +23,6 @@ pub(crate) fn leads(alloc: Global, files: &Files, from: u32, to: u32) -> Result<
 {
     let imports = linked_imports(alloc, files)?;
     let next = all_targets(alloc, &imports)?;
-    let marks = reached(alloc, &next, from)?;
+    let marks = reached_files(alloc, &next, from)?;
     Ok(marks[to as usize])
 }

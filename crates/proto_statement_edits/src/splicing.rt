@@ -14,7 +14,7 @@ use std::alloc::Global;
 
 /// The change that puts a text in the place of what stands at the span of a file; none where the
 /// file would have more than 1,048,576 bytes.
-pub fn spliced(
+pub fn splice_change(
     alloc: Global,
     files: &Files,
     file: u32,

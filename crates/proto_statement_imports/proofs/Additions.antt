@@ -5,12 +5,12 @@ use Rattle.proto_text.proofs.Common.{QuotedStandsForItself, moved, quoted, Lexem
 use Rattle.proto_tree.specs.declared.tree.Import.{Import}
 use Rattle.proto_tree.specs.Tree.{Tree}
 use Rattle.proto_files.proofs.Common.{ReadOf, FileOf, paths_of, IsWorkspacePath}
-use Rattle.proto_meaning.specs.Faults.{file_of}
+use Rattle.proto_meaning.specs.Faults.{file_with_path}
 use Rattle.proto_listing.proofs.Common.{imports_in, move_wanted}
 use Rattle.proto_parts.specs.Scenes.{string_of, value, value_or_none as value_by_kind}
 use Rattle.proto_descriptors.specs.Descriptors.{FileDesc}
-use Rattle.proto_statement_described.proofs.Common.{lexemes_of, AreDescribed, IsAddition, scene_at, tree_at, with_dependency, changed_at, additions_leave_no_fault, additions_map_descriptors}
-use Rattle.proto_statement_laws.proofs.Common.{LexemesAreMoved, import_place, IsInsertion, import_at, import_tokens, token}
+use Rattle.proto_statement_described.proofs.Common.{lexemes_of, AreDescribed, IsFileAddition, scene_at, tree_at, with_dependency, changed_at, additions_leave_no_fault, additions_map_descriptors}
+use Rattle.proto_statement_laws.proofs.Common.{LexemesAreMoved, import_place, IsInsertion, import_tree, import_tokens, token_of_text}
 use Rattle.proto_statement_changes.proofs.Common.{AdditionsAreChanges, AreFiles, with_read, with_text}
 use Rattle.proto_statement_names.proofs.Common.{unknown_path, AreClean, AdditionsKeepLinks, AdditionsKeepMeanings, IsAdded, MeanTheSame}
 use Rattle.proto_statement_imports.specs.Common.{AreMoved, AdditionsAreMade, AreFaultless, MayAdd}
@@ -42,7 +42,7 @@ statement_at p = record { keyword = p; public = None; path = p + 1; semicolon = 
 
 workspace_path_of : (files : List FileOf) (reads : List ReadOf) (file path : List ℕ) (place : ℕ) → MayAdd files reads file path place → IsWorkspacePath path
 workspace_path_of files reads file path place may =
-    let to = none_or (file_of (paths_of files) path) (λ e. may.free 11 (unknown_path e)) in
+    let to = none_or (file_with_path (paths_of files) path) (λ e. may.free 11 (unknown_path e)) in
     place_named files path to.0 to.1 may.faultless.are.workspace
 
 module _ (laws : Laws) (files : List FileOf) (reads : List ReadOf) (after : List FileOf) (seen : List ReadOf) (file path : List ℕ) (place p : ℕ) (may : MayAdd files reads file path place)
@@ -50,7 +50,7 @@ module _ (laws : Laws) (files : List FileOf) (reads : List ReadOf) (after : List
     (last : imports_in (tree_at seen place) ≡ map (move_wanted (moved p p 3)) (imports_in (tree_at reads place)) ++ wanted_by (statement_at p) ∷ []) where
   -- ---- the path
 
-  string_there : slice_get (lexemes_of after seen place) (p + 1) ≡ Some (token Text (quoted path))
+  string_there : slice_get (lexemes_of after seen place) (p + 1) ≡ Some (token_of_text Text (quoted path))
   string_there =
       let ls = lexemes_of files reads place in
       let fits = is.within in
@@ -84,7 +84,7 @@ module _ (laws : Laws) (files : List FileOf) (reads : List ReadOf) (after : List
 
   -- ---- descriptors
 
-  addition : IsAddition files reads after seen place path
+  addition : IsFileAddition files reads after seen place path
   addition = record {
     others = record {
       read = may.faultless.are.read;
@@ -128,8 +128,8 @@ additions_are_made laws files reads file path place may =
     let ls : lexemes_of after seen place ≡ map (lexeme_at v.0) v.1 = lexemes_here files reads place v.0 v.1 v.2 within same in
     let c = is_change files reads place v.0 v.1 v.2 within same in
     let is : IsInserted files reads after seen place p (statement_at p) (import_tokens path) =
-    subst (λ (z : List Lexeme). IsInsertion p (import_at p) (import_tokens path) (tree_at reads place) (lexemes_of files reads place) (tree_at seen place) z) (sym ls)
-    (subst (λ (u : Tree). IsInsertion p (import_at p) (import_tokens path) (tree_at reads place) (lexemes_of files reads place) u (map (lexeme_at v.0) v.1)) (sym here) v.3.added.tree) in
+    subst (λ (z : List Lexeme). IsInsertion p (import_tree p) (import_tokens path) (tree_at reads place) (lexemes_of files reads place) (tree_at seen place) z) (sym ls)
+    (subst (λ (u : Tree). IsInsertion p (import_tree p) (import_tokens path) (tree_at reads place) (lexemes_of files reads place) u (map (lexeme_at v.0) v.1)) (sym here) v.3.added.tree) in
     let last : imports_in (tree_at seen place) ≡ map (move_wanted (moved p p 3)) (imports_in (tree_at reads place)) ++ wanted_by (statement_at p) ∷ [] = ap imports_in here ∙ v.3.added.last in (
       after,
       seen,

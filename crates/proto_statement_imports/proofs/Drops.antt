@@ -6,7 +6,7 @@ use Rattle.proto_tree.specs.declared.piece.Statement.TheVariants as statement
 use Rattle.proto_tree.specs.declared.tree.Import.{Import}
 use Rattle.proto_tree.proofs.Common.{Move, Tree, End, Leaf}
 use Rattle.proto_files.proofs.Common.{ReadOf, FileOf, paths_of}
-use Rattle.proto_meaning.proofs.Common.{file_of, at, Reference, Workspace, Follows, follows_first}
+use Rattle.proto_meaning.proofs.Common.{file_with_path, at, Reference, Workspace, Follows, follows_first}
 use Rattle.proto_listing.proofs.Common.{Wanted, imports_in, move_wanted}
 use Rattle.proto_imports.specs.Links.{asked_as, names_of_files, text_of}
 use Rattle.proto_parts.specs.Scenes.{value}
@@ -71,7 +71,7 @@ module _ (laws : Laws) (files : List FileOf) (reads : List ReadOf) (after : List
   references : (names_of_files after seen).references ≡ (names_of_files files reads).references
   references =
       let to = names_file files reads may.faultless.are.read may.faultless.links place (wanted_by i) imported in
-      let there : file_of (paths_of after) path ≡ Some to.0 = ap (λ (ps : List (List ℕ)). file_of ps path) c.one.paths ∙ ap (λ o. file_of (paths_of files) (or_nothing o)) (sym value_is) ∙ to.1 in
+      let there : file_with_path (paths_of after) path ≡ Some to.0 = ap (λ (ps : List (List ℕ)). file_with_path ps path) c.one.paths ∙ ap (λ o. file_with_path (paths_of files) (or_nothing o)) (sym value_is) ∙ to.1 in
       sym (ap (λ (w : Workspace). w.references) (imports_are_more after seen files reads place to.0 path (is_some i.public) less there).0)
 
   means : MeanTheSame after seen files reads

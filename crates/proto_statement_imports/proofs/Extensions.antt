@@ -9,7 +9,7 @@ use Rattle.proto_imports.specs.Links.{uses_of}
 use Rattle.proto_parts.proofs.Common.{BlockOf, blocks_in}
 use Rattle.proto_checks_laws.proofs.Common.{IsMoved, find_moved, move_block_of}
 use Rattle.proto_checks_laws.proofs.MovedParts.{file_blocks_moved}
-use Rattle.proto_statement_described.proofs.Common.{ExtensionOf, ExtensionsStay, block_says, blocks_said, extendable_same, extensions_in, extensions_left, extensions_said, first_moved, found_same, is_extendable, is_message_at, leaves, left_at, left_there, meaning_of, message_moved, moved_leaves, name_meant, says, scene_at, tree_at}
+use Rattle.proto_statement_described.proofs.Common.{ExtensionOf, ExtensionsStay, block_says, blocks_said, extendable_same, extensions_in, extensions_left, extensions_said, first_moved, found_same, is_extendable, is_message_at, leaves, left_at, left_there, meaning_of, message_moved, moved_leaves, name_meant, saying_of, scene_at, tree_at}
 use Rattle.proto_statement_names.specs.Kept.{MeanTheSame}
 use Rattle.proto_statement_imports.specs.MovedFiles.{AreMoved}
 use Rattle.proto_statement_imports.proofs.MovedEnums.{same_test}
@@ -41,17 +41,17 @@ module _ (files : List FileOf) (reads : List ReadOf) (after : List FileOf) (seen
       ∙ mapped (shifted_used g) now (find (begins t) (uses_of reads place))
       ∙ found_same (begins t) (λ u. now (shifted_used g u)) (meaning_of files reads place) (uses_of reads place) (means_here files reads after seen place g h means)
 
-  said_here : map says (extensions_in None after seen place) ≡ map says (extensions_in None files reads place)
+  said_here : map saying_of (extensions_in None after seen place) ≡ map saying_of (extensions_in None files reads place)
   said_here =
       extensions_said after seen place
       ∙ ap (flat_map (block_says (scene_at after seen place) (name_meant after seen place))) (file_blocks_moved g (tree_at reads place) (tree_at seen place) h.tree)
       ∙ blocks_said g (scene_at files reads place) (scene_at after seen place) is_moved (name_meant files reads place) (name_meant after seen place) name_moved (blocks_in (tree_at reads place))
       ∙ sym (extensions_said files reads place)
 
-  said : (k : ℕ) → map says (extensions_in None after seen k) ≡ map says (extensions_in None files reads k)
+  said : (k : ℕ) → map saying_of (extensions_in None after seen k) ≡ map saying_of (extensions_in None files reads k)
   said k = elim (cases_eq k place) [
-    | inl e ↦ subst (λ i. map says (extensions_in None after seen i) ≡ map says (extensions_in None files reads i)) (sym e) said_here
-    | inr n ↦ ap (map says) (extensions_left files reads after seen k (h.trees k n) (scene_there files reads after seen place g h means k n) (meaning_stays files reads after seen k means (is_left files reads after seen place g h means k n)))
+    | inl e ↦ subst (λ i. map saying_of (extensions_in None after seen i) ≡ map saying_of (extensions_in None files reads i)) (sym e) said_here
+    | inr n ↦ ap (map saying_of) (extensions_left files reads after seen k (h.trees k n) (scene_there files reads after seen place g h means k n) (meaning_stays files reads after seen k means (is_left files reads after seen place g h means k n)))
   ]
 
   -- ---- what they extend

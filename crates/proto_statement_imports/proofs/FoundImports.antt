@@ -8,11 +8,11 @@ use Rattle.proto_tree.specs.declared.piece.Statement.TheVariants as statement
 use Rattle.proto_tree.specs.declared.tree.Import.{Import}
 use Rattle.proto_tree.specs.Tree.{Tree, End, Leaf, Block}
 use Rattle.proto_files.proofs.Common.{AreRead, ReadOf, read_at, FileOf, file_at, paths_of}
-use Rattle.proto_meaning.proofs.Common.{Asked, file_of, At, Follows}
+use Rattle.proto_meaning.proofs.Common.{AskedImport, file_with_path, At, Follows}
 use Rattle.proto_listing.proofs.Common.{Wanted, imports_in, statement_imports, imports_are_strings}
 use Rattle.proto_imports.specs.Links.{all_wanted, asked_as, text_of}
 use Rattle.proto_statement_laws.specs.Deletions.{AfterBlock, AfterLeaf, First, StandsIn}
-use Rattle.proto_statement_changes.proofs.Common.{IsImportOf, word_of}
+use Rattle.proto_statement_changes.proofs.Common.{IsImportOf, word_of_token}
 use Rattle.proto_statement_names.specs.Cases.{IsImported, asked_in, is_import_of, no_such_file, not_imported, unknown_file}
 use Rattle.proto_statement_described.specs.Files.{tree_at}
 use Rattle.proto_statement_imports.specs.Statements.{FilesAreThere, ImportsAreOne, ImportsAreThere}
@@ -85,13 +85,13 @@ stands_two i j (Block x n within m rest) h k = stands_two i j rest (block_cases 
 -- ---- imports of all files
 
 -- the file of an import, and its place in the tree
-record IsWanted (text : At → List ℕ) (n : ℕ) (rs : List ReadOf) (a : Asked) : Type 0 where
+record IsWanted (text : At → List ℕ) (n : ℕ) (rs : List ReadOf) (a : AskedImport) : Type 0 where
   k : ℕ
   w : Wanted
   within : Contains (imports_in (read_at rs k).tree) w
   is : asked_as text (n + k) w ≡ a
 
-wanted_from : (text : At → List ℕ) (n : ℕ) (rs : List ReadOf) (a : Asked) → Contains (all_wanted text n rs) a → IsWanted text n rs a
+wanted_from : (text : At → List ℕ) (n : ℕ) (rs : List ReadOf) (a : AskedImport) → Contains (all_wanted text n rs) a → IsWanted text n rs a
 wanted_from text n [] a c = absurd (omega (arith, c.1))
 wanted_from text n (r ∷ rs) a c = elim (Contains-append_cases (map (asked_as text n) (imports_in r.tree)) (all_wanted text (suc n) rs) a c) [
   | inl d ↦
@@ -107,13 +107,13 @@ wanted_from text n (r ∷ rs) a c = elim (Contains-append_cases (map (asked_as t
 -- ---- the laws
 
 pub files_are_there : FilesAreThere
-files_are_there files reads file path free = none_or (file_of (paths_of files) file) (λ e. free 11 (unknown_file e))
+files_are_there files reads file path free = none_or (file_with_path (paths_of files) file) (λ e. free 11 (unknown_file e))
 
 module _ (files : List FileOf) (reads : List ReadOf) (read : AreRead files reads) (place : ℕ) (within : place < length files) where
   -- the string of an import has one value
-  stands_for : (path : List ℕ) (i : Import) → StandsIn (statement.Import i) (tree_at reads place) → (asked_as (text_of files reads) place (wanted_by i)).path ≡ path → StandsFor (word_of files reads place i.path) path
+  stands_for : (path : List ℕ) (i : Import) → StandsIn (statement.Import i) (tree_at reads place) → (asked_as (text_of files reads) place (wanted_by i)).path ≡ path → StandsFor (word_of_token files reads place i.path) path
   stands_for path i h e =
-      let word : List ℕ = word_of files reads place i.path in
+      let word : List ℕ = word_of_token files reads place i.path in
       let string = imports_are_strings (file_at files place).bytes (read_at reads place).tokens (tree_at reads place) (read.trees place within) (wanted_by i) (stands_imported i (tree_at reads place) h) in
       let v = strings_have_values word string in
       subst (StandsFor word) (sym (ap or_nothing (value_again word v.0 v.1)) ∙ e) v.1
@@ -122,10 +122,10 @@ module _ (files : List FileOf) (reads : List ReadOf) (read : AreRead files reads
   found path (a, c, here, says) =
       let v = wanted_from (text_of files reads) 0 reads a c in
       let zero_is : 0 + v.k ≡ v.k = omega arith in
-      let same : v.k ≡ place = sym zero_is ∙ ap (λ (z : Asked). z.place.file) v.is ∙ here in
+      let same : v.k ≡ place = sym zero_is ∙ ap (λ (z : AskedImport). z.place.file) v.is ∙ here in
       let is : asked_as (text_of files reads) place v.w ≡ a = subst (λ m. asked_as (text_of files reads) m v.w ≡ a) (zero_is ∙ same) v.is in
       let r = stands_from (tree_at reads place) v.w (subst (λ m. Contains (imports_in (tree_at reads m)) v.w) same v.within) in
-      (r.0, record { within = within; stands = r.1; value = stands_for path r.0 r.1 (ap (λ (w : Wanted). (asked_as (text_of files reads) place w).path) r.2 ∙ ap (λ (z : Asked). z.path) is ∙ says) })
+      (r.0, record { within = within; stands = r.1; value = stands_for path r.0 r.1 (ap (λ (w : Wanted). (asked_as (text_of files reads) place w).path) r.2 ∙ ap (λ (z : AskedImport). z.path) is ∙ says) })
 
   -- whether it is imported can be told
   is_imported : (path : List ℕ) → ((IsImported files reads place path → ⊥) → ⊥) → IsImported files reads place path
@@ -140,15 +140,15 @@ module _ (files : List FileOf) (reads : List ReadOf) (read : AreRead files reads
 
 pub imports_are_there : ImportsAreThere
 imports_are_there files reads file path read free =
-    let at = none_or (file_of (paths_of files) file) (λ e. free 11 (no_such_file e)) in
+    let at = none_or (file_with_path (paths_of files) file) (λ e. free 11 (no_such_file e)) in
     let within = place_within files file at.0 at.1 in
     let i = found files reads read at.0 within path (is_imported files reads read at.0 within path (λ none. free 13 (not_imported at.0 at.1 none))) in
     (at.0, i.0, at.1, i.1)
 
 pub imports_are_one : ImportsAreOne
 imports_are_one files reads path place i j read clean a b =
-    let v = value_again (word_of files reads place i.path) path a.value in
-    let w = value_again (word_of files reads place j.path) path b.value in
+    let v = value_again (word_of_token files reads place i.path) path a.value in
+    let w = value_again (word_of_token files reads place j.path) path b.value in
     let same : (asked_as (text_of files reads) place (wanted_by i)).path ≡ (asked_as (text_of files reads) place (wanted_by j)).path = ap or_nothing (v ∙ sym w) in
     elim (stands_two i j (tree_at reads place) a.stands b.stands) [
       | inl e ↦ e

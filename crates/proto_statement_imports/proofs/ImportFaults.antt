@@ -1,11 +1,11 @@
 -- In files without a fault of imports each import names a file, and no file has two of one path.
 use Rattle.std.proofs.Common.{◌≡◌, ℕ, zero, suc, ◌+◌, List, [], ◌∷◌, ◌++◌, map, Option, Some, None, refl, subst, inl, inr, arith, Contains}
-use Rattle.proto_faults.proofs.Common.{Contains-append_left, Contains-append_right, number_of, contains_cases, contains_head, contains_map}
+use Rattle.proto_faults.proofs.Common.{Contains-append_left, Contains-append_right, kind_number, contains_cases, contains_head, contains_map}
 use Rattle.proto_faults.specs.declared.fault.FaultKind.{FaultKind}
 use Rattle.proto_faults.specs.declared.fault.FaultKind.TheVariants as kind
 use Rattle.proto_text.specs.Texts.{offset_at}
 use Rattle.proto_files.proofs.Common.{HasNoFault, AreRead, ReadOf, read_at, FileOf, file_at, paths_of}
-use Rattle.proto_meaning.proofs.Common.{Asked, Fault, ImportFault, double, fault, file_of, unknown, At, Follows, after_follows, follows_map}
+use Rattle.proto_meaning.proofs.Common.{AskedImport, Fault, ImportFault, double, fault, file_with_path, unknown, At, Follows, after_follows, follows_map}
 use Rattle.proto_listing.specs.FromTree.{Wanted, imports_in}
 use Rattle.proto_imports.specs.Links.{LinkFaults, all_wanted, asked_as, of_import, text_of}
 use Rattle.proto_statement_names.specs.Cases.{asked_in}
@@ -63,20 +63,20 @@ none_or None h = absurd (h refl)
 none_or (Some k) h = (k, refl)
 
 module _ (files : List FileOf) (reads : List ReadOf) (read : AreRead files reads) (clean : HasNoFault (LinkFaults files)) where
-  no_fault : (f : Fault) (k : FaultKind) → number_of k ≡ f.number → ImportFault (paths_of files) (asked_in files reads) f → ⊥
+  no_fault : (f : Fault) (k : FaultKind) → kind_number k ≡ f.number → ImportFault (paths_of files) (asked_in files reads) f → ⊥
   no_fault f k e h = clean (record { path = (file_at files f.place.file).path; offset = offset_at (read_at reads f.place.file).tokens f.place.token; kind = k }) (of_import reads f _ read (record { path = refl; offset = refl; number = e }) h)
 
-  pub names_file : (k : ℕ) (w : Wanted) → Contains (imports_in (tree_at reads k)) w → (to : ℕ) × (file_of (paths_of files) (asked_as (text_of files reads) k w).path ≡ Some to)
+  pub names_file : (k : ℕ) (w : Wanted) → Contains (imports_in (tree_at reads k)) w → (to : ℕ) × (file_with_path (paths_of files) (asked_as (text_of files reads) k w).path ≡ Some to)
   names_file k w c =
-      let a : Asked = asked_as (text_of files reads) k w in
+      let a : AskedImport = asked_as (text_of files reads) k w in
       let zero_is : 0 + k ≡ k = omega arith in
       let there : Contains (asked_in files reads) a = subst (λ m. Contains (asked_in files reads) (asked_as (text_of files reads) m w)) zero_is (asked_there (text_of files reads) 0 reads k w c) in
-      none_or (file_of (paths_of files) a.path) (λ e. no_fault (fault a.place 10) kind.UnknownImport refl (unknown a there e))
+      none_or (file_with_path (paths_of files) a.path) (λ e. no_fault (fault a.place 10) kind.UnknownImport refl (unknown a there e))
 
   pub not_twice : (k : ℕ) (v w : Wanted) → Follows (imports_in (tree_at reads k)) v w → (asked_as (text_of files reads) k v).path ≡ (asked_as (text_of files reads) k w).path → ⊥
   not_twice k v w h e =
-      let a : Asked = asked_as (text_of files reads) k v in
-      let b : Asked = asked_as (text_of files reads) k w in
+      let a : AskedImport = asked_as (text_of files reads) k v in
+      let b : AskedImport = asked_as (text_of files reads) k w in
       let zero_is : 0 + k ≡ k = omega arith in
       let behind : Follows (asked_in files reads) a b = subst (λ m. Follows (asked_in files reads) (asked_as (text_of files reads) m v) (asked_as (text_of files reads) m w)) zero_is (asked_follow (text_of files reads) 0 reads k v w h) in
-      no_fault (fault b.place 11) kind.DoubleImport refl (double b (after_follows (λ (x y : Asked). (x.place.file ≡ y.place.file) × (x.path ≡ y.path)) (asked_in files reads) a b behind (refl, e)))
+      no_fault (fault b.place 11) kind.DoubleImport refl (double b (after_follows (λ (x y : AskedImport). (x.place.file ≡ y.place.file) × (x.path ≡ y.path)) (asked_in files reads) a b behind (refl, e)))

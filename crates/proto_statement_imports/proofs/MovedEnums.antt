@@ -8,7 +8,7 @@ use Rattle.proto_tree.specs.declared.tree.Value.{Value}
 use Rattle.proto_tree.proofs.Common.{Move, move_header, move_tree, move_value, Tree}
 use Rattle.proto_files.proofs.Common.{ReadOf, FileOf}
 use Rattle.proto_meaning.specs.Grown.{At, at}
-use Rattle.proto_parts.proofs.Common.{number_of, BlockOf, blocks_in, values_in, EnumOf, is_proto3, string_of}
+use Rattle.proto_parts.proofs.Common.{number_value, BlockOf, blocks_in, values_in, EnumOf, is_proto3, string_of}
 use Rattle.proto_checks_laws.proofs.MovedParts.{file_blocks_moved, find_moved, maps_kept, move_block_of, values_moved}
 use Rattle.proto_statement_described.proofs.Common.{enum_at, enum_within, is_enum_at, is_proto3_file, lexemes_of, starts_past_zero, tree_at, imports_keep_versions}
 use Rattle.proto_statement_imports.specs.MovedFiles.{AreMoved}
@@ -33,7 +33,7 @@ module _ (files : List FileOf) (reads : List ReadOf) (after : List FileOf) (seen
 
   starts_moved : (vs : List Value) → starts_past_zero (word_at (lexemes_of after seen place)) (map (move_value g) vs) ≡ starts_past_zero (word_at (lexemes_of files reads place)) vs
   starts_moved [] = refl
-  starts_moved (v ∷ vs) = ap (λ (w : List ℕ). not (number_of w == 0)) (own_text files reads after seen place g h v.number.number)
+  starts_moved (v ∷ vs) = ap (λ (w : List ℕ). not (number_value w == 0)) (own_text files reads after seen place g h v.number.number)
 
   enum_of : Bool → Bool → List (List ℕ) → EnumOf
   enum_of proto3 starts values = record { is_proto3 = proto3; starts_past_zero = starts; values = values }

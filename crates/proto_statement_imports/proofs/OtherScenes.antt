@@ -11,7 +11,7 @@ use Rattle.proto_imports.specs.Links.{link_skeleton, names_in, names_of_files, t
 use Rattle.proto_parts.specs.Scenes.{EnumOf, MeantOf, Scene, is_proto3, string_of}
 use Rattle.proto_statement_described.proofs.Common.{enum_named, lexemes_of, meaning_of, meant_as, means_of, scene_at}
 use Rattle.proto_statement_names.specs.Kept.{MeanTheSame}
-use Rattle.proto_statement_imports.specs.OtherScenes.{IsLeft, OtherScenesStay}
+use Rattle.proto_statement_imports.specs.OtherScenes.{IsLeft, OtherScenesReadTheSame}
 
 -- ---- what a file refers to is a reference of all
 
@@ -86,5 +86,5 @@ module _ (files : List FileOf) (reads : List ReadOf) (after : List FileOf) (seen
         ap (λ (ls : List Lexeme). scene ls (is_proto3 (λ i. string_of (slice_get (lexemes_of after seen k) i)) (read_at seen k).tree) (means_of after seen k)) h.lexemes
         ∙ ap₂ (λ (b : Bool) (ms : List MeantOf). scene (lexemes_of files reads k) b ms) version_stays means_stay
 
-pub other_scenes_stay : OtherScenesStay
+pub other_scenes_stay : OtherScenesReadTheSame
 other_scenes_stay files reads after seen k means h = scene_stays files reads after seen k means h

@@ -7,7 +7,7 @@ use Rattle.proto_tree.specs.declared.class.Class.TheVariants as class
 use Rattle.proto_tree.specs.declared.class.Want.TheVariants as want
 use Rattle.proto_tree.specs.declared.piece.Statement.{Statement}
 use Rattle.proto_tree.specs.declared.piece.Statement.TheVariants as statement
-use Rattle.proto_tree.proofs.Common.{Mark, flat_header, flat_import, flat_option, flat_statement, mark, one, text as text_mark, Tree, End, Leaf, Block, Spells, flat, classes, marks_fit}
+use Rattle.proto_tree.proofs.Common.{Mark, flat_header, flat_import, flat_option, flat_statement, mark, one, text_mark, Tree, End, Leaf, Block, Spells, flat, classes, marks_fit}
 use Rattle.proto_listing.proofs.Common.{Wanted, imports_in, statement_imports, text_only}
 use Rattle.proto_parts.specs.Scenes.{string_of, value_in, value_or_none as value_by_kind}
 

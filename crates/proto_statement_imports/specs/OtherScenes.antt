@@ -23,8 +23,8 @@ pub record IsLeft
       → enum_named after seen m ≡ enum_named files reads m
 
 -- Where each reference means the same name, it reads the same.
-abbrev pub OtherScenesStay : Type 0
-OtherScenesStay =
+abbrev pub OtherScenesReadTheSame : Type 0
+OtherScenesReadTheSame =
     (files : List FileOf) (reads : List ReadOf) (after : List FileOf) (seen : List ReadOf) (k : ℕ)
     → MeanTheSame files reads after seen
     → IsLeft files reads after seen k

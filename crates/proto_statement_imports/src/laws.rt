@@ -1,7 +1,7 @@
 //! The laws, as functions that do nothing.
 
 ghost use Rattle.proto_statement_imports.specs.MovedFiles.{MovedFilesRead};
-ghost use Rattle.proto_statement_imports.specs.OtherScenes.{OtherScenesStay};
+ghost use Rattle.proto_statement_imports.specs.OtherScenes.{OtherScenesReadTheSame};
 ghost use Rattle.proto_statement_imports.specs.Statements.{FilesAreThere, ImportsAreOne, ImportsAreThere};
 ghost use Rattle.proto_statement_imports.specs.Workspaces.{AdditionsAreMade, DropsAreMade};
 
@@ -14,7 +14,7 @@ use proto_text::laws::segments_are_made;
 /// the same names and enums. Where an import comes into a file, all others read the
 /// same, and this one at moved tokens.
 pub fn scenes_stay()
-    ensures others { OtherScenesStay }
+    ensures others { OtherScenesReadTheSame }
     ensures moved { MovedFilesRead }
 {}
 

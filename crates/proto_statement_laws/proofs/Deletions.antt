@@ -8,12 +8,12 @@ use Rattle.proto_tree.specs.declared.class.Class.TheVariants as class
 use Rattle.proto_tree.specs.declared.context.Context.TheVariants as context
 use Rattle.proto_tree.specs.declared.piece.Statement.{Statement}
 use Rattle.proto_tree.proofs.Common.{Mark, Fit, one, flat_statement, Move, IsShallow, Reads, Tree, End, Leaf, flat, IsWellFormed, last_of, Spells, classes, trees_are_numbered}
-use Rattle.proto_statement_laws.specs.Common.{DeletionsAreOfOneTree, StandsAt, begins, ends, first_token, next_token, own, reserved_at, splice, without, before, MovesBy, reservation, reservation_text, reservation_tokens}
+use Rattle.proto_statement_laws.specs.Common.{DeletionsAreOfOneTree, StandsAt, begins, ends, first_token, next_token, own, reservation_place, splice, without, before, MovesBy, reservation, reservation_text, reservation_tokens}
 use Rattle.proto_statement_laws.specs.Insertions.{IsInsertion}
 use Rattle.proto_statement_laws.proofs.Depth.{depth_is_kept}
-use Rattle.proto_statement_laws.proofs.Exchanged.{around, cut, statements_are_exchanged}
+use Rattle.proto_statement_laws.proofs.Exchanged.{around, cut_around, statements_are_exchanged}
 use Rattle.proto_statement_laws.proofs.Found.{found}
-use Rattle.proto_statement_laws.proofs.Marks.{moves_by, moves_in, some_marks}
+use Rattle.proto_statement_laws.proofs.Marks.{moved_moves_by, moves_in, some_marks}
 use Rattle.proto_statement_laws.proofs.NewStatements.{reservation_fits, reservation_segment, reservation_utf8, spaced, spaced_utf8, word_is_string}
 use Rattle.proto_statement_laws.proofs.Reading.{calm_tree, no_brace}
 use Rattle.proto_statement_laws.proofs.Reversed.{exchanges_are_reversed}
@@ -98,8 +98,8 @@ module _ (laws : Laws) (text : List ℕ) (tokens : List Token) (t : Tree) (s : S
       let spells = subst (λ (x : List Lexeme). Spells t (classes 0 x)) parts reads.spells in
       let shallow = subst (λ (x : List Lexeme). IsShallow (classes 0 x)) parts reads.shallow in
       let ar = around g (Leaf s End) End context.Start t v.middle v.taken in
-      let c = cut t ar.front (flat (Leaf s End)) ar.back front mine (drop q whole) (ar.long ∙ taken_at ∙ sym front_long) (leaf_long s ∙ sym mine_long) ar.old spells.fits in
-      let by_g : MovesBy g (length front) (length mine) 0 = subst (λ (x : ℕ). MovesBy g x (length mine) 0) (sym front_long) (subst (λ (x : ℕ). MovesBy g f x 0) (sym mine_long) (moves_by f n 0)) in
+      let c = cut_around t ar.front (flat (Leaf s End)) ar.back front mine (drop q whole) (ar.long ∙ taken_at ∙ sym front_long) (leaf_long s ∙ sym mine_long) ar.old spells.fits in
+      let by_g : MovesBy g (length front) (length mine) 0 = subst (λ (x : ℕ). MovesBy g x (length mine) 0) (sym front_long) (subst (λ (x : ℕ). MovesBy g f x 0) (sym mine_long) (moved_moves_by f n 0)) in
       let by_k : MovesBy k (length (front ++ mid)) 0 6 = subst (λ (x : ℕ). MovesBy k x 0 6) (sym both_long) (moves_in p 6) in
       let by_back : MovesBy (moved f f (length mine)) (length front) 0 (length mine) = subst (λ (x : ℕ). MovesBy (moved f f (length mine)) x 0 (length mine)) (sym front_long) (moves_in f (length mine)) in
       let one_less = statements_are_exchanged g (Leaf s End) End t v.middle v.taken front mine [] (drop q whole) (taken_at ∙ sym front_long) (leaf_long s ∙ sym mine_long) tt by_g spells in
@@ -194,7 +194,7 @@ deletions_are_of_one_tree laws text tokens t s (Some close) number name reads st
     let moving : List ℕ = bytes_between text (ends tokens s) to in
     let more : List ℕ = codes " " ++ reservation_text number name in
     let seg = laws.join moving more (take (suc close - q) (drop q all)) (reservation_tokens number name) kept.0 (spaced laws (reservation_text number name) (reservation_tokens number name) (reservation_segment laws number name small (word_is_string laws name run).0)) in
-    let c = cut_out laws text tokens t s number name reads stands (suc close) to (reserved_at s (Some close)) (moving ++ more) (sym closes) within (omega (arith, early)) (omega (arith, early, next)) at_close le seg in (
+    let c = cut_out laws text tokens t s number name reads stands (suc close) to (reservation_place s (Some close)) (moving ++ more) (sym closes) within (omega (arith, early)) (omega (arith, early, next)) at_close le seg in (
       c.result,
       c.after,
       c.tree,

@@ -7,7 +7,7 @@ use Rattle.proto_tree.specs.declared.context.Context.{Context}
 use Rattle.proto_tree.specs.declared.context.Context.TheVariants as context
 use Rattle.proto_tree.specs.declared.class.Want.TheVariants as want
 use Rattle.proto_tree.specs.declared.piece.Header.{Header}
-use Rattle.proto_tree.proofs.Common.{Mark, mark, one, Fit, flat_statement, flat_header, Tree, End, Leaf, Block, flat, statement_kind, header_kind, allows, after, inside, IsWellFormed, last_of, classes, Move, shift, move_header, move_statement, move_tree, Fit-join, flat-joined, joined-fine, behind_fine, classes-append, classes-length, fit_moved, fit_parts, regroup, map_append, flat_moved, well_formed_moved, kind_moved, header_kind_moved, inside_moved}
+use Rattle.proto_tree.proofs.Common.{Mark, mark, one, Fit, flat_statement, flat_header, Tree, End, Leaf, Block, flat, statement_kind, header_kind, allows, after, inside, IsWellFormed, last_of, classes, Move, shift, move_header, move_statement, move_tree, Fit-join, flat-joined, joined-fine, behind_fine, classes-append, classes-length, fit_moved, fit_parts, regroup, shift_append, flat_moved, well_formed_moved, kind_moved, header_kind_moved, inside_moved}
 use Rattle.proto_statement_laws.proofs.Endings.{IsApart, apart_then, nothing_behind, the, then, tree_apart}
 use Rattle.proto_statement_laws.specs.Exchanges.{IsExchanged, Here, Later, Inside, Behind, before, StatementsAreExchanged}
 
@@ -30,7 +30,7 @@ behind g a b x y t u head n e f h = record {
   long = length-append (flat head) h.front ∙ ap (λ (k : ℕ). length (flat head) + k) h.long;
   apart = apart_then (flat head) h.front (tree_apart head) h.apart;
   old = e ∙ ap (λ (ms : List Mark). flat head ++ ms) h.old ∙ regroup (flat head) h.front (flat a) h.back;
-  new = f ∙ ap (λ (ms : List Mark). map (shift g) (flat head) ++ ms) h.new ∙ regroup (map (shift g) (flat head)) (map (shift g) h.front) (flat b) (map (shift g) h.back) ∙ ap (λ (ms : List Mark). ms ++ (flat b ++ map (shift g) h.back)) (sym (map_append g (flat head) h.front));
+  new = f ∙ ap (λ (ms : List Mark). map (shift g) (flat head) ++ ms) h.new ∙ regroup (map (shift g) (flat head)) (map (shift g) h.front) (flat b) (map (shift g) h.back) ∙ ap (λ (ms : List Mark). ms ++ (flat b ++ map (shift g) h.back)) (sym (shift_append g (flat head) h.front));
 }
 
 -- the last mark of a list is taken off
@@ -43,7 +43,7 @@ unpush (m ∷ k ∷ a) [] x y e = absurd (cc)
 unpush (m ∷ a) (n ∷ b) x y e = let h : m ≡ n = cc in let t : a ++ x ∷ [] ≡ b ++ y ∷ [] = cc in ap (λ (z : Mark). z ∷ a) h ∙ ap (λ (z : List Mark). n ∷ z) (unpush a b x y t)
 
 pub header_moved : (g : Move) (k : Header) (i : ℕ) → flat_header (move_header g k) ++ one class.Open (g i) ≡ map (shift g) (flat_header k ++ one class.Open i)
-header_moved g k i = unpush (flat_header (move_header g k) ++ one class.Open (g i)) (map (shift g) (flat_header k ++ one class.Open i)) (mark (want.One class.Close) (g 0)) (shift g (mark (want.One class.Close) 0)) (flat_moved g (Block k i End 0 End) ∙ map_append g (flat_header k ++ one class.Open i) (one class.Close 0))
+header_moved g k i = unpush (flat_header (move_header g k) ++ one class.Open (g i)) (map (shift g) (flat_header k ++ one class.Open i)) (mark (want.One class.Close) (g 0)) (shift g (mark (want.One class.Close) 0)) (flat_moved g (Block k i End 0 End) ∙ shift_append g (flat_header k ++ one class.Open i) (one class.Close 0))
 
 pub around : (g : Move) (a b : Tree) (c : Context) (t u : Tree) (r : IsExchanged g a b c t u) → IsAround g a b t u (before r)
 around g a b _ t u (Here c rest fine last) = record {
@@ -74,9 +74,9 @@ around g a b _ t u (Inside c k i x y j rest r) =
       new = ap (λ (ms : List Mark). ms ++ (flat y ++ (one class.Close (g j) ++ flat (move_tree g rest)))) moved_head
           ∙ ap (λ (ms : List Mark). map (shift g) head ++ (ms ++ (one class.Close (g j) ++ flat (move_tree g rest)))) h.new
           ∙ ap (λ (ms : List Mark). map (shift g) head ++ ((map (shift g) h.front ++ (flat b ++ map (shift g) h.back)) ++ ms)) moved
-          ∙ ap (λ (ms : List Mark). map (shift g) head ++ ms) (append_assoc (map (shift g) h.front) (flat b ++ map (shift g) h.back) (map (shift g) tail) ∙ ap (λ (ms : List Mark). map (shift g) h.front ++ ms) (append_assoc (flat b) (map (shift g) h.back) (map (shift g) tail) ∙ ap (λ (ms : List Mark). flat b ++ ms) (sym (map_append g h.back tail))))
+          ∙ ap (λ (ms : List Mark). map (shift g) head ++ ms) (append_assoc (map (shift g) h.front) (flat b ++ map (shift g) h.back) (map (shift g) tail) ∙ ap (λ (ms : List Mark). map (shift g) h.front ++ ms) (append_assoc (flat b) (map (shift g) h.back) (map (shift g) tail) ∙ ap (λ (ms : List Mark). flat b ++ ms) (sym (shift_append g h.back tail))))
           ∙ regroup (map (shift g) head) (map (shift g) h.front) (flat b) (map (shift g) (h.back ++ tail))
-          ∙ ap (λ (ms : List Mark). ms ++ (flat b ++ map (shift g) (h.back ++ tail))) (sym (map_append g head h.front));
+          ∙ ap (λ (ms : List Mark). ms ++ (flat b ++ map (shift g) (h.back ++ tail))) (sym (shift_append g head h.front));
     }
 around g a b _ t u (Behind c k i within j x y r) =
     let h = around g a b (after c (header_kind k)) x y r in
@@ -110,8 +110,8 @@ zero_first n = omega arith
 split : (front x back : List Lexeme) → classes 0 (front ++ (x ++ back)) ≡ classes 0 front ++ (classes (length front) x ++ classes (length front + length x) back)
 split front x back = classes-append 0 front (x ++ back) ∙ ap (λ (ls : List Classed). classes 0 front ++ ls) (ap (λ (k : ℕ). classes k (x ++ back)) (zero_first (length front)) ∙ classes-append (length front) x back)
 
-pub cut : (t : Tree) (fm a bm : List Mark) (front old back : List Lexeme) → length fm ≡ length front → length a ≡ length old → flat t ≡ fm ++ (a ++ bm) → Fit (flat t) (classes 0 (front ++ (old ++ back))) → AreCut t fm a bm front old back
-cut t fm a bm front old back at len parts h =
+pub cut_around : (t : Tree) (fm a bm : List Mark) (front old back : List Lexeme) → length fm ≡ length front → length a ≡ length old → flat t ≡ fm ++ (a ++ bm) → Fit (flat t) (classes 0 (front ++ (old ++ back))) → AreCut t fm a bm front old back
+cut_around t fm a bm front old back at len parts h =
     let whole = subst (λ (ls : List Classed). Fit (fm ++ (a ++ bm)) ls) (split front old back) (subst (λ (ms : List Mark). Fit ms (classes 0 (front ++ (old ++ back)))) parts h) in
     let p = fit_parts fm (a ++ bm) (classes 0 front) (classes (length front) old ++ classes (length front + length old) back) (at ∙ sym (classes-length 0 front)) whole in
     let q = fit_parts a bm (classes (length front) old) (classes (length front + length old) back) (len ∙ sym (classes-length (length front) old)) p.1 in
@@ -121,7 +121,7 @@ pub statements_are_exchanged : StatementsAreExchanged
 statements_are_exchanged g a b t u r front old new back at len fits_b by h =
     let s = around g a b context.Start t u r in
     let n : ℕ = length front in
-    let c = cut t s.front (flat a) s.back front old back (s.long ∙ at) len s.old h.fits in
+    let c = cut_around t s.front (flat a) s.back front old back (s.long ∙ at) len s.old h.fits in
     let moved = fit_moved g (n + length old) (n + length new) s.back back (λ k lt. by.goes k) c.back_fits in
     let kept = fit_moved g 0 0 s.front front (λ k lt. ap g (zero_first k) ∙ by.stays k lt ∙ sym (zero_first k)) c.front_fits in
     let fit = Fit-join (map (shift g) s.front) (flat b ++ map (shift g) s.back) (classes 0 front) (classes n new ++ classes (n + length new) back) kept (Fit-join (flat b) (map (shift g) s.back) (classes n new) (classes (n + length new) back) fits_b moved) in

@@ -8,14 +8,14 @@ use Rattle.proto_tree.specs.declared.context.Kind.TheVariants as kind
 use Rattle.proto_tree.specs.declared.piece.Statement.{Statement}
 use Rattle.proto_tree.specs.declared.piece.Statement.TheVariants as statement
 use Rattle.proto_tree.specs.declared.tree.Import.{Import}
-use Rattle.proto_tree.proofs.Common.{Move, move_statement, Tree, End, Leaf, Block, statement_kind, header_kind, allows, after, inside, joined, after_inner, inside_inner}
+use Rattle.proto_tree.proofs.Common.{Move, move_statement, Tree, End, Leaf, Block, statement_kind, header_kind, allows, after, inside, joined_trees, after_inner, inside_inner}
 use Rattle.proto_listing.proofs.Common.{Wanted, imports_in, statement_imports, move_wanted, imports_moved, statement_imports_moved}
-use Rattle.proto_statement_laws.specs.Common.{IsExchanged, Here, Later, Inside, Behind, HasImport, ImportsComeIn, behind_import}
+use Rattle.proto_statement_laws.specs.Common.{IsExchanged, Here, Later, Inside, Behind, HasImportStatement, ImportsComeIn, behind_import}
 use Rattle.proto_statement_laws.proofs.LastOf.{last_by, last_option, or_none, some_is_not_none}
 
 -- ---- imports of trees one behind the other
 
-pub imports_behind : (b t : Tree) → imports_in (joined b t) ≡ imports_in b ++ imports_in t
+pub imports_behind : (b t : Tree) → imports_in (joined_trees b t) ≡ imports_in b ++ imports_in t
 imports_behind End t = refl
 imports_behind (Leaf s b) t = ap (λ (x : List Wanted). statement_imports s ++ x) (imports_behind b t) ∙ sym (append_assoc (statement_imports s) (imports_in b) (imports_in t))
 imports_behind (Block k i within j b) t = imports_behind b t
@@ -54,7 +54,7 @@ none_inside g i _ t u h (Later c s x y r) = none_inside g i (after c (statement_
 none_inside g i _ t u h (Inside c k n x y j rest r) = none_inside g i (inside k) x y (inside_inner k) r
 none_inside g i _ t u h (Behind c k n within j x y r) = none_inside g i (after c (header_kind k)) x y (stays_inner c (header_kind k) h) r
 
-come_in : (g : Move) (i : Import) (c : Context) (t u : Tree) → IsExchanged g End (Leaf (statement.Import i) End) c t u → HasImport g i t u
+come_in : (g : Move) (i : Import) (c : Context) (t u : Tree) → IsExchanged g End (Leaf (statement.Import i) End) c t u → HasImportStatement g i t u
 come_in g i _ t u (Here c rest fine on) = record { front = []; back = imports_in rest; was = refl; is = ap (λ (x : List Wanted). statement_imports (statement.Import i) ++ x) (imports_moved g rest) }
 come_in g i _ t u (Later c s x y r) =
     let v = come_in g i (after c (statement_kind s)) x y r in

@@ -8,9 +8,9 @@ use Rattle.proto_tree.specs.declared.piece.Statement.{Statement}
 use Rattle.proto_tree.specs.declared.piece.Statement.TheVariants as statement
 use Rattle.proto_tree.specs.declared.tree.Import.{Import}
 use Rattle.proto_tree.specs.declared.tree.Package.{Package}
-use Rattle.proto_tree.proofs.Common.{Mark, mark, name, one, flat_separated, flat_statement, Numbered, Move, move_header, move_statement, move_tree, Tree, End, Leaf, Block, flat, statement_kind, header_kind, after, IsWellFormed, last_of, joined, numbered_append, flat-joined}
+use Rattle.proto_tree.proofs.Common.{Mark, mark, name, one, flat_separated, flat_statement, Numbered, Move, move_header, move_statement, move_tree, Tree, End, Leaf, Block, flat, statement_kind, header_kind, after, IsWellFormed, last_of, joined_trees, numbered_append, flat-joined}
 use Rattle.proto_listing.proofs.Common.{Wanted, imports_in, statement_imports, move_wanted, imports_moved}
-use Rattle.proto_statement_laws.specs.Common.{last_of as last_index, IsExchanged, Here, Later, Behind, before, behind_import, behind_package, behind_syntax, import_place}
+use Rattle.proto_statement_laws.specs.Common.{last_index, IsExchanged, Here, Later, Behind, before, behind_import, behind_package, behind_syntax, import_place}
 use Rattle.proto_statement_laws.proofs.FileContexts.{IsOuter, IsSettled, file_from_start, outer, settled}
 use Rattle.proto_statement_laws.proofs.ImportLists.{imports_behind, leaf_all, leaf_now, no_imports}
 use Rattle.proto_statement_laws.proofs.LastOf.{last_by, last_option, or_else, or_start, place_is, some_is_not_none}
@@ -66,13 +66,13 @@ module _ (g : Move) (b : Tree) (imports : (c : Context) → IsSettled c → IsWe
           let h = imports (after c (statement_kind s)) (settled c (statement_kind s) o) in
           record {
             there = record {
-              tree = Leaf (move_statement g s) (joined b (move_tree g rest));
-              put = Later c s rest (joined b (move_tree g rest)) (Here (after c (statement_kind s)) rest h.0 (λ w. subst (λ d. IsWellFormed d rest) (sym h.1) w));
+              tree = Leaf (move_statement g s) (joined_trees b (move_tree g rest));
+              put = Later c s rest (joined_trees b (move_tree g rest)) (Here (after c (statement_kind s)) rest h.0 (λ w. subst (λ d. IsWellFormed d rest) (sym h.1) w));
               at = omega (arith, tells s n p nums.0 is);
               front = statement_imports s;
               rest = rest;
               all = refl;
-              now = leaf_now g s (imports_in (joined b (move_tree g rest))) [] (imports_in b ++ map (move_wanted g) (imports_in rest)) (imports_behind b (move_tree g rest) ∙ ap (λ (x : List Wanted). imports_in b ++ x) (imports_moved g rest)) ∙ ap (λ (x : List Wanted). map (move_wanted g) x ++ (imports_in b ++ map (move_wanted g) (imports_in rest))) (append-nil (statement_imports s));
+              now = leaf_now g s (imports_in (joined_trees b (move_tree g rest))) [] (imports_in b ++ map (move_wanted g) (imports_in rest)) (imports_behind b (move_tree g rest) ∙ ap (λ (x : List Wanted). imports_in b ++ x) (imports_moved g rest)) ∙ ap (λ (x : List Wanted). map (move_wanted g) x ++ (imports_in b ++ map (move_wanted g) (imports_in rest))) (append-nil (statement_imports s));
             };
             none = was;
           }
@@ -139,7 +139,7 @@ place_of_import g b t fine num imports at_start ends = subst (IsPlacedAt g b t) 
   where
     nowhere : last_by behind_syntax t ≡ None → IsThere g b context.Start t 0 0
     nowhere e = record {
-      tree = joined b (move_tree g t);
+      tree = joined_trees b (move_tree g t);
       put = Here context.Start t at_start (λ w. subst (λ c. IsWellFormed c t) (sym ends) (file_from_start t e w));
       at = refl;
       front = [];

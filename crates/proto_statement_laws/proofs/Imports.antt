@@ -9,13 +9,13 @@ use Rattle.proto_tree.specs.declared.piece.Statement.{Statement}
 use Rattle.proto_tree.specs.declared.piece.Statement.TheVariants as statement
 use Rattle.proto_tree.specs.declared.tree.Import.{Import}
 use Rattle.proto_tree.proofs.Common.{Mark, Fit, flat_statement, Numbered, Move, move_header, move_statement, move_tree, Tree, End, Leaf, Block, flat, statement_kind, header_kind, after, IsWellFormed, last_of, Spells, classes, trees_are_numbered}
-use Rattle.proto_statement_laws.specs.Common.{StandsIn, First, AfterLeaf, AfterBlock, begins, ends, first_token, next_token, own, IsExchanged, Here, Later, Behind, before, MovesBy, AdditionsAreRead, DropsAreRead, added_text, import_place, import_at, import_text, import_tokens}
+use Rattle.proto_statement_laws.specs.Common.{StandsIn, First, AfterLeaf, AfterBlock, begins, ends, first_token, next_token, own, IsExchanged, Here, Later, Behind, before, MovesBy, AdditionsAreRead, DropsAreRead, added_text, import_place, import_tree, import_text, import_tokens}
 use Rattle.proto_statement_laws.proofs.Deletions.{drop_front, in_parts, take_front}
 use Rattle.proto_statement_laws.proofs.Endings.{nothing_behind}
 use Rattle.proto_statement_laws.proofs.Exchanged.{around}
 use Rattle.proto_statement_laws.proofs.FileContexts.{IsOuter, IsSettled, import_may, import_stays, outer, settled, start_from_file}
 use Rattle.proto_statement_laws.proofs.ImportPlaces.{place_of_import}
-use Rattle.proto_statement_laws.proofs.Marks.{moves_by, moves_in, numbered_among, numbered_first, numbered_last, some_marks}
+use Rattle.proto_statement_laws.proofs.Marks.{moved_moves_by, moves_in, numbered_among, numbered_first, numbered_last, some_marks}
 use Rattle.proto_statement_laws.proofs.NewStatements.{feed_utf8, import_fits, import_segment, import_utf8}
 use Rattle.proto_statement_laws.proofs.Reading.{statements_are_read}
 use Rattle.proto_statement_laws.proofs.Reversed.{exchanges_are_reversed}
@@ -25,7 +25,7 @@ use Rattle.proto_statement_laws.proofs.TextLaws.{Laws}
 
 -- ---- an added import
 
-import_fine : (i : ℕ) (c : Context) → IsSettled c → IsWellFormed c (import_at i) × (last_of c (import_at i) ≡ c)
+import_fine : (i : ℕ) (c : Context) → IsSettled c → IsWellFormed c (import_tree i) × (last_of c (import_tree i) ≡ c)
 import_fine i c s = ((import_may c (outer c s), tt), import_stays c s)
 
 added_segment : (laws : Laws) (i : ℕ) (path : List ℕ) → IsString (quoted path) → IsSegment (added_text i path) (import_tokens path)
@@ -41,7 +41,7 @@ pub additions_are_read : Laws → AdditionsAreRead
 additions_are_read laws text tokens t path reads is =
     let i : ℕ = import_place t in
     let g : Move = moved i i 3 in
-    let b : Tree = import_at i in
+    let b : Tree = import_tree i in
     let end : ℕ = end_before tokens i in
     let w = place_of_import g b t reads.spells.well_formed (trees_are_numbered t (map (lexeme_at text) tokens) reads.spells) (import_fine i) (refl, tt) refl in
     let v = w.there in
@@ -130,7 +130,7 @@ drops_are_read runs text tokens t x reads stands =
     let read = statements_are_read runs text tokens g a End t v.tree v.put (begins tokens s) (ends tokens s) [] [] reads tt tt
     (subst (λ (y : ℕ). IsPlace tokens y (begins tokens s)) (sym place) p) (subst (λ (y : ℕ). IsPlace tokens y (ends tokens s)) (sym j_is) r) le
     ([], (λ rest. tt), refl, refl) tt
-    (subst (λ (y : ℕ). MovesBy g y (length (flat a)) 0) (sym place) (subst (λ (y : ℕ). MovesBy g f y 0) (sym long) (moves_by f n 0))) in
+    (subst (λ (y : ℕ). MovesBy g y (length (flat a)) 0) (sym place) (subst (λ (y : ℕ). MovesBy g f y 0) (sym long) (moved_moves_by f n 0))) in
     let replaced : IsReplaced text tokens f q (begins tokens s) (ends tokens s) [] [] read.0 read.1 =
     subst (λ (y : ℕ). IsReplaced text tokens y q (begins tokens s) (ends tokens s) [] [] read.0 read.1) place
     (subst (λ (y : ℕ). IsReplaced text tokens (before v.put) y (begins tokens s) (ends tokens s) [] [] read.0 read.1) j_is read.2) in

@@ -4,11 +4,11 @@ use Rattle.proto_faults.proofs.Common.{and_parts, both_ways, cases_lt, false_fro
 use Rattle.proto_text.specs.declared.class.Class.TheVariants.{Letter, Quote, Mark, Slash, Other}
 use Rattle.proto_text.specs.declared.kind.PieceKind.TheVariants.{Solid}
 use Rattle.proto_text.specs.declared.kind.TokenKind.TheVariants.{Word, Number, Text, Punctuation}
-use Rattle.proto_text.proofs.Common.{Each, class_of, extends_word, is_digit, is_identifier, is_letter, is_mark, is_space, IsLexeme, IsRun, IsSegment, is_plain, quoted, IsString, Lexeme, StandsFor, says}
+use Rattle.proto_text.proofs.Common.{EachByte, class_of, extends_word, is_digit, is_identifier, is_letter, is_mark, is_space, IsLexeme, IsRun, IsSegment, is_plain, quoted, IsString, Lexeme, StandsFor, says}
 use Rattle.proto_tree.specs.declared.class.Class.TheVariants as class
 use Rattle.proto_tree.specs.declared.class.Want.TheVariants as want
 use Rattle.proto_tree.proofs.Common.{fits, Fit, flat, class_by, classes}
-use Rattle.proto_statement_laws.specs.Statements.{import_at, import_text, import_tokens, reservation, reservation_text, reservation_tokens, semicolon, token}
+use Rattle.proto_statement_laws.specs.Statements.{import_tree, import_text, import_tokens, reservation, reservation_text, reservation_tokens, semicolon_token, token_of_text}
 use Rattle.proto_statement_laws.proofs.TextLaws.{Laws}
 
 -- ---- segments
@@ -34,12 +34,12 @@ unfolding class_of
 semicolon_apart = refl
 
 module _ (laws : Laws) where
-  semicolon_segment : IsSegment (codes ";") (semicolon ∷ [])
+  semicolon_segment : IsSegment (codes ";") (semicolon_token ∷ [])
   semicolon_segment = laws.token Punctuation (codes ";") semicolon_mark tt
 
   -- a string and a semicolon
-  named_segment : (name : List ℕ) → IsString (quoted name) → IsSegment (quoted name ++ codes ";") (token Text (quoted name) ∷ semicolon ∷ [])
-  named_segment name is = laws.join (quoted name) (codes ";") (token Text (quoted name) ∷ []) (semicolon ∷ []) (laws.token Text (quoted name) is tt) semicolon_segment
+  named_segment : (name : List ℕ) → IsString (quoted name) → IsSegment (quoted name ++ codes ";") (token_of_text Text (quoted name) ∷ semicolon_token ∷ [])
+  named_segment name is = laws.join (quoted name) (codes ";") (token_of_text Text (quoted name) ∷ []) (semicolon_token ∷ []) (laws.token Text (quoted name) is tt) semicolon_segment
 
   pub spaced : (bytes : List ℕ) (ls : List Lexeme) → IsSegment bytes ls → IsSegment (32 ∷ bytes) ls
   spaced bytes ls h = laws.join (32 ∷ []) bytes [] ls (laws.space 32 refl) h
@@ -50,7 +50,7 @@ module _ (laws : Laws) where
   pub reservation_segment : (number : ℕ) (name : List ℕ) → number < 2 ^ 64 → IsString (quoted name) → IsSegment (reservation_text number name) (reservation_tokens number name)
   reservation_segment number name small is =
       let again = laws.before Word (codes "reserved") 32 (quoted name ++ codes ";") _ reserved_word space_apart (spaced _ _ (named_segment name is)) in
-      let ended = laws.join (codes ";") (32 ∷ (codes "reserved" ++ 32 ∷ (quoted name ++ codes ";"))) (semicolon ∷ []) _ semicolon_segment (spaced _ _ again) in
+      let ended = laws.join (codes ";") (32 ∷ (codes "reserved" ++ 32 ∷ (quoted name ++ codes ";"))) (semicolon_token ∷ []) _ semicolon_segment (spaced _ _ again) in
       let counted = laws.before Number (decimal number) 59 (32 ∷ (codes "reserved" ++ 32 ∷ (quoted name ++ codes ";"))) _ (laws.decimal number small) semicolon_apart ended in
       laws.before Word (codes "reserved") 32 (decimal number ++ 59 ∷ (32 ∷ (codes "reserved" ++ 32 ∷ (quoted name ++ codes ";")))) _ reserved_word space_apart (spaced _ _ counted)
 
@@ -70,7 +70,7 @@ reservation_fits i number name = (
   (refl, omega arith, (refl, omega arith, (refl, omega arith, (text_fits (quoted name), omega arith, (refl, omega arith, tt))))),
 )
 
-pub import_fits : (i : ℕ) (path : List ℕ) → Fit (flat (import_at i)) (classes i (import_tokens path))
+pub import_fits : (i : ℕ) (path : List ℕ) → Fit (flat (import_tree i)) (classes i (import_tokens path))
 import_fits i path = (refl, refl, (text_fits (quoted path), omega arith, (refl, omega arith, tt)))
 
 -- ---- a word stands for itself in quotes
@@ -110,18 +110,18 @@ ascii b h = elim (cases_lt b 128) [
   | inr ge ↦ absurd (both_ways (is_identifier b) (high_is_none b ge) h)
 ]
 
-each_plain : (w : List ℕ) → Each is_identifier w → Each is_plain w
+each_plain : (w : List ℕ) → EachByte is_identifier w → EachByte is_plain w
 each_plain [] h = tt
 each_plain (b ∷ w) h = (plain b h.0, each_plain w h.1)
 
-each_ascii : (w : List ℕ) → Each is_identifier w → IsAscii w
+each_ascii : (w : List ℕ) → EachByte is_identifier w → IsAscii w
 each_ascii [] h = IsAscii-nil
 each_ascii (b ∷ w) h = IsAscii-cons b w (ascii b h.0) (each_ascii w h.1)
 
 letter_extends : (b : ℕ) → class_of b ≡ Letter → is_identifier b ≡ true
 letter_extends b e = ap extends_word e
 
-each_of_run : (w : List ℕ) → IsRun Letter w → Each is_identifier w
+each_of_run : (w : List ℕ) → IsRun Letter w → EachByte is_identifier w
 each_of_run [] h = absurd h
 each_of_run (b ∷ w) h = (letter_extends b h.0, h.1)
 

@@ -11,7 +11,7 @@ use Rattle.proto_tree.specs.declared.piece.Statement.TheVariants as statement
 use Rattle.proto_tree.proofs.Common.{is_brace, Fit, flat_statement, IsShallow, Tree, End, Leaf, Block, flat, field_kind, statement_kind, allows, Spells, classes, Fit-split, Calm, Calm-append, no_text, laws}
 use Rattle.proto_statement_laws.specs.Common.{before, AreStatements, HaveNoBrace, StatementsAreRead}
 use Rattle.proto_statement_laws.proofs.Depth.{depth_is_kept}
-use Rattle.proto_statement_laws.proofs.Exchanged.{around, cut, statements_are_exchanged}
+use Rattle.proto_statement_laws.proofs.Exchanged.{around, cut_around, statements_are_exchanged}
 use Rattle.proto_statement_laws.proofs.Seams.{places_are_seams}
 
 -- ---- no brace is in a statement
@@ -74,7 +74,7 @@ statements_are_read runs_are_replaced source tokens g a b t u r from to new ls r
     let parts : all ≡ front ++ (old ++ back) = in_three i n all in
     let spells = subst (λ (x : List Lexeme). Spells t (classes 0 x)) parts reads.spells in
     let shallow = subst (λ (x : List Lexeme). IsShallow (classes 0 x)) parts reads.shallow in
-    let c = cut t s.front (flat a) s.back front old back (s.long ∙ sym front_long) (sym old_long) s.old spells.fits in
+    let c = cut_around t s.front (flat a) s.back front old back (s.long ∙ sym front_long) (sym old_long) s.old spells.fits in
     let spelled = statements_are_exchanged g a b t u r front old ls back (sym front_long) (sym old_long) (subst (λ (k : ℕ). Fit (flat b) (classes k ls)) (sym front_long) fit)
     (record {
       stays = λ k lt. by.stays k (omega (arith, lt, front_long));

@@ -4,17 +4,17 @@ use Rattle.std.proofs.lemmas.List.{length-map}
 use Rattle.proto_tree.specs.declared.class.Class.TheVariants as class
 use Rattle.proto_tree.specs.declared.context.Context.{Context}
 use Rattle.proto_tree.specs.declared.context.Context.TheVariants as context
-use Rattle.proto_tree.proofs.Common.{Mark, one, flat_statement, flat_header, Move, shift, move_header, move_statement, move_tree, Tree, End, Leaf, Block, flat, statement_kind, header_kind, after, inside, IsWellFormed, last_of, joined, one_tree, flat_moved, well_formed_moved, kind_moved, header_kind_moved, inside_moved, classes, behind_fine}
+use Rattle.proto_tree.proofs.Common.{Mark, one, flat_statement, flat_header, Move, shift, move_header, move_statement, move_tree, Tree, End, Leaf, Block, flat, statement_kind, header_kind, after, inside, IsWellFormed, last_of, joined_trees, one_tree, flat_moved, well_formed_moved, kind_moved, header_kind_moved, inside_moved, classes, behind_fine}
 use Rattle.proto_statement_laws.specs.Exchanges.{IsExchanged, Here, Later, Inside, Behind, before, ExchangesAreReversed}
 use Rattle.proto_statement_laws.proofs.Endings.{nothing_behind}
-use Rattle.proto_statement_laws.proofs.Exchanged.{around, cut, header_moved, statements_are_exchanged}
+use Rattle.proto_statement_laws.proofs.Exchanged.{around, cut_around, header_moved, statements_are_exchanged}
 
 record IsBack (back : Move) (a b : Tree) (c : Context) (u : Tree) (n : ℕ) : Type 0 where
   tree : Tree
   put : IsExchanged back b a c u tree
   same : before put ≡ n
 
-front_fine : (a rest : Tree) (c : Context) → IsWellFormed c (joined a rest) → IsWellFormed c a
+front_fine : (a rest : Tree) (c : Context) → IsWellFormed c (joined_trees a rest) → IsWellFormed c a
 front_fine End rest c h = tt
 front_fine (Leaf s a) rest c h = (h.0, front_fine a rest (after c (statement_kind s)) h.1)
 front_fine (Block k i within j a) rest c h = (h.0, h.1, front_fine a rest (after c (header_kind k)) h.2)
@@ -30,7 +30,7 @@ header_long g k i = ap (λ (x : List Mark). length x) (header_moved g k i) ∙ l
 
 backwards : (g back : Move) (a b : Tree) (c : Context) (t u : Tree) (r : IsExchanged g a b c t u) → IsWellFormed c t → (d : Context) → d ≡ c → IsBack back a b d u (before r)
 backwards g back a b _ t u (Here c rest fine on) h d e = record {
-  tree = joined a (move_tree back (move_tree g rest));
+  tree = joined_trees a (move_tree back (move_tree g rest));
   put = Here d (move_tree g rest) (subst (λ (x : Context). IsWellFormed x a) (sym e) (front_fine a rest c h)) (λ k. well_formed_moved g (last_of d a) rest (subst (λ (x : Context). IsWellFormed (last_of x a) rest) (sym e) (behind_fine a rest c h)));
   same = refl;
 }
@@ -60,7 +60,7 @@ pub exchanges_are_reversed : ExchangesAreReversed
 exchanges_are_reversed g back a b t u r front old new rest at len_a len_b by spells_t spells_u =
     let v = backwards g back a b context.Start t u r spells_t.well_formed context.Start refl in
     let s = around g a b context.Start t u r in
-    let c = cut t s.front (flat a) s.back front old rest (s.long ∙ at) len_a s.old spells_t.fits in
+    let c = cut_around t s.front (flat a) s.back front old rest (s.long ∙ at) len_a s.old spells_t.fits in
     let again = statements_are_exchanged back b a u v.tree v.put front new old rest (v.same ∙ at) len_b c.old_fits by spells_u in
     let same : v.tree ≡ t = one_tree v.tree t (classes 0 (front ++ (old ++ rest))) again spells_t in
     go v.tree same v.put v.same

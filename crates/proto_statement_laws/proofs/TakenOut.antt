@@ -8,7 +8,7 @@ use Rattle.proto_tree.specs.declared.context.Kind.TheVariants as kind
 use Rattle.proto_tree.specs.declared.piece.Header.{Header}
 use Rattle.proto_tree.specs.declared.piece.Header.TheVariants as header
 use Rattle.proto_tree.specs.declared.piece.Statement.{Statement}
-use Rattle.proto_tree.proofs.Common.{Mark, one, flat_header, flat_statement, Numbered, Move, move_header, move_statement, move_tree, shift, Tree, End, Leaf, Block, flat, statement_kind, header_kind, allows, after, IsWellFormed, last_of, joined, numbered_append, flat-joined, after_inner, header_kind_moved, kind_moved}
+use Rattle.proto_tree.proofs.Common.{Mark, one, flat_header, flat_statement, Numbered, Move, move_header, move_statement, move_tree, shift, Tree, End, Leaf, Block, flat, statement_kind, header_kind, allows, after, IsWellFormed, last_of, joined_trees, numbered_append, flat-joined, after_inner, header_kind_moved, kind_moved}
 use Rattle.proto_statement_laws.specs.Common.{StandsAt, InMessage, InOneof, Deeper, PastLeaf, PastBlock, StandsIn, First, AfterLeaf, AfterBlock, IsExchanged, Here, Later, Inside, Behind, before}
 use Rattle.proto_statement_laws.proofs.Endings.{nothing_behind}
 use Rattle.proto_statement_laws.proofs.Exchanged.{around}
@@ -77,7 +77,7 @@ module _ (g k : Move) (s : Statement) where
     middle = move_tree g rest;
     taken = Here c rest tt (λ w. subst (λ x. IsWellFormed x rest) (after_inner c (statement_kind s) inner) w);
     taken_at = refl;
-    tree = joined b (move_tree k (move_tree g rest));
+    tree = joined_trees b (move_tree k (move_tree g rest));
     put = Here d (move_tree g rest) (subst (λ x. IsWellFormed x b) (sym e) fine) (λ w. subst (λ x. IsWellFormed x (move_tree g rest)) (e ∙ sym stays ∙ ap (λ x. last_of x b) (sym e)) w);
     put_at = refl;
   }
@@ -128,8 +128,8 @@ module _ (g k : Move) (s : Statement) where
           middle = Block (move_header g x) (g i) v.middle (g j) (move_tree g rest);
           taken = Inside c x i within v.middle j rest v.taken;
           taken_at = ap (λ (n : ℕ). length (flat_header (header.Oneof h) ++ one class.Open i) + n) v.taken_at;
-          tree = Block (move_header k (move_header g x)) (k (g i)) (move_tree k v.middle) (k (g j)) (joined b (move_tree k (move_tree g rest)));
-          put = Behind d (move_header g x) (g i) v.middle (g j) (move_tree g rest) (joined b (move_tree k (move_tree g rest)))
+          tree = Block (move_header k (move_header g x)) (k (g i)) (move_tree k v.middle) (k (g j)) (joined_trees b (move_tree k (move_tree g rest)));
+          put = Behind d (move_header g x) (g i) v.middle (g j) (move_tree g rest) (joined_trees b (move_tree k (move_tree g rest)))
               (Here (after d kind.OpenOneof) (move_tree g rest) (subst (λ y. IsWellFormed y b) (sym in_message) fine)
               (λ y. subst (λ z. IsWellFormed z (move_tree g rest)) (in_message ∙ sym (ap (λ z. last_of z b) in_message ∙ stays)) y));
           put_at = omega (arith, long, leaf_long s, block_long (move_header g x) (g i) v.middle (g j) End, block_long x i within j End);

@@ -59,23 +59,23 @@ pub data StandsAt (s : Statement) : Option ℕ → Tree → Type 0 where
 -- ---- the splice
 
 -- the index of the first token of some marks; 0 where there are none
-abbrev pub first_of : List Mark → ℕ
-first_of [] = 0
-first_of (m ∷ ms) = m.at
+abbrev pub first_index : List Mark → ℕ
+first_index [] = 0
+first_index (m ∷ ms) = m.at
 
 -- the index of the last token of some marks; 0 where there are none
-abbrev pub last_of : List Mark → ℕ
-last_of [] = 0
-last_of (m ∷ []) = m.at
-last_of (m ∷ n ∷ ms) = last_of (n ∷ ms)
+abbrev pub last_index : List Mark → ℕ
+last_index [] = 0
+last_index (m ∷ []) = m.at
+last_index (m ∷ n ∷ ms) = last_index (n ∷ ms)
 
 -- the index of the first token of a statement
 abbrev pub first_token : Statement → ℕ
-first_token s = first_of (flat_statement s)
+first_token s = first_index (flat_statement s)
 
 -- the index of the token behind a statement
 abbrev pub next_token : Statement → ℕ
-next_token s = suc (last_of (flat_statement s))
+next_token s = suc (last_index (flat_statement s))
 
 -- the offset at which a statement begins
 abbrev pub begins : List Token → Statement → ℕ
@@ -112,9 +112,9 @@ without s ls = take (first_token s) ls ++ drop (next_token s) ls
 
 -- where the reservation stands among the tokens without the statement: in its
 -- place, or behind the `}` of its oneof
-abbrev pub reserved_at : Statement → Option ℕ → ℕ
-reserved_at s None = first_token s
-reserved_at s (Some close) = suc close - (next_token s - first_token s)
+abbrev pub reservation_place : Statement → Option ℕ → ℕ
+reservation_place s None = first_token s
+reservation_place s (Some close) = suc close - (next_token s - first_token s)
 
 -- A deletion is of one tree, which has neither the field nor the reservation: the old tree is that
 -- tree with the field put in, and the new one is that tree with the reservation put in.
@@ -127,7 +127,7 @@ pub record IsDeleted
   pub middle : Tree
   pub old : IsInsertion (first_token s) (Leaf s End) (own s (map (lexeme_at text) tokens)) middle
       (without s (map (lexeme_at text) tokens)) t (map (lexeme_at text) tokens)
-  pub new : IsInsertion (reserved_at s o) (reservation (reserved_at s o))
+  pub new : IsInsertion (reservation_place s o) (reservation (reservation_place s o))
       (reservation_tokens number name) middle (without s (map (lexeme_at text) tokens)) u
       (map (lexeme_at result) after)
 

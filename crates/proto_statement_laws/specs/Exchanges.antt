@@ -9,7 +9,7 @@ use Rattle.proto_tree.specs.declared.piece.Header.{Header}
 use Rattle.proto_tree.specs.declared.piece.Statement.{Statement}
 use Rattle.proto_tree.specs.Flat.{Fit, one, flat_statement, flat_header}
 use Rattle.proto_tree.specs.Moved.{Move, move_header, move_statement, move_tree}
-use Rattle.proto_tree.specs.Tree.{Tree, End, Leaf, Block, flat, statement_kind, header_kind, after, inside, IsWellFormed, last_of, joined, Spells}
+use Rattle.proto_tree.specs.Tree.{Tree, End, Leaf, Block, flat, statement_kind, header_kind, after, inside, IsWellFormed, last_of, joined_trees, Spells}
 use Rattle.proto_tree.specs.Words.{classes}
 
 -- The second tree is the first, moved, with the items of b in the place of those of a: at one
@@ -18,7 +18,7 @@ pub data IsExchanged (g : Move) (a b : Tree) : Context → Tree → Tree → Typ
   Here : (c : Context) (rest : Tree)
       → IsWellFormed c b
       → (IsWellFormed (last_of c a) rest → IsWellFormed (last_of c b) rest)
-      → IsExchanged g a b c (joined a rest) (joined b (move_tree g rest))
+      → IsExchanged g a b c (joined_trees a rest) (joined_trees b (move_tree g rest))
   Later : (c : Context) (s : Statement) (t u : Tree)
       → IsExchanged g a b (after c (statement_kind s)) t u
       → IsExchanged g a b c (Leaf s t) (Leaf (move_statement g s) u)

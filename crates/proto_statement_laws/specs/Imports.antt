@@ -20,7 +20,7 @@ use Rattle.proto_parts.specs.Parts.{statements}
 use Rattle.proto_statement_laws.specs.Deletions.{StandsIn, begins, ends, own, splice, without}
 use Rattle.proto_statement_laws.specs.Exchanges.{IsExchanged}
 use Rattle.proto_statement_laws.specs.Insertions.{IsInsertion}
-use Rattle.proto_statement_laws.specs.Statements.{import_at, import_text, import_tokens}
+use Rattle.proto_statement_laws.specs.Statements.{import_tree, import_text, import_tokens}
 
 -- ---- the place of an added import
 
@@ -70,7 +70,7 @@ drop_of text tokens i =
 -- ---- what is read
 
 -- The second tree has the imports of the first, moved, and between them that of the statement.
-pub record HasImport (g : Move) (i : Import) (t u : Tree) : Type 0 where
+pub record HasImportStatement (g : Move) (i : Import) (t u : Tree) : Type 0 where
   pub front : List Wanted
   pub back : List Wanted
   pub was : imports_in t ≡ front ++ back
@@ -81,19 +81,19 @@ pub record HasImport (g : Move) (i : Import) (t u : Tree) : Type 0 where
 abbrev pub ImportsComeIn : Type 0
 ImportsComeIn = (g : Move) (i : Import) (t u : Tree)
     → IsExchanged g End (Leaf (statement.Import i) End) context.Start t u
-    → HasImport g i t u
+    → HasImportStatement g i t u
 
 -- The import is put in, and is the last.
-pub record IsAdded
+pub record IsImportPutIn
     (text : Text) (tokens : List Token) (t : Tree) (path : Path) (result : Text)
     (after : List Token) (u : Tree) : Type 0 where
   pub put : Puts 0 text (addition text tokens t path ∷ []) result
   pub utf8 : IsUtf8 path → IsUtf8 text → IsUtf8 result
   pub reads : Reads result after u
-  pub tree : IsInsertion (import_place t) (import_at (import_place t)) (import_tokens path) t
+  pub tree : IsInsertion (import_place t) (import_tree (import_place t)) (import_tokens path) t
       (map (lexeme_at text) tokens) u (map (lexeme_at result) after)
   pub last : imports_in u ≡ map (move_wanted (moved (import_place t) (import_place t) 3))
-      (imports_in t) ++ imports_in (import_at (import_place t))
+      (imports_in t) ++ imports_in (import_tree (import_place t))
 
 -- Where a string of the path in quotes is put in, a tree is read of what comes out.
 abbrev pub AdditionsAreRead : Type 0
@@ -101,10 +101,10 @@ AdditionsAreRead = (text : Text) (tokens : List Token) (t : Tree) (path : Path)
     → Reads text tokens t
     → IsString (quoted path)
     → (result : Text) × (after : List Token) × (u : Tree)
-    × IsAdded text tokens t path result after u
+    × IsImportPutIn text tokens t path result after u
 
 -- The old tree is the new one with the import put in.
-pub record IsDropped
+pub record IsImportTakenOut
     (text : Text) (tokens : List Token) (t : Tree) (i : Import) (result : Text)
     (after : List Token) (u : Tree) : Type 0 where
   pub put : Puts 0 text (drop_of text tokens i ∷ []) result
@@ -122,4 +122,4 @@ DropsAreRead = (text : Text) (tokens : List Token) (t : Tree) (i : Import)
     → Reads text tokens t
     → StandsIn (statement.Import i) t
     → (result : Text) × (after : List Token) × (u : Tree)
-    × IsDropped text tokens t i result after u
+    × IsImportTakenOut text tokens t i result after u

@@ -10,12 +10,12 @@ use Rattle.proto_tree.specs.declared.tree.ReservedList.TheVariants as reserved_l
 use Rattle.proto_tree.specs.Tree.{Tree, End, Leaf}
 
 -- a token of this kind with this text
-abbrev pub token : TokenKind → List ℕ → Lexeme
-token kind text = record { kind = kind; text = text }
+abbrev pub token_of_text : TokenKind → List ℕ → Lexeme
+token_of_text kind text = record { kind = kind; text = text }
 
 -- the token `;`
-abbrev pub semicolon : Lexeme
-semicolon = token Punctuation (codes ";")
+abbrev pub semicolon_token : Lexeme
+semicolon_token = token_of_text Punctuation (codes ";")
 
 -- ---- a number and a name that are reserved
 
@@ -27,8 +27,8 @@ reservation_text number name =
 -- the tokens of `reserved N; reserved "name";`
 abbrev pub reservation_tokens : ℕ → List ℕ → List Lexeme
 reservation_tokens number name =
-    token Word (codes "reserved") ∷ token Number (decimal number) ∷ semicolon
-    ∷ token Word (codes "reserved") ∷ token Text (quoted name) ∷ semicolon
+    token_of_text Word (codes "reserved") ∷ token_of_text Number (decimal number) ∷ semicolon_token
+    ∷ token_of_text Word (codes "reserved") ∷ token_of_text Text (quoted name) ∷ semicolon_token
     ∷ []
 
 -- the two statements, whose tokens begin with this index
@@ -54,10 +54,11 @@ import_text path = codes "import " ++ (quoted path ++ codes ";")
 
 -- the tokens of `import "PATH";`
 abbrev pub import_tokens : List ℕ → List Lexeme
-import_tokens path = token Word (codes "import") ∷ token Text (quoted path) ∷ semicolon ∷ []
+import_tokens path =
+    token_of_text Word (codes "import") ∷ token_of_text Text (quoted path) ∷ semicolon_token ∷ []
 
 -- the statement, whose tokens begin with this index
-abbrev pub import_at : ℕ → Tree
-import_at i =
+abbrev pub import_tree : ℕ → Tree
+import_tree i =
     Leaf (statement.Import (record { keyword = i; public = None; path = i + 1; semicolon = i + 2 }))
     End

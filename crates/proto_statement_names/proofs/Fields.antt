@@ -9,7 +9,7 @@ use Rattle.proto_meaning.proofs.Common.{joined, Symbol, symbol_of, joined_apart,
 use Rattle.proto_imports.proofs.Common.{LinkFaults, link_skeleton, names_of_files, text_of, names_are_plain}
 use Rattle.proto_rename_laws.proofs.Common.{IsUnknown, RenameCase, unknown_target as unknown_renamed, kind_not_allowed as kind_not_renamed, Target, may_rename, files_are_linked, targets_are_one, targets_are_there}
 use Rattle.proto_statement_names.specs.Cases.{DeletionCase, IsField, kind_not_allowed, last_of_oneof, unknown_target}
-use Rattle.proto_statement_names.specs.Fields.{FieldsAreOne, FieldsAreThere, FieldsMayGo}
+use Rattle.proto_statement_names.specs.Fields.{NamedFieldsAreOne, NamedFieldsAreThere, FieldsMayGo}
 
 field_or : (k : Kind) → (k ≡ Field) ⊎ (k ≢ Field)
 field_or Field = inl refl
@@ -46,7 +46,7 @@ says_deletion files reads name _ (last_of_oneof t f a) = tt
 
 -- ---- the laws
 
-pub fields_are_there : FieldsAreThere
+pub fields_are_there : NamedFieldsAreThere
 fields_are_there files reads name r known allowed =
     let t = targets_are_there files reads name [] r
     (λ c. known (unknown_target (says_rename files reads name [] 1 c)))
@@ -56,7 +56,7 @@ fields_are_there files reads name r known allowed =
       | inr other ↦ absurd (allowed (kind_not_allowed (symbol_of (text_of files reads) entry_name t.0.aim) (contains_map (symbol_of (text_of files reads) entry_name) (link_skeleton files reads).declared t.0.aim t.1.within) t.1.name_is other))
     ]
 
-pub fields_are_one : FieldsAreOne
+pub fields_are_one : NamedFieldsAreOne
 fields_are_one files reads name t u r clean a b = targets_are_one files reads name t u r clean a.named b.named
 
 module _ (files : List FileOf) (reads : List ReadOf) (name : List ℕ) (t : Target) (r : AreRead files reads) (clean : HasNoFault (LinkFaults files)) (f : IsField files reads name t) where

@@ -1,7 +1,7 @@
 -- Imports without faults, with one more and with one less (for the crates above).
 use Rattle.std.proofs.Common.{◌≡◌, ◌≢◌, ◌⊎◌, ℕ, List, [], ◌∷◌, ◌++◌, map, Option, Some, None, option_map, refl, sym, ◌∙◌, ap, subst, inl, inr, arith, Contains, filter_map}
 use Rattle.proto_faults.proofs.Common.{cons_option, Contains-append_cases, Contains-append_left, Contains-append_right, none-some, same_Some, contains_cases, contains_head, contains_later, contains_map, from_map}
-use Rattle.proto_meaning.proofs.Common.{IsAcyclic, Leads, onward, stop, Asked, Fault, ImportFault, cycle, double, fault, file_of, import_at, imports_of, unknown, Import, Follows, after_follows, follows_after, follows_map, map_follows}
+use Rattle.proto_meaning.proofs.Common.{IsAcyclic, Leads, onward, stop, AskedImport, Fault, ImportFault, cycle, double, fault, file_with_path, import_from_asked, imports_of, unknown, Import, Follows, after_follows, follows_after, follows_map, map_follows}
 use Rattle.proto_statement_names.specs.Lists.{HasOneMore}
 use Rattle.proto_statement_names.proofs.Lists.{one_filter_map, one_has, one_or}
 use Rattle.proto_statement_names.proofs.Spelled.{imports_unplaced, unplaced}
@@ -65,51 +65,51 @@ filtered_has {X} {Y} h (z ∷ xs) x y c e = elim (contains_cases z x xs c) [
     behind None d = d
     behind (Some v) d = contains_later v y (filter_map h xs) d
 
-pub import_asked : (paths : List (List ℕ)) (asked : List Asked) (i : Import) → Contains (imports_of paths asked) i → (a : Asked) × Contains asked a × (import_at paths a ≡ Some i)
+pub import_asked : (paths : List (List ℕ)) (asked : List AskedImport) (i : Import) → Contains (imports_of paths asked) i → (a : AskedImport) × Contains asked a × (import_from_asked paths a ≡ Some i)
 import_asked paths [] i c = absurd (omega (arith, c.1))
-import_asked paths (a ∷ asked) i c = by (λ d. let r = import_asked paths asked i d in (r.0, contains_later a r.0 asked r.1, r.2)) (import_at paths a) refl c
+import_asked paths (a ∷ asked) i c = by (λ d. let r = import_asked paths asked i d in (r.0, contains_later a r.0 asked r.1, r.2)) (import_from_asked paths a) refl c
   where
-    by : (Contains (imports_of paths asked) i → (b : Asked) × Contains (a ∷ asked) b × (import_at paths b ≡ Some i)) → (o : Option Import) → import_at paths a ≡ o → Contains (cons_option o (imports_of paths asked)) i → (b : Asked) × Contains (a ∷ asked) b × (import_at paths b ≡ Some i)
+    by : (Contains (imports_of paths asked) i → (b : AskedImport) × Contains (a ∷ asked) b × (import_from_asked paths b ≡ Some i)) → (o : Option Import) → import_from_asked paths a ≡ o → Contains (cons_option o (imports_of paths asked)) i → (b : AskedImport) × Contains (a ∷ asked) b × (import_from_asked paths b ≡ Some i)
     by later None e d = later d
     by later (Some j) e d = elim (contains_cases j i (imports_of paths asked) d) [ inl same ↦ (a, contains_head a asked, e ∙ ap Some same) | inr k ↦ later k ]
 
 -- the import, where the path is a file's
-abbrev resolved : Asked → ℕ → Import
+abbrev resolved : AskedImport → ℕ → Import
 resolved a to = record { from = a.place.file; to = to; is_public = a.is_public }
 
-resolves : (paths : List (List ℕ)) (a : Asked) (to : ℕ) → file_of paths a.path ≡ Some to → import_at paths a ≡ Some (resolved a to)
+resolves : (paths : List (List ℕ)) (a : AskedImport) (to : ℕ) → file_with_path paths a.path ≡ Some to → import_from_asked paths a ≡ Some (resolved a to)
 resolves paths a to e = ap (option_map (λ t. let i : Import = record { from = a.place.file; to = t; is_public = a.is_public } in i)) e
 
-pub asked_import : (paths : List (List ℕ)) (asked : List Asked) (a : Asked) (i : Import) → Contains asked a → import_at paths a ≡ Some i → Contains (imports_of paths asked) i
-asked_import paths asked a i c e = filtered_has (import_at paths) asked a i c e
+pub asked_import : (paths : List (List ℕ)) (asked : List AskedImport) (a : AskedImport) (i : Import) → Contains asked a → import_from_asked paths a ≡ Some i → Contains (imports_of paths asked) i
+asked_import paths asked a i c e = filtered_has (import_from_asked paths) asked a i c e
 
 -- what an import that names a file is
-import_named : (paths : List (List ℕ)) (a : Asked) (i : Import) → import_at paths a ≡ Some i → (to : ℕ) × (file_of paths a.path ≡ Some to) × (resolved a to ≡ i)
-import_named paths a i h = by (file_of paths a.path) refl
+import_named : (paths : List (List ℕ)) (a : AskedImport) (i : Import) → import_from_asked paths a ≡ Some i → (to : ℕ) × (file_with_path paths a.path ≡ Some to) × (resolved a to ≡ i)
+import_named paths a i h = by (file_with_path paths a.path) refl
   where
-    by : (o : Option ℕ) → file_of paths a.path ≡ o → (to : ℕ) × (file_of paths a.path ≡ Some to) × (resolved a to ≡ i)
+    by : (o : Option ℕ) → file_with_path paths a.path ≡ o → (to : ℕ) × (file_with_path paths a.path ≡ Some to) × (resolved a to ≡ i)
     by None e = absurd (none-some i (sym (ap (option_map (λ t. let j : Import = record { from = a.place.file; to = t; is_public = a.is_public } in j)) e) ∙ h))
     by (Some to) e = (to, e, same_Some (resolved a to) i (sym (resolves paths a to e) ∙ h))
 
 -- ---- what is wanted of imports
 
 -- Each names a file, no file has two of one path, and none closes a cycle.
-pub record AreSound (paths : List (List ℕ)) (asked : List Asked) : Type 0 where
-  pub known : (a : Asked) → Contains asked a → file_of paths a.path ≢ None
-  pub once : (x y : Asked) → Follows asked x y → x.place.file ≡ y.place.file → x.path ≡ y.path → ⊥
+pub record AreSound (paths : List (List ℕ)) (asked : List AskedImport) : Type 0 where
+  pub known : (a : AskedImport) → Contains asked a → file_with_path paths a.path ≢ None
+  pub once : (x y : AskedImport) → Follows asked x y → x.place.file ≡ y.place.file → x.path ≡ y.path → ⊥
   pub acyclic : IsAcyclic (imports_of paths asked)
 
 -- then there is no fault,
-pub no_fault : (paths : List (List ℕ)) (asked : List Asked) → AreSound paths asked → (f : Fault) → ImportFault paths asked f → ⊥
+pub no_fault : (paths : List (List ℕ)) (asked : List AskedImport) → AreSound paths asked → (f : Fault) → ImportFault paths asked f → ⊥
 no_fault paths asked ok f (unknown a c e) = ok.known a c e
-no_fault paths asked ok f (double a h) = let r = follows_after (λ (x y : Asked). (x.place.file ≡ y.place.file) × (x.path ≡ y.path)) asked a h in ok.once r.0 a r.1 r.2.0 r.2.1
+no_fault paths asked ok f (double a h) = let r = follows_after (λ (x y : AskedImport). (x.place.file ≡ y.place.file) × (x.path ≡ y.path)) asked a h in ok.once r.0 a r.1 r.2.0 r.2.1
 no_fault paths asked ok f (cycle a to c e l) = ok.acyclic (resolved a to) (asked_import paths asked a (resolved a to) c (resolves paths a to e)) l
 
 -- and the other way round.
-pub sound_from : (paths : List (List ℕ)) (asked : List Asked) → ((f : Fault) → ImportFault paths asked f → ⊥) → AreSound paths asked
+pub sound_from : (paths : List (List ℕ)) (asked : List AskedImport) → ((f : Fault) → ImportFault paths asked f → ⊥) → AreSound paths asked
 sound_from paths asked none = record {
   known = λ a c e. none (fault a.place 10) (unknown a c e);
-  once = λ x y h e p. none (fault y.place 11) (double y (after_follows (λ (x y : Asked). (x.place.file ≡ y.place.file) × (x.path ≡ y.path)) asked x y h (e, p)));
+  once = λ x y h e p. none (fault y.place 11) (double y (after_follows (λ (x y : AskedImport). (x.place.file ≡ y.place.file) × (x.path ≡ y.path)) asked x y h (e, p)));
   acyclic = acyclic;
 }
   where
@@ -121,11 +121,11 @@ sound_from paths asked none = record {
 
 -- ---- wherever they stand
 
-module _ (paths : List (List ℕ)) (asked : List Asked) where
+module _ (paths : List (List ℕ)) (asked : List AskedImport) where
   pub sound_unplaced : AreSound paths asked → AreSound paths (map unplaced asked)
   sound_unplaced ok = record {
-    known = λ b c e. let a = from_map unplaced asked b c in ok.known a.0 a.1 (ap (λ (z : Asked). file_of paths z.path) a.2 ∙ e);
-    once = λ u v h e p. let r = map_follows unplaced asked u v h in ok.once r.0 r.1 r.2 (ap (λ (z : Asked). z.place.file) r.3 ∙ e ∙ sym (ap (λ (z : Asked). z.place.file) r.4)) (ap (λ (z : Asked). z.path) r.3 ∙ p ∙ sym (ap (λ (z : Asked). z.path) r.4));
+    known = λ b c e. let a = from_map unplaced asked b c in ok.known a.0 a.1 (ap (λ (z : AskedImport). file_with_path paths z.path) a.2 ∙ e);
+    once = λ u v h e p. let r = map_follows unplaced asked u v h in ok.once r.0 r.1 r.2 (ap (λ (z : AskedImport). z.place.file) r.3 ∙ e ∙ sym (ap (λ (z : AskedImport). z.place.file) r.4)) (ap (λ (z : AskedImport). z.path) r.3 ∙ p ∙ sym (ap (λ (z : AskedImport). z.path) r.4));
     acyclic = subst IsAcyclic (sym (imports_unplaced paths asked)) ok.acyclic;
   }
 
@@ -138,27 +138,27 @@ module _ (paths : List (List ℕ)) (asked : List Asked) where
 
 -- ---- one more, one less
 
-module _ (paths : List (List ℕ)) (a : Asked) (xs ys : List Asked) (h : HasOneMore a xs ys) where
-  pub sound_less : (i : Import) → import_at paths a ≡ Some i → AreSound paths ys → AreSound paths xs
+module _ (paths : List (List ℕ)) (a : AskedImport) (xs ys : List AskedImport) (h : HasOneMore a xs ys) where
+  pub sound_less : (i : Import) → import_from_asked paths a ≡ Some i → AreSound paths ys → AreSound paths xs
   sound_less i e ok = record {
     known = λ b c. ok.known b (one_has a xs ys h b c);
-    once = λ x y f. ok.once x y (subst (λ (l : List Asked). Follows l x y) (sym h.is) (follows_more a h.back h.front x y (subst (λ (l : List Asked). Follows l x y) h.was f)));
-    acyclic = acyclic_by (imports_of paths xs) (imports_of paths ys) (one_has i (imports_of paths xs) (imports_of paths ys) (one_filter_map a xs ys h (import_at paths) i e)) ok.acyclic;
+    once = λ x y f. ok.once x y (subst (λ (l : List AskedImport). Follows l x y) (sym h.is) (follows_more a h.back h.front x y (subst (λ (l : List AskedImport). Follows l x y) h.was f)));
+    acyclic = acyclic_by (imports_of paths xs) (imports_of paths ys) (one_has i (imports_of paths xs) (imports_of paths ys) (one_filter_map a xs ys h (import_from_asked paths) i e)) ok.acyclic;
   }
 
-  pub sound_more : file_of paths a.path ≢ None → ((b : Asked) → Contains xs b → b.place.file ≡ a.place.file → b.path ≡ a.path → ⊥) → IsAcyclic (imports_of paths ys) → AreSound paths xs → AreSound paths ys
+  pub sound_more : file_with_path paths a.path ≢ None → ((b : AskedImport) → Contains xs b → b.place.file ≡ a.place.file → b.path ≡ a.path → ⊥) → IsAcyclic (imports_of paths ys) → AreSound paths xs → AreSound paths ys
   sound_more named new acyclic ok = record {
-    known = λ b c e. elim (one_or a xs ys h b c) [ inl d ↦ ok.known b d e | inr same ↦ named (ap (λ (z : Asked). file_of paths z.path) same ∙ e) ];
+    known = λ b c e. elim (one_or a xs ys h b c) [ inl d ↦ ok.known b d e | inr same ↦ named (ap (λ (z : AskedImport). file_with_path paths z.path) same ∙ e) ];
     once = once;
     acyclic = acyclic;
   }
     where
-      within : (b : Asked) → Contains (h.front ++ h.back) b → Contains xs b
-      within b c = subst (λ (l : List Asked). Contains l b) (sym h.was) c
+      within : (b : AskedImport) → Contains (h.front ++ h.back) b → Contains xs b
+      within b c = subst (λ (l : List AskedImport). Contains l b) (sym h.was) c
 
-      once : (x y : Asked) → Follows ys x y → x.place.file ≡ y.place.file → x.path ≡ y.path → ⊥
-      once x y f e p = elim (follows_or a h.back h.front x y (subst (λ (l : List Asked). Follows l x y) h.is f)) [
-        | inl g ↦ ok.once x y (subst (λ (l : List Asked). Follows l x y) (sym h.was) g) e p
-        | inr (inl s) ↦ new y (within y s.1) (sym e ∙ ap (λ (z : Asked). z.place.file) (sym s.0)) (sym p ∙ ap (λ (z : Asked). z.path) (sym s.0))
-        | inr (inr s) ↦ new x (within x s.1) (e ∙ ap (λ (z : Asked). z.place.file) (sym s.0)) (p ∙ ap (λ (z : Asked). z.path) (sym s.0))
+      once : (x y : AskedImport) → Follows ys x y → x.place.file ≡ y.place.file → x.path ≡ y.path → ⊥
+      once x y f e p = elim (follows_or a h.back h.front x y (subst (λ (l : List AskedImport). Follows l x y) h.is f)) [
+        | inl g ↦ ok.once x y (subst (λ (l : List AskedImport). Follows l x y) (sym h.was) g) e p
+        | inr (inl s) ↦ new y (within y s.1) (sym e ∙ ap (λ (z : AskedImport). z.place.file) (sym s.0)) (sym p ∙ ap (λ (z : AskedImport). z.path) (sym s.0))
+        | inr (inr s) ↦ new x (within x s.1) (e ∙ ap (λ (z : AskedImport). z.place.file) (sym s.0)) (p ∙ ap (λ (z : AskedImport). z.path) (sym s.0))
       ]

@@ -1,12 +1,12 @@
 -- Deletions, added and dropped imports keep meanings, and no fault of imports, names and references comes in (for the crates above).
 use Rattle.std.proofs.Common.{◌≡◌, ◌≢◌, inl, inr, ℕ, Bool, true, false, ◌==◌, not, List, [], ◌∷◌, ◌++◌, map, Option, Some, None, option_map, refl, sym, ◌∙◌, ap, subst, Contains, filter, bytes_eq, eq-eqb}
-use Rattle.proto_faults.proofs.Common.{and_from, All-contains, All-contains_itself, All-filter, Contains-append_left, Contains-append_right, filter_passes, number_of, contains_head, contains_map, from_map, same_from_word}
+use Rattle.proto_faults.proofs.Common.{and_from, All-contains, All-contains_itself, All-filter, Contains-append_left, Contains-append_right, filter_passes, kind_number, contains_head, contains_map, from_map, same_from_word}
 use Rattle.proto_faults.specs.declared.fault.FaultKind.{FaultKind}
 use Rattle.proto_faults.specs.declared.fault.FaultKind.TheVariants as kind
 use Rattle.proto_case.specs.Camel.{entry_name}
 use Rattle.proto_text.specs.Texts.{offset_at}
 use Rattle.proto_files.proofs.Common.{HasNoFault, AreRead, ReadOf, read_at, FileOf, file_at, paths_of, read_once}
-use Rattle.proto_meaning.proofs.Common.{IsAcyclic, Leads, IsAddition, IsNeeded, IsOvertaken, import_of, with_imports, Asked, Fault, ImportFault, NameFault, ReferenceFault, cycle, double, file_of, imports_of, unknown, IsLinked, IsNested, Import, Reference, Workspace, meaning, reference_of, files_nested, has_meaning, names_sound, references_sound}
+use Rattle.proto_meaning.proofs.Common.{IsAcyclic, Leads, IsAddition, IsNeeded, IsOvertaken, import_of, with_imports, AskedImport, Fault, ImportFault, NameFault, ReferenceFault, cycle, double, file_with_path, imports_of, unknown, IsLinked, IsNested, Import, Reference, Workspace, meaning, reference_of, files_nested, has_meaning, names_sound, references_sound}
 use Rattle.proto_imports.specs.Links.{LinkFaults, link_imports, link_skeleton, names_in, names_of_files, of_import, of_name, of_reference, text_of}
 use Rattle.proto_rename_laws.proofs.NoLinkFault.{files_are_linked}
 use Rattle.proto_statement_names.specs.Common.{IsPlaceOf, already_imported, asked_in, captured, cycle as cycle_case, is_import_of, needed, unknown_path, HasOneMore}
@@ -25,7 +25,7 @@ module _ (files : List FileOf) (reads : List ReadOf) (c : AreClean files reads) 
   pub linked : IsLinked (names_of_files files reads)
   linked = files_are_linked files reads c.read c.clean
 
-  stands : (f : Fault) (k : FaultKind) → number_of k ≡ f.number → ImportFault (paths_of files) (asked_in files reads) f → ⊥
+  stands : (f : Fault) (k : FaultKind) → kind_number k ≡ f.number → ImportFault (paths_of files) (asked_in files reads) f → ⊥
   stands f k e h = c.clean (record { path = (file_at files f.place.file).path; offset = offset_at (read_at reads f.place.file).tokens f.place.token; kind = k }) (of_import reads f _ c.read (record { path = refl; offset = refl; number = e }) h)
 
   none : (f : Fault) → ImportFault (paths_of files) (asked_in files reads) f → ⊥
@@ -90,7 +90,7 @@ DroppedLinked = (w : Workspace) (imports : List Import) → IsLinked w → ((i :
 
 module _ (files : List FileOf) (reads : List ReadOf) (after : List FileOf) (seen : List ReadOf) (file path : List ℕ) (c : AreClean files reads) (is : IsAdded files reads after seen file path) where
   target : (to : ℕ) × IsPlaceOf files path to
-  target = has_place (file_of (paths_of files) path) (λ e. is.free 11 (unknown_path e))
+  target = has_place (file_with_path (paths_of files) path) (λ e. is.free 11 (unknown_path e))
 
   made : (names_of_files after seen ≡ with_imports (names_of_files files reads) (link_imports after seen)) × HasOneMore (import_of is.from target.0) (link_imports files reads) (link_imports after seen)
   made = imports_are_more files reads after seen is.from target.0 path false is.more target.1
@@ -128,7 +128,7 @@ module _ (files : List FileOf) (reads : List ReadOf) (after : List FileOf) (seen
   added_links : AddedLinked → AddedAcyclic → AreRead after seen → HasNoFault (LinkFaults after)
   added_links links acyclic read =
       let w = names_of_files files reads in
-      let here : Asked = written files reads after seen is.from path false is.more in
+      let here : AskedImport = written files reads after seen is.from path false is.more in
       let more = wanted_all files reads after seen is.from path false is.more in
       let ok = sound files reads c in
       let round : IsAcyclic (link_imports after seen) = acyclic_by (link_imports after seen) (link_imports files reads ++ import_of is.from target.0 ∷ []) at_end (acyclic (link_imports files reads) is.from target.0 ok.acyclic (λ l. is.free 14 (cycle_case is.from target.0 is.place target.1 l))) in
@@ -137,11 +137,11 @@ module _ (files : List FileOf) (reads : List ReadOf) (after : List FileOf) (seen
       links_from after seen read (sound_placed (paths_of after) (asked_in after seen) (subst (λ (ps : List (List ℕ)). AreSound ps (map unplaced (asked_in after seen))) (sym is.more.file.paths) all))
       (subst IsLinked (sym made.0) (links w (link_imports after seen) is.from target.0 (linked files reads c) addition free_of))
     where
-      named : file_of (paths_of files) path ≢ None
+      named : file_with_path (paths_of files) path ≢ None
       named e = is.free 11 (unknown_path e)
 
-      new : (b : Asked) → Contains (map unplaced (asked_in files reads)) b → b.place.file ≡ is.from → b.path ≡ path → ⊥
-      new b d e p = let a = from_map unplaced (asked_in files reads) b d in is.free 12 (already_imported is.from is.place (a.0, a.1, ap (λ (z : Asked). z.place.file) a.2 ∙ e, ap (λ (z : Asked). z.path) a.2 ∙ p))
+      new : (b : AskedImport) → Contains (map unplaced (asked_in files reads)) b → b.place.file ≡ is.from → b.path ≡ path → ⊥
+      new b d e p = let a = from_map unplaced (asked_in files reads) b d in is.free 12 (already_imported is.from is.place (a.0, a.1, ap (λ (z : AskedImport). z.place.file) a.2 ∙ e, ap (λ (z : AskedImport). z.path) a.2 ∙ p))
 
 pub additions_keep_meanings : AddedMeans → AdditionsKeepMeanings
 additions_keep_meanings means files reads after seen file path c is = added_means files reads after seen file path c is means
@@ -157,10 +157,10 @@ module _ (files : List FileOf) (reads : List ReadOf) (after : List FileOf) (seen
   goal_of =
       let more = wanted_all after seen files reads is.from path is.is_public is.less in
       let asked : Contains (map unplaced (asked_in files reads)) (written after seen files reads is.from path is.is_public is.less) = one_there_is (written after seen files reads is.from path is.is_public is.less) (map unplaced (asked_in after seen)) (map unplaced (asked_in files reads)) more in
-      has_place (file_of (paths_of files) path) ((sound_unplaced (paths_of files) (asked_in files reads) (sound files reads c)).known (written after seen files reads is.from path is.is_public is.less) asked)
+      has_place (file_with_path (paths_of files) path) ((sound_unplaced (paths_of files) (asked_in files reads) (sound files reads c)).known (written after seen files reads is.from path is.is_public is.less) asked)
 
-  goal_after : file_of (paths_of after) path ≡ Some goal_of.0
-  goal_after = subst (λ (ps : List (List ℕ)). file_of ps path ≡ Some goal_of.0) is.less.file.paths goal_of.1
+  goal_after : file_with_path (paths_of after) path ≡ Some goal_of.0
+  goal_after = subst (λ (ps : List (List ℕ)). file_with_path ps path ≡ Some goal_of.0) is.less.file.paths goal_of.1
 
   undone : (names_of_files files reads ≡ with_imports (names_of_files after seen) (link_imports files reads)) × HasOneMore (record { from = is.from; to = goal_of.0; is_public = is.is_public }) (link_imports after seen) (link_imports files reads)
   undone = imports_are_more after seen files reads is.from goal_of.0 path is.is_public is.less goal_after
@@ -175,7 +175,7 @@ module _ (files : List FileOf) (reads : List ReadOf) (after : List FileOf) (seen
   others_stay : (i : Import) → Contains (imports_of (paths_of files) (filter (λ a. not (is_import_of is.from path a)) (asked_in files reads))) i → Contains (link_imports after seen) i
   others_stay i d =
       let a = import_asked (paths_of files) (filter (λ a. not (is_import_of is.from path a)) (asked_in files reads)) i d in
-      let p : Asked → Bool = λ a. not (is_import_of is.from path a) in
+      let p : AskedImport → Bool = λ a. not (is_import_of is.from path a) in
       let all = asked_in files reads in
       let kept : Contains all a.0 = All-contains (Contains all) (filter p all) a.0 (All-filter p (Contains all) all (All-contains_itself all)) a.1 in
       let passes : not (is_import_of is.from path a.0) ≡ true = All-contains (λ x. p x ≡ true) (filter p all) a.0 (filter_passes p all) a.1 in
@@ -185,7 +185,7 @@ module _ (files : List FileOf) (reads : List ReadOf) (after : List FileOf) (seen
             let e = asked_import (paths_of files) (map unplaced (asked_in after seen)) (unplaced a.0) i there a.2 in
             subst (λ (is : List Import). Contains is i) (imports_unplaced (paths_of files) (asked_in after seen) ∙ ap (λ (ps : List (List ℕ)). imports_of ps (asked_in after seen)) is.less.file.paths) e
         | inr same ↦ absurd (is_not (is_import_of is.from path a.0) passes
-            (and_from (a.0.place.file == is.from) (bytes_eq a.0.path path) (eq-eqb a.0.place.file is.from (sym (ap (λ (z : Asked). z.place.file) same))) (same_from_word a.0.path path (sym (ap (λ (z : Asked). z.path) same)))))
+            (and_from (a.0.place.file == is.from) (bytes_eq a.0.path path) (eq-eqb a.0.place.file is.from (sym (ap (λ (z : AskedImport). z.place.file) same))) (same_from_word a.0.path path (sym (ap (λ (z : AskedImport). z.path) same)))))
       ]
     where
       is_not : (b : Bool) → not b ≡ true → b ≡ true → ⊥

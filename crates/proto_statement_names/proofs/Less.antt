@@ -1,7 +1,7 @@
 -- Without some of its fields and entries a workspace gives each reference the meaning that it had (for the crates above).
 use Rattle.std.proofs.Common.{◌≡◌, ◌≢◌, ℕ, ◌<◌, Bool, true, false, ◌&&◌, ◌||◌, ◌==◌, List, [], ◌∷◌, ◌++◌, length, take, Option, Some, None, refl, sym, ◌∙◌, ap, ap₂, subst, inl, inr, arith, append_assoc, length-append, Contains, true≢false, append-nil}
 use Rattle.proto_faults.proofs.Common.{list_any, both_ways, and_from, cases_Bool, cond-true, cond-false, false_from_ne_true, none-some, any_from}
-use Rattle.proto_meaning.proofs.Common.{AreApart, is_leaf, IsLinked, Import, Symbol, Reference, Workspace, same_name, is_type, is_outer, fits, greatest, reaches, sees, shows, hit, hits_at, meaning, meaning_at, typed, same_from_name, first_and_rest, hit_from, hit_relative, typed_from, typed_is, has_meaning, meant, front_of, one_symbol, shown, type_not_leaf}
+use Rattle.proto_meaning.proofs.Common.{AreApart, is_leaf, IsLinked, Import, Symbol, Reference, Workspace, same_name, is_type, is_outer, fits_at_first, greatest, reaches, sees, shows, hit, hits_at, meaning, meaning_at, typed, same_from_name, first_and_rest, hit_from, hit_relative, typed_from, typed_is, has_meaning, meant, front_or_same, one_symbol, shown, type_not_leaf}
 use Rattle.proto_meaning.specs.declared.kind.Kind.{Kind}
 use Rattle.proto_meaning.specs.declared.kind.Kind.TheVariants.{Package, Message, Entry, Enum, Service, Field, EntryField, Oneof, Value, Method, Extension}
 use Rattle.proto_statement_names.specs.Common.{HasLess, LessIsLinked, LessMeans, MayGo, goes_with_field, IsAny}
@@ -43,9 +43,9 @@ some_words front (p ∷ words) l = omega (arith, length-append front (p ∷ []))
 
 -- a reference that hits has a word
 has_word : (w : Workspace) (r : Reference) (k : ℕ) → hits_at w r k ≡ true → 0 < length r.words
-has_word w r k h = let s = shown w r.file (fits r.words) (take k r.scope ++ take 1 r.words) h in go s.0.kind r.words s.3
+has_word w r k h = let s = shown w r.file (fits_at_first r.words) (take k r.scope ++ take 1 r.words) h in go s.0.kind r.words s.3
   where
-    go : (kind : Kind) (words : List (List ℕ)) → fits words kind ≡ true → 0 < length words
+    go : (kind : Kind) (words : List (List ℕ)) → fits_at_first words kind ≡ true → 0 < length words
     go kind [] e = absurd (true≢false (sym e))
     go kind (p ∷ words) e = omega arith
 
@@ -110,7 +110,7 @@ module _ (w v : Workspace) (ok : IsLinked w) (less : HasLess w v) where
     shows_front a b whole long = shows_kept a stays
       where
         stays : (s : Symbol) → Contains w.symbols s → s.name ≡ a → goes_with_field s.kind ≡ false
-        stays s cs n = elim (front_of w.symbols ok.nested a b t ct (sym whole) long) [
+        stays s cs n = elim (front_or_same w.symbols ok.nested a b t ct (sym whole) long) [
           | inl none ↦ named_stays s t cs ct (n ∙ sym (append-nil a) ∙ ap (λ z. a ++ z) (sym none) ∙ whole) (type_stays t.kind ty ne)
           | inr u ↦ named_stays s u.it cs u.within (n ∙ sym u.name) (outer_stays u.it.kind u.outer (λ e. both_ways (is_leaf t.kind) (type_not_leaf t.kind ty) (u.entry e)))
         ]
@@ -126,8 +126,8 @@ module _ (w v : Workspace) (ok : IsLinked w) (less : HasLess w v) where
       let y = typed_is w r.file (take k r.scope ++ r.words) m (ap (meaning_at w r) (sym q) ∙ h) in
       let first = first_and_rest r.words in
       let whole : (take k r.scope ++ take 1 r.words) ++ first.0 ≡ t.0.name = append_assoc (take k r.scope) (take 1 r.words) first.0 ∙ ap (λ l. take k r.scope ++ l) first.1 ∙ y.1 ∙ sym t.2 in
-      shows_front t.0 t.1 t.3 ne (take k r.scope ++ take 1 r.words) first.0 whole (some_words (take k r.scope) r.words (has_word w r k a.1.passes)) r.file (fits r.words) a.1.passes))
-      (λ j q. shows_before r.file (fits r.words) (take j r.scope ++ take 1 r.words) q)
+      shows_front t.0 t.1 t.3 ne (take k r.scope ++ take 1 r.words) first.0 whole (some_words (take k r.scope) r.words (has_word w r k a.1.passes)) r.file (fits_at_first r.words) a.1.passes))
+      (λ j q. shows_before r.file (fits_at_first r.words) (take j r.scope ++ take 1 r.words) q)
 
 pub less_means : LessMeans
 less_means = means

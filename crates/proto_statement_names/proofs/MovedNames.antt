@@ -243,21 +243,21 @@ tokens_moved : (g : Move) (ts : List ℕ) → map (λ i. Token i) (map g ts) ≡
 tokens_moved g ts = map_map g (λ i. Token i) ts ∙ sym (map_map (λ i. Token i) (shifted_source g) ts)
 
 -- what moved items and uses are, below a moved package
-pub names_moved : (g : Move) (s t : Tree) → package_of (items_in t) ≡ map g (package_of (items_in s))
+pub moved_names : (g : Move) (s t : Tree) → package_of (items_in t) ≡ map g (package_of (items_in s))
     → ((path : List (Source ℕ)) → items_placed (path_of g path) (items_in t) ≡ map (move_placed g) (items_placed path (items_in s)))
     → ((path : List (Source ℕ)) → item_uses (path_of g path) t ≡ map (shifted_used g) (item_uses path s)) → MovesNames g s t
-names_moved g s t same items uses =
+moved_names g s t same items uses =
     let path : List (Source ℕ) = map (λ i. Token i) (package_of (items_in s)) in
     let here : map (λ i. Token i) (package_of (items_in t)) ≡ path_of g path = ap (map (λ i. Token i)) same ∙ tokens_moved g (package_of (items_in s)) in
     record { placed = ap (λ p. items_placed p (items_in t)) here ∙ items path; used = ap (λ p. item_uses p t) here ∙ uses path }
 
 pub trees_move_names : TreesMoveNames
-trees_move_names g t = names_moved g t (move_tree g t) (package_moved g t) (λ path. items_moved g path t) (λ path. item_uses_moved g path t)
+trees_move_names g t = moved_names g t (move_tree g t) (package_moved g t) (λ path. items_moved g path t) (λ path. item_uses_moved g path t)
 
 pub imports_move_names : ImportsMoveNames
 imports_move_names g s t e =
     let items : items_in t ≡ items_in (move_tree g (without_imports s)) = sym (items_without t) ∙ ap items_in e in
-    names_moved g s t
+    moved_names g s t
     (ap package_of items ∙ package_moved g (without_imports s) ∙ ap (λ (z : Items). map g (package_of z)) (items_without s))
     (λ path. ap (items_placed (path_of g path)) items ∙ items_moved g path (without_imports s) ∙ ap (λ (z : Items). map (move_placed g) (items_placed path z)) (items_without s))
     (λ path. sym (uses_without (path_of g path) t) ∙ ap (item_uses (path_of g path)) e ∙ item_uses_moved g path (without_imports s) ∙ ap (map (shifted_used g)) (uses_without path s))

@@ -2,7 +2,7 @@
 use Rattle.std.proofs.Common.{◌≡◌, ◌≢◌, ℕ, ◌+◌, Bool, List, ◌∷◌, ◌++◌, length, map, Option, Some, option_map, sym, ◌∙◌, ap, ap₂, subst, arith, length-append}
 use Rattle.proto_faults.proofs.Common.{length-map, or_nothing}
 use Rattle.proto_files.proofs.Common.{ReadOf, FileOf, paths_of}
-use Rattle.proto_meaning.proofs.Common.{with_imports, Asked, file_of, import_at, imports_of, At, at, Import, Reference, Symbol, Workspace, shifted_used}
+use Rattle.proto_meaning.proofs.Common.{with_imports, AskedImport, file_with_path, import_from_asked, imports_of, At, at, Import, Reference, Symbol, Workspace, shifted_used}
 use Rattle.proto_listing.proofs.Common.{file_names, imports_in, move_wanted}
 use Rattle.proto_imports.specs.Links.{all_wanted, link_imports, names_in, names_of_files, text_of}
 use Rattle.proto_statement_names.specs.Files.{DeletionsHaveLess, ImportsAreMore, IsFieldLess, IsImportMore, IsOneFile, MayGoAt}
@@ -113,14 +113,14 @@ module _ (files : List FileOf) (reads : List ReadOf) (after : List FileOf) (seen
   pub wanted_kept : map unplaced (all_wanted (text_of after seen) 0 seen) ≡ map unplaced (all_wanted (text_of files reads) 0 reads)
   wanted_kept =
       wanted_walk (text_of after seen) 0 seen ∙ ap (walk (wanted_at (text_of after seen)) 0) is.file.is
-      ∙ sym (walk_one (λ (xs ys : List Asked). xs ≡ ys) same_front same_back (wanted_at (text_of files reads)) (wanted_at (text_of after seen)) 0 is.file.before is.file.old is.file.new is.file.behind
+      ∙ sym (walk_one (λ (xs ys : List AskedImport). xs ≡ ys) same_front same_back (wanted_at (text_of files reads)) (wanted_at (text_of after seen)) 0 is.file.before is.file.old is.file.new is.file.behind
       (λ k r ne. other_wanted (text_of files reads) (text_of after seen) (length is.file.before) is.others k r (λ e. ne (e ∙ omega arith)))
       (subst (λ (m : ℕ). wanted_at (text_of files reads) m is.file.old ≡ wanted_at (text_of after seen) m is.file.new) (omega arith) wanted_one))
       ∙ sym (wanted_walk (text_of files reads) 0 reads ∙ ap (walk (wanted_at (text_of files reads)) 0) is.file.was)
 
   imports_kept : link_imports after seen ≡ link_imports files reads
   imports_kept =
-      sym (imports_unplaced (paths_of after) (all_wanted (text_of after seen) 0 seen)) ∙ ap₂ (λ (ps : List (List ℕ)) (ws : List Asked). imports_of ps ws) is.file.paths wanted_kept ∙ imports_unplaced (paths_of files) (all_wanted (text_of files reads) 0 reads)
+      sym (imports_unplaced (paths_of after) (all_wanted (text_of after seen) 0 seen)) ∙ ap₂ (λ (ps : List (List ℕ)) (ws : List AskedImport). imports_of ps ws) is.file.paths wanted_kept ∙ imports_unplaced (paths_of files) (all_wanted (text_of files reads) 0 reads)
 
 pub deletions_have_less : DeletionsHaveLess
 deletions_have_less files reads after seen is = record {
@@ -147,17 +147,17 @@ module _ (files : List FileOf) (reads : List ReadOf) (after : List FileOf) (seen
       sym (ap (map (reference_in from v)) is.same.used ∙ references_moved from v is.move (file_names is.file.old.tree).used ∙ ap (λ (w : ℕ → List ℕ). map (reference_in from w) (file_names is.file.old.tree).used) words_own)
 
   -- the import as it is written
-  abbrev pub written : Asked
+  abbrev pub written : AskedImport
   written = record { place = at from 0; path = path; is_public = is_public }
 
   wanted_more : HasOneMore written (wanted_at (text_of files reads) from is.file.old) (wanted_at (text_of after seen) from is.file.new)
   wanted_more =
       let v : ℕ → List ℕ = λ i. text_of after seen (at from i) in
       let ws = imports_in is.file.old.tree in
-      let it : wanted_in from v is.wanted ≡ written = ap₂ (λ (p : Option (List ℕ)) (b : Bool). let a : Asked = record { place = at from 0; path = or_nothing p; is_public = b } in a) is.path_is is.public_is in
+      let it : wanted_in from v is.wanted ≡ written = ap₂ (λ (p : Option (List ℕ)) (b : Bool). let a : AskedImport = record { place = at from 0; path = or_nothing p; is_public = b } in a) is.path_is is.public_is in
       let stay : map (wanted_in from v) (map (move_wanted is.move) ws) ≡ wanted_at (text_of files reads) from is.file.old = wanted_moved from v is.move ws ∙ ap (λ (w : ℕ → List ℕ). map (wanted_in from w) ws) words_own in
-      subst (λ (a : Asked). HasOneMore a (wanted_at (text_of files reads) from is.file.old) (wanted_at (text_of after seen) from is.file.new)) it
-      (subst (λ (z : List Asked). HasOneMore (wanted_in from v is.wanted) z (wanted_at (text_of after seen) from is.file.new)) stay
+      subst (λ (a : AskedImport). HasOneMore a (wanted_at (text_of files reads) from is.file.old) (wanted_at (text_of after seen) from is.file.new)) it
+      (subst (λ (z : List AskedImport). HasOneMore (wanted_in from v is.wanted) z (wanted_at (text_of after seen) from is.file.new)) stay
       (one_map is.wanted (map (move_wanted is.move) ws) (imports_in is.file.new.tree) is.more (wanted_in from v)))
 
   -- of all files
@@ -183,17 +183,17 @@ module _ (files : List FileOf) (reads : List ReadOf) (after : List FileOf) (seen
   -- the paths that are asked for, wherever they stand
   pub wanted_all : HasOneMore written (map unplaced (all_wanted (text_of files reads) 0 reads)) (map unplaced (all_wanted (text_of after seen) 0 seen))
   wanted_all =
-      subst (λ (z : List Asked). HasOneMore written z (map unplaced (all_wanted (text_of after seen) 0 seen))) (sym (wanted_walk (text_of files reads) 0 reads ∙ ap (walk (wanted_at (text_of files reads)) 0) is.file.was))
-      (subst (λ (z : List Asked). HasOneMore written (walk (wanted_at (text_of files reads)) 0 (is.file.before ++ is.file.old ∷ is.file.behind)) z) (sym (wanted_walk (text_of after seen) 0 seen ∙ ap (walk (wanted_at (text_of after seen)) 0) is.file.is))
+      subst (λ (z : List AskedImport). HasOneMore written z (map unplaced (all_wanted (text_of after seen) 0 seen))) (sym (wanted_walk (text_of files reads) 0 reads ∙ ap (walk (wanted_at (text_of files reads)) 0) is.file.was))
+      (subst (λ (z : List AskedImport). HasOneMore written (walk (wanted_at (text_of files reads)) 0 (is.file.before ++ is.file.old ∷ is.file.behind)) z) (sym (wanted_walk (text_of after seen) 0 seen ∙ ap (walk (wanted_at (text_of after seen)) 0) is.file.is))
       (walk_one (HasOneMore written) (λ zs xs ys h. one_front written xs ys h zs) (λ zs xs ys h. one_back written xs ys h zs) (wanted_at (text_of files reads)) (wanted_at (text_of after seen)) 0 is.file.before is.file.old is.file.new is.file.behind
       (λ k r ne. other_wanted (text_of files reads) (text_of after seen) from is.others k r (λ e. ne (e ∙ there)))
       (subst (λ (m : ℕ). HasOneMore written (wanted_at (text_of files reads) m is.file.old) (wanted_at (text_of after seen) m is.file.new)) there wanted_more)))
 
-  imports_more : (to : ℕ) → file_of (paths_of files) path ≡ Some to → HasOneMore (record { from = from; to = to; is_public = is_public }) (link_imports files reads) (link_imports after seen)
+  imports_more : (to : ℕ) → file_with_path (paths_of files) path ≡ Some to → HasOneMore (record { from = from; to = to; is_public = is_public }) (link_imports files reads) (link_imports after seen)
   imports_more to e =
       let i : Import = record { from = from; to = to; is_public = is_public } in
       let ps = paths_of files in
-      let made = one_filter_map written (map unplaced (all_wanted (text_of files reads) 0 reads)) (map unplaced (all_wanted (text_of after seen) 0 seen)) wanted_all (import_at ps) i (ap (option_map (λ t. let j : Import = record { from = from; to = t; is_public = is_public } in j)) e) in
+      let made = one_filter_map written (map unplaced (all_wanted (text_of files reads) 0 reads)) (map unplaced (all_wanted (text_of after seen) 0 seen)) wanted_all (import_from_asked ps) i (ap (option_map (λ t. let j : Import = record { from = from; to = t; is_public = is_public } in j)) e) in
       subst (λ (z : List Import). HasOneMore i z (link_imports after seen)) (imports_unplaced ps (all_wanted (text_of files reads) 0 reads))
       (subst (λ (z : List Import). HasOneMore i (imports_of ps (map unplaced (all_wanted (text_of files reads) 0 reads))) z) (imports_unplaced ps (all_wanted (text_of after seen) 0 seen) ∙ ap (λ (qs : List (List ℕ)). imports_of qs (all_wanted (text_of after seen) 0 seen)) (sym is.file.paths)) made)
 

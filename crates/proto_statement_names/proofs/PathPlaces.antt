@@ -2,12 +2,12 @@
 use Rattle.std.proofs.Common.{◌≡◌, ◌≢◌, ℕ, zero, suc, ◌<◌, false, List, [], ◌∷◌, length, get_or, Some, option_map, refl, sym, ap, subst, ◌∙◌, arith, AllPairs, position, bytes_eq}
 use Rattle.proto_faults.proofs.Common.{cond-false, cond-true, same_from_word}
 use Rattle.proto_files.proofs.Common.{AreWorkspaceFiles, FileOf, file_at, paths_of, IsBefore, bytes_apart, never_before_itself}
-use Rattle.proto_meaning.specs.Faults.{file_of}
+use Rattle.proto_meaning.specs.Faults.{file_with_path}
 use Rattle.proto_imports.proofs.Resolving.{position_cons}
 use Rattle.proto_statement_names.specs.Cases.{IsNoFile, IsPlaceOf}
 
 -- the path of a file is at its place
-at_place : (files : List FileOf) → AllPairs (λ f g. IsBefore f.path g.path) files → (k : ℕ) → k < length files → (path : List ℕ) → (file_at files k).path ≡ path → file_of (paths_of files) path ≡ Some k
+at_place : (files : List FileOf) → AllPairs (λ f g. IsBefore f.path g.path) files → (k : ℕ) → k < length files → (path : List ℕ) → (file_at files k).path ≡ path → file_with_path (paths_of files) path ≡ Some k
 at_place [] rise k l path e = absurd (omega (arith, l))
 at_place (f ∷ fs) rise zero l path e =
     position_cons (bytes_eq path) f.path (paths_of fs) ∙ cond-true (bytes_eq path f.path) (Some 0) (option_map suc (position (bytes_eq path) (paths_of fs))) (same_from_word path f.path (sym e))

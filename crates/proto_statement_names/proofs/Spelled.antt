@@ -5,7 +5,7 @@ use Rattle.proto_case.specs.Camel.{entry_name}
 use Rattle.proto_text.specs.Values.{value_of}
 use Rattle.proto_tree.specs.Moved.{Move}
 use Rattle.proto_files.specs.FilesRead.{ReadOf}
-use Rattle.proto_meaning.proofs.Common.{Asked, import_at, imports_of, At, all_declared, all_used, at, declared_of, file_declared, file_used, used_in, Import, Reference, Symbol, EntryOf, Given, Source, Token, Used, name_of, reference_of, shifted_declared, shifted_source, shifted_used, spell, symbol_of, Placed, map_agree, map_append, map_map}
+use Rattle.proto_meaning.proofs.Common.{AskedImport, import_from_asked, imports_of, At, all_declared, all_used, at, declared_of, file_declared, file_used, used_in, Import, Reference, Symbol, EntryOf, Given, Source, Token, Used, name_of, reference_of, shifted_declared, shifted_source, shifted_used, spell, symbol_of, Placed, map_agree, map_append, map_map}
 use Rattle.proto_listing.proofs.Common.{Wanted, file_names, imports_in, move_wanted}
 use Rattle.proto_imports.specs.Links.{all_wanted, asked_as, names_in}
 use Rattle.proto_statement_names.specs.Trees.{move_placed, placed_in}
@@ -24,10 +24,10 @@ abbrev pub reference_in : ℕ → (ℕ → List ℕ) → Used ℕ → Reference
 reference_in file words u = record { file = file; scope = name_of words entry_name u.scope; is_absolute = u.is_absolute; wants_message = u.wants_message; words = map words u.tokens }
 
 -- wherever in its file it stands
-abbrev pub unplaced : Asked → Asked
+abbrev pub unplaced : AskedImport → AskedImport
 unplaced a = record { place = at a.place.file 0; path = a.path; is_public = a.is_public }
 
-abbrev pub wanted_in : ℕ → (ℕ → List ℕ) → Wanted → Asked
+abbrev pub wanted_in : ℕ → (ℕ → List ℕ) → Wanted → AskedImport
 wanted_in file words w = record { place = at file 0; path = or_nothing (value_of (words w.path)); is_public = w.is_public }
 
 -- other tokens with the same texts
@@ -64,7 +64,7 @@ module _ (text : At → List ℕ) where
   abbrev pub references_at : ℕ → ReadOf → List Reference
   references_at k r = map (reference_in k (λ i. text (at k i))) (file_names r.tree).used
 
-  abbrev pub wanted_at : ℕ → ReadOf → List Asked
+  abbrev pub wanted_at : ℕ → ReadOf → List AskedImport
   wanted_at k r = map (wanted_in k (λ i. text (at k i))) (imports_in r.tree)
 
   symbols_here : (k : ℕ) (r : ReadOf) → map (symbol_of text entry_name) (file_declared k (names_in r)) ≡ symbols_at k r
@@ -88,9 +88,9 @@ module _ (text : At → List ℕ) where
 
   pub wanted_walk : (n : ℕ) (rs : List ReadOf) → map unplaced (all_wanted text n rs) ≡ walk wanted_at n rs
   wanted_walk n [] = refl
-  wanted_walk n (r ∷ rs) = map_append unplaced (map (asked_as text n) (imports_in r.tree)) (all_wanted text (suc n) rs) ∙ ap₂ (λ (y z : List Asked). y ++ z) (map_map (asked_as text n) unplaced (imports_in r.tree)) (wanted_walk (suc n) rs)
+  wanted_walk n (r ∷ rs) = map_append unplaced (map (asked_as text n) (imports_in r.tree)) (all_wanted text (suc n) rs) ∙ ap₂ (λ (y z : List AskedImport). y ++ z) (map_map (asked_as text n) unplaced (imports_in r.tree)) (wanted_walk (suc n) rs)
 
 -- imports do not tell where in their file they stand
-pub imports_unplaced : (paths : List (List ℕ)) (asked : List Asked) → imports_of paths (map unplaced asked) ≡ imports_of paths asked
+pub imports_unplaced : (paths : List (List ℕ)) (asked : List AskedImport) → imports_of paths (map unplaced asked) ≡ imports_of paths asked
 imports_unplaced paths [] = refl
-imports_unplaced paths (a ∷ asked) = ap (λ (z : List Import). cons_option (import_at paths a) z) (imports_unplaced paths asked)
+imports_unplaced paths (a ∷ asked) = ap (λ (z : List Import). cons_option (import_from_asked paths a) z) (imports_unplaced paths asked)

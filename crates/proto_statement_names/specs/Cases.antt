@@ -12,7 +12,7 @@ use Rattle.proto_files.specs.FilesRead.{ReadOf, read_at}
 use Rattle.proto_meaning.specs.declared.kind.Kind.TheVariants.{Field}
 use Rattle.proto_meaning.specs.Cycles.{Leads}
 use Rattle.proto_meaning.specs.Edits.{IsNeeded, IsOvertaken, import_of, with_imports}
-use Rattle.proto_meaning.specs.Faults.{Asked, file_of, imports_of}
+use Rattle.proto_meaning.specs.Faults.{AskedImport, file_with_path, imports_of}
 use Rattle.proto_meaning.specs.Grown.{At}
 use Rattle.proto_meaning.specs.Joined.{joined}
 use Rattle.proto_meaning.specs.Names.{Symbol, Workspace}
@@ -55,23 +55,23 @@ pub data DeletionCase (files : List FileOf) (reads : List ReadOf) (name : Text) 
 
 -- the file at this place has this path
 abbrev pub IsPlaceOf : List FileOf → Path → ℕ → Type 0
-IsPlaceOf files path k = file_of (paths_of files) path ≡ Some k
+IsPlaceOf files path k = file_with_path (paths_of files) path ≡ Some k
 
 -- No file has this path.
 abbrev pub IsNoFile : List FileOf → Path → Type 0
-IsNoFile files path = file_of (paths_of files) path ≡ None
+IsNoFile files path = file_with_path (paths_of files) path ≡ None
 
 -- it is an import of this path by this file
-abbrev pub is_import_of : ℕ → Path → Asked → Bool
+abbrev pub is_import_of : ℕ → Path → AskedImport → Bool
 is_import_of k path a = (a.place.file == k) && bytes_eq a.path path
 
 -- what each file asks for by its imports, file by file
-abbrev pub asked_in : List FileOf → List ReadOf → List Asked
+abbrev pub asked_in : List FileOf → List ReadOf → List AskedImport
 asked_in files reads = all_wanted (text_of files reads) 0 reads
 
 -- the file imports the path, however its string is spelled
 abbrev pub IsImported : List FileOf → List ReadOf → ℕ → Path → Type 0
-IsImported files reads k path = (a : Asked)
+IsImported files reads k path = (a : AskedImport)
     × Contains (asked_in files reads) a
     × (a.place.file ≡ k)
     × (a.path ≡ path)

@@ -9,16 +9,16 @@ use Rattle.proto_rename_laws.specs.Targets.{Target}
 use Rattle.proto_statement_names.specs.Cases.{DeletionCase, IsField}
 
 -- There is a field,
-abbrev pub FieldsAreThere : Type 0
-FieldsAreThere = (files : List FileOf) (reads : List ReadOf) (name : Text)
+abbrev pub NamedFieldsAreThere : Type 0
+NamedFieldsAreThere = (files : List FileOf) (reads : List ReadOf) (name : Text)
     → AreRead files reads
     → (DeletionCase files reads name 1 → ⊥)
     → (DeletionCase files reads name 2 → ⊥)
     → (t : Target) × IsField files reads name t
 
 -- one alone,
-abbrev pub FieldsAreOne : Type 0
-FieldsAreOne = (files : List FileOf) (reads : List ReadOf) (name : Text) (t u : Target)
+abbrev pub NamedFieldsAreOne : Type 0
+NamedFieldsAreOne = (files : List FileOf) (reads : List ReadOf) (name : Text) (t u : Target)
     → AreRead files reads
     → HasNoFault (LinkFaults files)
     → IsField files reads name t

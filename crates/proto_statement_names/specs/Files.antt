@@ -8,7 +8,7 @@ use Rattle.proto_tree.specs.Tree.{Tree}
 use Rattle.proto_files.specs.GivenFiles.{FileOf, paths_of}
 use Rattle.proto_files.specs.FilesRead.{ReadOf}
 use Rattle.proto_meaning.specs.Edits.{with_imports}
-use Rattle.proto_meaning.specs.Faults.{file_of}
+use Rattle.proto_meaning.specs.Faults.{file_with_path}
 use Rattle.proto_meaning.specs.Grown.{at}
 use Rattle.proto_meaning.specs.Skeleton.{shifted_used}
 use Rattle.proto_meaning.specs.Tree.{Placed}
@@ -94,7 +94,7 @@ ImportsAreMore =
     (files : List FileOf) (reads : List ReadOf) (after : List FileOf) (seen : List ReadOf)
     (from to : ℕ) (path : Path) (is_public : Bool)
     → IsImportMore files reads after seen from path is_public
-    → file_of (paths_of files) path ≡ Some to
+    → file_with_path (paths_of files) path ≡ Some to
     → (names_of_files after seen
     ≡ with_imports (names_of_files files reads) (link_imports after seen))
     × HasOneMore (record { from = from; to = to; is_public = is_public }) (link_imports files reads)

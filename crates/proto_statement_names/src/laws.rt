@@ -1,6 +1,6 @@
 //! The laws, as functions that do nothing.
 
-ghost use Rattle.proto_statement_names.specs.Fields.{FieldsAreOne, FieldsAreThere, FieldsMayGo};
+ghost use Rattle.proto_statement_names.specs.Fields.{NamedFieldsAreOne, NamedFieldsAreThere, FieldsMayGo};
 ghost use Rattle.proto_statement_names.specs.Files.{DeletionsHaveLess, ImportsAreMore};
 ghost use Rattle.proto_statement_names.specs.Kept.{AdditionsKeepLinks, AdditionsKeepMeanings, DeletionsKeepLinks, DeletionsKeepMeanings, DropsKeepLinks, DropsKeepMeanings};
 ghost use Rattle.proto_statement_names.specs.Less.{LessIsLinked, LessMeans};
@@ -34,8 +34,8 @@ pub fn names_come_out()
 
 /// A name that neither case 1 nor case 2 refuses to delete is that of one written field.
 pub fn fields_are_one()
-    ensures there { FieldsAreThere }
-    ensures one { FieldsAreOne }
+    ensures there { NamedFieldsAreThere }
+    ensures one { NamedFieldsAreOne }
     ensures free { FieldsMayGo }
 {}
 

@@ -130,7 +130,7 @@ impl<'a, R: Files + AllocGlobal> FolderStore<'a, R> {
     }
 
     // Notes what was written at a path.
-    fn written(&mut self, path: &str, stamp: Stamp) -> Result<(), StoreFault>
+    fn note_written(&mut self, path: &str, stamp: Stamp) -> Result<(), StoreFault>
         requires { self.old.failures < 2 ^ 64 - 1 }
         ensures root { self.new.root.now ≡ self.old.root.now }
         ensures count { Counts self.old.failures self.new.failures result }
@@ -142,7 +142,7 @@ impl<'a, R: Files + AllocGlobal> FolderStore<'a, R> {
     }
 
     // What has to stand at a path: what was noted of it, or else what a look has found there.
-    fn wanted(&self, path: &str, found: Option<Stamp>) -> Option<Stamp> {
+    fn wanted_stamp(&self, path: &str, found: Option<Stamp>) -> Option<Stamp> {
         match self.seen.get(path) {
             Some(Seen::Held(stamp)) => *stamp,
             Some(Seen::Listed(_)) | None => found,
@@ -153,7 +153,7 @@ impl<'a, R: Files + AllocGlobal> FolderStore<'a, R> {
     fn remove_leftovers(&self) -> io::Result<()>
         ensures { self.now.root.now ≡ [] → IsErr result }
     {
-        let walk = self.walked()?;
+        let walk = self.walk_folders()?;
         let mut is_clear = true;
         for path in walk.leftovers.iter() {
             let full_path = self.full_path(path.as_str())?;
@@ -167,7 +167,7 @@ impl<'a, R: Files + AllocGlobal> FolderStore<'a, R> {
     }
 
     // What lies below the root.
-    fn walked(&self) -> io::Result<Walk>
+    fn walk_folders(&self) -> io::Result<Walk>
         ensures { self.now.root.now ≡ [] → IsErr result }
     {
         let alloc = self.rt.alloc();
@@ -194,7 +194,7 @@ impl<'a, R: Files + AllocGlobal> FolderStore<'a, R> {
         ensures root { self.new.root.now ≡ self.old.root.now }
         ensures failures { self.new.failures ≡ self.old.failures }
     {
-        let walk = self.walked()?;
+        let walk = self.walk_folders()?;
         note_listed(self.rt.alloc(), &mut self.seen, &walk)?;
         self.shared_mode &= walk.shared_mode;
         Ok(walk.files)
@@ -219,7 +219,7 @@ impl<'a, R: Files + AllocGlobal> FolderStore<'a, R> {
         if self.root.is_empty() {
             return Err(io::Error::from(io::ErrorKind::NotFound));
         }
-        joined(self.rt.alloc(), self.root, path)
+        joined_path(self.rt.alloc(), self.root, path)
     }
 
     // All names in a folder, each ended by a zero byte: none where what has this name is gone, or is
@@ -245,7 +245,7 @@ impl<'a, R: Files + AllocGlobal> FolderStore<'a, R> {
     fn visit(&self, walk: &mut Walk, folder: &str, name: &[u8]) -> io::Result<()> {
         if let Some(second) = second_named(name) {
             walk.leftovers
-                .push(joined(self.rt.alloc(), folder, second)?)?;
+                .push(joined_path(self.rt.alloc(), folder, second)?)?;
         }
         if name.is_empty() || name.starts_with(b".") {
             return Ok(());
@@ -253,7 +253,7 @@ impl<'a, R: Files + AllocGlobal> FolderStore<'a, R> {
         let Ok(name) = str::from_utf8(name) else {
             return Err(io::Error::from(io::ErrorKind::InvalidFilename));
         };
-        let path = joined(self.rt.alloc(), folder, name)?;
+        let path = joined_path(self.rt.alloc(), folder, name)?;
         if name.ends_with(".proto") {
             self.visit_file(walk, path)
         } else {
@@ -386,13 +386,13 @@ impl<'a, R: Files + AllocGlobal> FolderStore<'a, R> {
     fn place(&self, path: &str, found: Option<&Metadata>, bits: u32) -> Place {
         match found {
             Some(found) => Place {
-                stands: self.wanted(path, Some(stamp_of(found))),
+                stands: self.wanted_stamp(path, Some(stamp_of(found))),
                 owner: Some((found.uid(), found.gid())),
                 mode: found.mode() & bits,
                 second: self.second,
             },
             None => Place {
-                stands: self.wanted(path, None),
+                stands: self.wanted_stamp(path, None),
                 owner: None,
                 mode: NEW_JOURNAL_MODE & bits,
                 second: self.second,
@@ -404,7 +404,7 @@ impl<'a, R: Files + AllocGlobal> FolderStore<'a, R> {
         ensures { self.now.root.now ≡ [] → IsErr result }
     {
         let root = self.root_path()?;
-        joined(self.rt.alloc(), root.as_str(), JOURNAL)
+        joined_path(self.rt.alloc(), root.as_str(), JOURNAL)
     }
 
     // The bytes of the journal, up to the first that is too many.
@@ -514,7 +514,7 @@ fn is_no_folder(kind: io::ErrorKind) -> bool {
 }
 
 // A path below a folder, where either may be empty.
-fn joined(alloc: Global, folder: &str, path: &str) -> io::Result<String> {
+fn joined_path(alloc: Global, folder: &str, path: &str) -> io::Result<String> {
     let len = folder.len().saturating_add(path.len()).saturating_add(1);
     let mut joined = String::with_capacity(alloc, len)?;
     joined.push_str(folder)?;
@@ -573,7 +573,7 @@ impl<R: Files + AllocGlobal> Store for FolderStore<'_, R> {
         ensures count { Counts self.old.failures self.new.failures result }
     {
         match self.put_bytes(path, bytes) {
-            Ok(stamp) => self.written(path, stamp),
+            Ok(stamp) => self.note_written(path, stamp),
             Err(_) => Err(self.fault()),
         }
     }
@@ -609,7 +609,7 @@ impl<R: Files + AllocGlobal> Store for FolderStore<'_, R> {
         ensures count { Counts self.old.failures self.new.failures result }
     {
         match self.put_journal(bytes) {
-            Ok(stamp) => self.written(JOURNAL, stamp),
+            Ok(stamp) => self.note_written(JOURNAL, stamp),
             Err(_) => Err(self.fault()),
         }
     }

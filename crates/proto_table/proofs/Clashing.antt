@@ -3,7 +3,7 @@ use Rattle.std.proofs.Common.{◌≡◌, ◌≢◌, ◌⊎◌, ℕ, zero, suc, �
 use Rattle.proto_faults.proofs.Common.{cases_Bool, cases_lt, cond-true, cond-false, get_or_default, Contains-append_cases, contains_filter, from_filter}
 use Rattle.proto_meaning.specs.declared.kind.Kind.{Kind}
 use Rattle.proto_meaning.specs.declared.kind.Kind.TheVariants.{Package}
-use Rattle.proto_meaning.proofs.Common.{is_package, Fault, fault, IsBefore, IsLeast, get_front, package_from, package_or}
+use Rattle.proto_meaning.proofs.Common.{is_package, Fault, fault, FaultIsBefore, IsLeast, get_front, package_from, package_or}
 use Rattle.proto_table.specs.Common.{Named, ClashFault, earlier, of_package, AreNamesApart, Clashes, packages_in, others_in}
 use Rattle.proto_table.proofs.Naming.{contains_at, IsOrdered}
 
@@ -126,7 +126,7 @@ clash_is all p d l none c =
 pub clash_least : (all : List Named) (p : ℕ) (d : Named) → AllPairs IsOrdered all → p < length all → (get_or all p d).kind ≢ Package → Clashes (held_at all p) (get_or all p d) → IsLeast (ClashFault all) (fault (get_or all p d).place 13)
 clash_least all p d ordered l none c = record { holds = clash_is all p d l none c; least = λ g s b. go g (clash_later all p c.apart s) b }
   where
-    go : (g : Fault) → StandsAt all p g → IsBefore g (fault (get_or all p d).place 13) → ⊥
+    go : (g : Fault) → StandsAt all p g → FaultIsBefore g (fault (get_or all p d).place 13) → ⊥
     go g s b =
         let is = s.is d in
         let e : g.place ≡ (get_or all s.place d).place = ap (λ z. z.place) is in

@@ -2,7 +2,7 @@
 use Rattle.std.proofs.Common.{◌≡◌, ℕ, ◌+◌, ◌<◌, ◌≤◌, List, [], ◌∷◌, ◌++◌, length, get_or, take, drop, refl, sym, ◌∙◌, ap, subst, inl, inr, arith, string_bytes, length-append, append_assoc, append-nil, length-take, length-take-le}
 use Rattle.proto_faults.proofs.Common.{cases_eq, take_more, drop_all, drop-append-le}
 use Rattle.proto_meaning.proofs.Common.{at, joined, under, front, get_front, get_last}
-use Rattle.proto_table.specs.Common.{Spelled, Symbol as Declaration, Table, NameError, Clash, NoMemory, names_of, IsTable, IsDeclared, Named, named_in, AreSpelled, AreRowsOf, declaration_of, Holds, IsClashAt, IsKept, IsRowAt, IsRowOf, number_above, StopsIn}
+use Rattle.proto_table.specs.Common.{Spelled, Symbol as Declaration, Table, NameError, Clash, NoMemory, names_of, IsTable, SymbolIsDeclared, Named, named_in, AreSpelled, AreRowsOf, declaration_of, Holds, IsClashAt, IsKept, IsRowAt, IsRowOf, number_above, StopsIn}
 use Rattle.proto_table.proofs.Held.{held_more, held_clash, row_kept}
 use Rattle.proto_table.proofs.Naming.{named_kind, named_length, named_place, named_plain, named_text}
 use Rattle.proto_table.proofs.Search.{pick}
@@ -92,7 +92,7 @@ module _ (t t' : Table) (file : ℕ) (ss : List Spelled) (rows : List ℕ) (k : 
         let n = named_length file ss in
         rows_more t' (named_in file ss) rows row (rows_kept t t' (named_in file ss) rows there.kept known) (omega (arith, size, l, n)) (λ d. subst (λ z. IsRowAt t' (get_or (named_in file ss) z d) row) (sym size) (row_at d))
 
-    pub held_next : (ds : List Named) (start : ℕ) → start ≤ k → IsTable t → IsTable t' → IsDeclared t t' text (declaration_of file s) → Holds t (ds ++ drop start (take k (named_in file ss))) → Holds t' (ds ++ drop start (take (k + 1) (named_in file ss)))
+    pub held_next : (ds : List Named) (start : ℕ) → start ≤ k → IsTable t → IsTable t' → SymbolIsDeclared t t' text (declaration_of file s) → Holds t (ds ++ drop start (take k (named_in file ss))) → Holds t' (ds ++ drop start (take (k + 1) (named_in file ss)))
     held_next ds start lk table table' declared held =
         let n = named_length file ss in
         let l' : k < length (named_in file ss) = omega (arith, l, n) in

@@ -3,7 +3,7 @@ use Rattle.std.proofs.Common.{◌≡◌, ℕ, ◌<◌, ◌&&◌, Bool, true, Lis
 use Rattle.proto_faults.proofs.Common.{cases_eq, both_ways, length-map, map-append, contains_head, contains_map, from_map}
 use Rattle.proto_meaning.specs.declared.kind.Kind.TheVariants.{Package}
 use Rattle.proto_meaning.proofs.Common.{Symbol, at, is_package, joined, ArePlain, get_front, get_last, names_apart, joined_apart}
-use Rattle.proto_table.specs.Common.{Symbol as Declaration, Table, names_of, aboves_of, look, IsTable, IsDeclared, IsIndexOf, IsTaken, Named, symbol_named, AreNamesApart, Clashes, Holds, IsKept, IsRowAt, IsRowOf}
+use Rattle.proto_table.specs.Common.{Symbol as Declaration, Table, names_of, aboves_of, look, IsTable, SymbolIsDeclared, IsIndexOf, IsTaken, Named, symbol_named, AreNamesApart, Clashes, Holds, IsKept, IsRowAt, IsRowOf}
 use Rattle.proto_table.proofs.Naming.{contains_at}
 use Rattle.proto_table.proofs.Search.{pick}
 
@@ -32,7 +32,7 @@ apart_more ds d apart new i j e l lj same =
     ]
 
 module _ (old new : Table) (ds : List Named) (d : Named) (text : List ℕ) (symbol : Declaration) (row : ℕ) (held : Holds old ds) (ok : IsTable old) (ok' : IsTable new)
-    (declared : IsDeclared old new text symbol) (there : IsRowOf old new text symbol row) (plain : ArePlain d.name) (name : joined d.name ≡ text) (kind : d.kind ≡ symbol.kind) (file : d.place.file ≡ symbol.file) where
+    (declared : SymbolIsDeclared old new text symbol) (there : IsRowOf old new text symbol row) (plain : ArePlain d.name) (name : joined d.name ≡ text) (kind : d.kind ≡ symbol.kind) (file : d.place.file ≡ symbol.file) where
   -- a name that is there is a package's, and stays one
   fresh : (x : Named) → Contains ds x → x.name ≡ d.name → (x.kind ≡ Package) × (d.kind ≡ Package)
   fresh x c same =

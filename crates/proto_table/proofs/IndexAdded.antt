@@ -14,7 +14,7 @@ use Rattle.indexmap.specs.IndexSet.{insert_key}
 use Rattle.proto_faults.proofs.Lists.{any_to}
 use Rattle.std.proofs.lemmas.Slice.Eq.{bytes_eq-Decides}
 use Rattle.proto_table.specs.declared.index.Below.{Below}
-use Rattle.proto_table.specs.Indexes.{is_below, place}
+use Rattle.proto_table.specs.Indexes.{is_below_number, word_place}
 use Rattle.proto_table.proofs.Positions.{none_end, nowhere, push_other, push_last}
 
 same_word : (v w : List ℕ) → bytes_eq v w ≡ true → v ≡ w
@@ -26,14 +26,14 @@ word_same v w h = (bytes_eq-Decides v w).1 h
 -- ---- words
 
 -- a word more is found behind the others, and these where they were
-pub word_last : (words : List (String Global)) (key : String Global) (word : List ℕ) → string_bytes key ≡ word → place words word ≡ None → place (words ++ key ∷ []) word ≡ Some (length words)
+pub word_last : (words : List (String Global)) (key : String Global) (word : List ℕ) → string_bytes key ≡ word → word_place words word ≡ None → word_place (words ++ key ∷ []) word ≡ Some (length words)
 word_last words key word is none = push_last (λ k. bytes_eq word (string_bytes k)) words key none (word_same word (string_bytes key) (sym is))
 
-pub word_other : (words : List (String Global)) (key : String Global) (word : List ℕ) → string_bytes key ≡ word → (v : List ℕ) → v ≢ word → place (words ++ key ∷ []) v ≡ place words v
+pub word_other : (words : List (String Global)) (key : String Global) (word : List ℕ) → string_bytes key ≡ word → (v : List ℕ) → v ≢ word → word_place (words ++ key ∷ []) v ≡ word_place words v
 word_other words key word is v ne = push_other (λ k. bytes_eq v (string_bytes k)) words key (false_from_ne_true (bytes_eq v (string_bytes key)) (λ q. ne (same_word v (string_bytes key) q ∙ is)))
 
 -- two words at one place are one
-pub one_place : (words : List (String Global)) (v w : List ℕ) (k : ℕ) → place words v ≡ Some k → place words w ≡ Some k → v ≡ w
+pub one_place : (words : List (String Global)) (v w : List ℕ) (k : ℕ) → word_place words v ≡ Some k → word_place words w ≡ Some k → v ≡ w
 one_place [] v w k a b = absurd (cc)
 one_place (x ∷ xs) v w k a b =
     let p = position-Some (λ y. bytes_eq v (string_bytes y)) (x ∷ xs) k x a in
@@ -43,8 +43,8 @@ one_place (x ∷ xs) v w k a b =
 -- ---- rows
 
 -- rows whose words are all below a number have none of a word past it
-none_past : (rows : List Below) (count above word : ℕ) → All (λ b. b.word < count) rows → count ≤ word → position (is_below above word) rows ≡ None
-none_past rows count above word within past = nowhere (is_below above word) rows (λ k d l. false_from_ne_true (is_below above word (get_or rows k d)) (λ q.
+none_past : (rows : List Below) (count above word : ℕ) → All (λ b. b.word < count) rows → count ≤ word → position (is_below_number above word) rows ≡ None
+none_past rows count above word within past = nowhere (is_below_number above word) rows (λ k d l. false_from_ne_true (is_below_number above word (get_or rows k d)) (λ q.
     let e = eqb-true word (get_or rows k d).word (and_second (above == (get_or rows k d).above) (word == (get_or rows k d).word) q) in
     omega (arith, within k d l, past, e)))
   where
@@ -64,53 +64,53 @@ both_true a b h k = ap (λ z. z && b) h ∙ k
 
 -- The row of a word below a number that had none, behind the others: it is looked up there, and all else as before.
 module _ (words after : List (String Global)) (keys : List Below) (above w : ℕ) (word : List ℕ)
-    (there : place after word ≡ Some w)
-    (grown : (after ≡ words) ⊎ ((w ≡ length words) × (place words word ≡ None)))
-    (others : (v : List ℕ) → v ≢ word → place after v ≡ place words v)
+    (there : word_place after word ≡ Some w)
+    (grown : (after ≡ words) ⊎ ((w ≡ length words) × (word_place words word ≡ None)))
+    (others : (v : List ℕ) → v ≢ word → word_place after v ≡ word_place words v)
     (within : All (λ (b : Below). b.word < length words) keys)
-    (new : option_and_then (λ x. position (is_below above x) keys) (place words word) ≡ None) where
+    (new : option_and_then (λ x. position (is_below_number above x) keys) (word_place words word) ≡ None) where
   abbrev Now : ℕ → ℕ → Option ℕ
-  Now p x = position (is_below p x) (keys ++ record { above = above; word = w } ∷ [])
+  Now p x = position (is_below_number p x) (keys ++ record { above = above; word = w } ∷ [])
 
   abbrev Was : ℕ → ℕ → Option ℕ
-  Was p x = position (is_below p x) keys
+  Was p x = position (is_below_number p x) keys
 
-  was_word : (p : ℕ) → option_and_then (Was p) (place words word) ≡ Was p w
+  was_word : (p : ℕ) → option_and_then (Was p) (word_place words word) ≡ Was p w
   was_word p = elim grown [
-    | inl same ↦ ap (option_and_then (Was p)) (sym (ap (λ z. place z word) same) ∙ there)
+    | inl same ↦ ap (option_and_then (Was p)) (sym (ap (λ z. word_place z word) same) ∙ there)
     | inr g ↦ ap (option_and_then (Was p)) g.1 ∙ sym (none_past keys (length words) p w within (omega (arith, g.0)))
   ]
 
-  pub look_added : (p : ℕ) (v : List ℕ) → option_and_then (Now p) (place after v) ≡ cond ((above == p) && bytes_eq word v) (Some (length keys)) (option_and_then (Was p) (place words v))
+  pub look_added : (p : ℕ) (v : List ℕ) → option_and_then (Now p) (word_place after v) ≡ cond ((above == p) && bytes_eq word v) (Some (length keys)) (option_and_then (Was p) (word_place words v))
   look_added p v = elim (cases_Bool (bytes_eq word v)) [
     | inl same ↦
         let e : word ≡ v = same_word word v same in
-        let at : place after v ≡ Some w = ap (place after) (sym e) ∙ there in
-        let was : option_and_then (Was p) (place words v) ≡ Was p w = ap (λ z. option_and_then (Was p) (place words z)) (sym e) ∙ was_word p in
+        let at : word_place after v ≡ Some w = ap (word_place after) (sym e) ∙ there in
+        let was : option_and_then (Was p) (word_place words v) ≡ Was p w = ap (λ z. option_and_then (Was p) (word_place words z)) (sym e) ∙ was_word p in
         elim (cases_Bool (above == p)) [
           | inl here ↦
               let q : above ≡ p = eqb-true above p here in
               let none : Was p w ≡ None = ap (λ z. Was z w) (sym q) ∙ sym (was_word above) ∙ new in
-              let hit : is_below p w (record { above = above; word = w }) ≡ true = both_true (p == above) (w == w) (eq-eqb p above (sym q)) (eq-eqb w w refl) in
-              ap (option_and_then (Now p)) at ∙ push_last (is_below p w) keys (record { above = above; word = w }) none hit
-              ∙ sym (cond-true ((above == p) && bytes_eq word v) (Some (length keys)) (option_and_then (Was p) (place words v)) (both_true (above == p) (bytes_eq word v) here same))
+              let hit : is_below_number p w (record { above = above; word = w }) ≡ true = both_true (p == above) (w == w) (eq-eqb p above (sym q)) (eq-eqb w w refl) in
+              ap (option_and_then (Now p)) at ∙ push_last (is_below_number p w) keys (record { above = above; word = w }) none hit
+              ∙ sym (cond-true ((above == p) && bytes_eq word v) (Some (length keys)) (option_and_then (Was p) (word_place words v)) (both_true (above == p) (bytes_eq word v) here same))
           | inr elsewhere ↦
-              let miss : is_below p w (record { above = above; word = w }) ≡ false = first_false (p == above) (w == w) (false_from_ne_true (p == above) (λ q. both_ways (above == p) elsewhere (eq-eqb above p (sym (eqb-true p above q))))) in
-              ap (option_and_then (Now p)) at ∙ push_other (is_below p w) keys (record { above = above; word = w }) miss ∙ sym was
-              ∙ sym (cond-false ((above == p) && bytes_eq word v) (Some (length keys)) (option_and_then (Was p) (place words v)) (first_false (above == p) (bytes_eq word v) elsewhere))
+              let miss : is_below_number p w (record { above = above; word = w }) ≡ false = first_false (p == above) (w == w) (false_from_ne_true (p == above) (λ q. both_ways (above == p) elsewhere (eq-eqb above p (sym (eqb-true p above q))))) in
+              ap (option_and_then (Now p)) at ∙ push_other (is_below_number p w) keys (record { above = above; word = w }) miss ∙ sym was
+              ∙ sym (cond-false ((above == p) && bytes_eq word v) (Some (length keys)) (option_and_then (Was p) (word_place words v)) (first_false (above == p) (bytes_eq word v) elsewhere))
         ]
     | inr differ ↦
         let ne : v ≢ word = λ q. both_ways (bytes_eq word v) differ (word_same word v (sym q)) in
-        go (place words v) refl ne
-        ∙ sym (cond-false ((above == p) && bytes_eq word v) (Some (length keys)) (option_and_then (Was p) (place words v)) (second_false (above == p) (bytes_eq word v) differ))
+        go (word_place words v) refl ne
+        ∙ sym (cond-false ((above == p) && bytes_eq word v) (Some (length keys)) (option_and_then (Was p) (word_place words v)) (second_false (above == p) (bytes_eq word v) differ))
   ]
     where
-      go : (o : Option ℕ) → place words v ≡ o → v ≢ word → option_and_then (Now p) (place after v) ≡ option_and_then (Was p) (place words v)
+      go : (o : Option ℕ) → word_place words v ≡ o → v ≢ word → option_and_then (Now p) (word_place after v) ≡ option_and_then (Was p) (word_place words v)
       go None e ne = ap (option_and_then (Now p)) (others v ne ∙ e) ∙ sym (ap (option_and_then (Was p)) e)
       go (Some x) e ne =
           let apart : (x == w) ≡ false = false_from_ne_true (x == w) (λ q. ne (one_place after v word w (others v ne ∙ e ∙ ap Some (eqb-true x w q)) there)) in
           ap (option_and_then (Now p)) (others v ne ∙ e)
-          ∙ push_other (is_below p x) keys (record { above = above; word = w }) (second_false (p == above) (x == w) apart)
+          ∙ push_other (is_below_number p x) keys (record { above = above; word = w }) (second_false (p == above) (x == w) apart)
           ∙ sym (ap (option_and_then (Was p)) e)
 
   pub none_here : Was above w ≡ None
@@ -135,6 +135,6 @@ pub from_ok : {A E P : Type 0} (r : Result A E) (x : A) → r ≡ Ok x → OnOk 
 from_ok (Ok y) x e p = p
 from_ok (Err y) x e p = absurd (cc)
 
-pub place_within : (words : List (String Global)) (v : List ℕ) (k : ℕ) → place words v ≡ Some k → k < length words
+pub place_within : (words : List (String Global)) (v : List ℕ) (k : ℕ) → word_place words v ≡ Some k → k < length words
 place_within [] v k h = absurd (cc)
 place_within (x ∷ xs) v k h = (position-Some (λ y. bytes_eq v (string_bytes y)) (x ∷ xs) k x h).0

@@ -12,7 +12,7 @@ use Rattle.proto_table.specs.declared.table.Row.{Row}
 use Rattle.proto_table.specs.declared.table.Table.{Table}
 use Rattle.proto_table.specs.Indexes.{aboves_in, HasWords}
 use Rattle.proto_table.specs.Tables.{names_of, aboves_of, look, IsTable}
-use Rattle.proto_table.specs.Resolved.{files_of, IsIndexOf, IsDeclared}
+use Rattle.proto_table.specs.Resolved.{declaring_files, IsIndexOf, SymbolIsDeclared}
 use Rattle.proto_faults.proofs.Lists.{contains_head, contains_cases}
 use Rattle.proto_meaning.proofs.Edited.{map_append}
 use Rattle.proto_meaning.proofs.Forest.{get_front, get_last}
@@ -48,23 +48,23 @@ module _ (t t' : Table) (r : Row) (text : List ℕ) (rows : t'.rows.items ≡ t.
     row = λ x c. elim (Contains-append_cases ss (s ∷ []) x c) [
       | inl a ↦
           let o = index.row x a in
-          (o.0, omega (arith, o.1, size), name_kept o.0 o.1 ∙ o.2, λ d. (ap (λ z. z.symbol.kind) (row_kept o.0 d o.1) ∙ (o.3 d).0, subst (λ z. Contains (files_of z) x.file) (sym (row_kept o.0 d o.1)) (o.3 d).1))
+          (o.0, omega (arith, o.1, size), name_kept o.0 o.1 ∙ o.2, λ d. (ap (λ z. z.symbol.kind) (row_kept o.0 d o.1) ∙ (o.3 d).0, subst (λ z. Contains (declaring_files z) x.file) (sym (row_kept o.0 d o.1)) (o.3 d).1))
       | inr b ↦
           let e = last_only s x b in (
             length t.rows.items,
             omega (arith, size),
             name_last ∙ sym joins ∙ ap (λ z. joined z.name) e,
-            λ d. (ap (λ z. z.symbol.kind) (row_last d) ∙ sym kind ∙ ap (λ z. z.kind) e, subst (λ z. Contains (files_of z) x.file) (sym (row_last d)) (subst (λ z. Contains (files_of r) z) (sym file ∙ ap (λ z. z.file) e) (contains_head r.symbol.file r.more.items))),
+            λ d. (ap (λ z. z.symbol.kind) (row_last d) ∙ sym kind ∙ ap (λ z. z.kind) e, subst (λ z. Contains (declaring_files z) x.file) (sym (row_last d)) (subst (λ z. Contains (declaring_files r) z) (sym file ∙ ap (λ z. z.file) e) (contains_head r.symbol.file r.more.items))),
           )
     ];
     symbol = λ k f d l c. elim (cases_eq k (length t.rows.items)) [
       | inr ne ↦
           let lk : k < length t.rows.items = omega (arith, l, size, ne) in
-          let o = index.symbol k f d lk (subst (λ z. Contains (files_of z) f) (row_kept k d lk) c) in
+          let o = index.symbol k f d lk (subst (λ z. Contains (declaring_files z) f) (row_kept k d lk) c) in
           (o.0, Contains-append_left ss (s ∷ []) o.0 o.1, o.2 ∙ sym (name_kept k lk), o.3 ∙ ap (λ z. z.symbol.kind) (sym (row_kept k d lk)), o.4)
       | inl e ↦
           let at : get_or t'.rows.items k d ≡ r = ap (λ i. get_or t'.rows.items i d) e ∙ row_last d in
-          let only : Contains (r.symbol.file ∷ []) f = subst (λ z. Contains (r.symbol.file ∷ z) f) fresh (subst (λ z. Contains (files_of z) f) at c) in (
+          let only : Contains (r.symbol.file ∷ []) f = subst (λ z. Contains (r.symbol.file ∷ z) f) fresh (subst (λ z. Contains (declaring_files z) f) at c) in (
             s,
             Contains-append_right ss (s ∷ []) s (contains_head s []),
             joins ∙ sym name_last ∙ ap (λ i. get_or (names_of t') i []) (sym e),
@@ -74,7 +74,7 @@ module _ (t t' : Table) (r : Row) (text : List ℕ) (rows : t'.rows.items ≡ t.
     ];
   }
 
-  pub declared_new : (symbol : Declaration) → r.symbol ≡ symbol → IsDeclared t t' text symbol
+  pub declared_new : (symbol : Declaration) → r.symbol ≡ symbol → SymbolIsDeclared t t' text symbol
   declared_new symbol e = record {
     fronts = fronts';
     named = (length t.rows.items, omega (arith, size), name_last);
@@ -118,7 +118,7 @@ module _ (t t' : Table) (k : ℕ) (r r' : Row) (file : ℕ) (l : k < length t.ro
   there : (j : ℕ) (d : Row) → j ≢ k → get_or t'.rows.items j d ≡ get_or t.rows.items j d
   there j d ne = ap (λ z. get_or z j d) rows ∙ get_or-set_other t.rows.items k j r' d ne
 
-  files : files_of r' ≡ files_of r ++ file ∷ []
+  files : declaring_files r' ≡ declaring_files r ++ file ∷ []
   files = ap (λ z. z.file ∷ r'.more.items) symbol ∙ ap (λ z. r.symbol.file ∷ z) more
 
   pub index_file : (ss : List Symbol) (s : Symbol) → IsIndexOf t ss → ArePlain s.name → joined s.name ≡ get_or (names_of t) k [] → s.kind ≡ r.symbol.kind → s.file ≡ file → IsIndexOf t' (ss ++ s ∷ [])
@@ -135,39 +135,39 @@ module _ (t t' : Table) (k : ℕ) (r r' : Row) (file : ℕ) (l : k < length t.ro
             ap (λ z. get_or z k []) names_same ∙ sym joins ∙ ap (λ z. joined z.name) e,
             λ d. (
               ap (λ z. z.symbol.kind) (here d) ∙ ap (λ z. z.kind) symbol ∙ sym kind ∙ ap (λ z. z.kind) e,
-              subst (λ z. Contains (files_of z) x.file) (sym (here d)) (subst (λ z. Contains z x.file) (sym files) (Contains-append_right (files_of r) (file ∷ []) x.file (subst (λ z. Contains (file ∷ []) z) (sym same ∙ ap (λ z. z.file) e) (contains_head file [])))),
+              subst (λ z. Contains (declaring_files z) x.file) (sym (here d)) (subst (λ z. Contains z x.file) (sym files) (Contains-append_right (declaring_files r) (file ∷ []) x.file (subst (λ z. Contains (file ∷ []) z) (sym same ∙ ap (λ z. z.file) e) (contains_head file [])))),
             ),
           )
     ];
     symbol = λ j f d lj c. elim (cases_eq j k) [
       | inr ne ↦
-          let o = index.symbol j f d (omega (arith, lj, size_same)) (subst (λ z. Contains (files_of z) f) (there j d ne) c) in
+          let o = index.symbol j f d (omega (arith, lj, size_same)) (subst (λ z. Contains (declaring_files z) f) (there j d ne) c) in
           (o.0, Contains-append_left ss (s ∷ []) o.0 o.1, o.2 ∙ ap (λ z. get_or z j []) (sym names_same), o.3 ∙ ap (λ z. z.symbol.kind) (sym (there j d ne)), o.4)
       | inl e ↦
-          let c' : Contains (files_of r ++ file ∷ []) f = subst (λ z. Contains z f) files (subst (λ z. Contains (files_of z) f) (ap (λ i. get_or t'.rows.items i d) e ∙ here d) c) in
+          let c' : Contains (declaring_files r ++ file ∷ []) f = subst (λ z. Contains z f) files (subst (λ z. Contains (declaring_files z) f) (ap (λ i. get_or t'.rows.items i d) e ∙ here d) c) in
           let kind' : r.symbol.kind ≡ (get_or t'.rows.items j d).symbol.kind = sym (ap (λ z. z.kind) symbol) ∙ ap (λ z. z.symbol.kind) (sym (ap (λ i. get_or t'.rows.items i d) e ∙ here d)) in
           let named : get_or (names_of t) k [] ≡ get_or (names_of t') j [] = ap (λ z. get_or z k []) (sym names_same) ∙ ap (λ i. get_or (names_of t') i []) (sym e) in
-          elim (Contains-append_cases (files_of r) (file ∷ []) f c') [
+          elim (Contains-append_cases (declaring_files r) (file ∷ []) f c') [
             | inl a ↦
-                let o = index.symbol k f d l (subst (λ z. Contains (files_of z) f) (sym (at d)) a) in
+                let o = index.symbol k f d l (subst (λ z. Contains (declaring_files z) f) (sym (at d)) a) in
                 (o.0, Contains-append_left ss (s ∷ []) o.0 o.1, o.2 ∙ named, o.3 ∙ ap (λ z. z.symbol.kind) (at d) ∙ kind', o.4)
             | inr b ↦ (s, Contains-append_right ss (s ∷ []) s (contains_head s []), joins ∙ named, kind ∙ kind', same ∙ last_only file f b)
           ]
     ];
   }
     where
-      old : (j : ℕ) (d : Row) (x : Symbol) → ((get_or t.rows.items j d).symbol.kind ≡ x.kind) × Contains (files_of (get_or t.rows.items j d)) x.file → ((get_or t'.rows.items j d).symbol.kind ≡ x.kind) × Contains (files_of (get_or t'.rows.items j d)) x.file
+      old : (j : ℕ) (d : Row) (x : Symbol) → ((get_or t.rows.items j d).symbol.kind ≡ x.kind) × Contains (declaring_files (get_or t.rows.items j d)) x.file → ((get_or t'.rows.items j d).symbol.kind ≡ x.kind) × Contains (declaring_files (get_or t'.rows.items j d)) x.file
       old j d x o = elim (cases_eq j k) [
-        | inr ne ↦ (ap (λ z. z.symbol.kind) (there j d ne) ∙ o.0, subst (λ z. Contains (files_of z) x.file) (sym (there j d ne)) o.1)
+        | inr ne ↦ (ap (λ z. z.symbol.kind) (there j d ne) ∙ o.0, subst (λ z. Contains (declaring_files z) x.file) (sym (there j d ne)) o.1)
         | inl e ↦
             let now' : get_or t'.rows.items j d ≡ r' = ap (λ i. get_or t'.rows.items i d) e ∙ here d in
             let was : get_or t.rows.items j d ≡ r = ap (λ i. get_or t.rows.items i d) e ∙ at d in (
               ap (λ z. z.symbol.kind) now' ∙ ap (λ z. z.kind) symbol ∙ ap (λ z. z.symbol.kind) (sym was) ∙ o.0,
-              subst (λ z. Contains (files_of z) x.file) (sym now') (subst (λ z. Contains z x.file) (sym files) (Contains-append_left (files_of r) (file ∷ []) x.file (subst (λ z. Contains (files_of z) x.file) was o.1))),
+              subst (λ z. Contains (declaring_files z) x.file) (sym now') (subst (λ z. Contains z x.file) (sym files) (Contains-append_left (declaring_files r) (file ∷ []) x.file (subst (λ z. Contains (declaring_files z) x.file) was o.1))),
             )
       ]
 
-  pub declared_again : (text : List ℕ) (d : Declaration) → get_or (names_of t) k [] ≡ text → d.kind ≡ r.symbol.kind → d.file ≡ file → IsDeclared t t' text d
+  pub declared_again : (text : List ℕ) (d : Declaration) → get_or (names_of t) k [] ≡ text → d.kind ≡ r.symbol.kind → d.file ≡ file → SymbolIsDeclared t t' text d
   declared_again text d name' kinds place = record {
     fronts = λ n ln. ap (λ z. front z n) names_same;
     named = (k, omega (arith, l, size_same), ap (λ z. get_or z k []) names_same ∙ name');

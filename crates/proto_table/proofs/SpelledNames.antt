@@ -5,7 +5,7 @@ use Rattle.proto_meaning.specs.declared.kind.Kind.{Kind}
 use Rattle.proto_meaning.specs.declared.kind.Kind.TheVariants.{Package}
 use Rattle.proto_case.specs.Camel.{entry_name}
 use Rattle.proto_meaning.proofs.Common.{place_from, at, IsPlain, name_of, spell, Placed}
-use Rattle.proto_table.specs.LastWords.{AreListed, IsKept, last_word, named_as}
+use Rattle.proto_table.specs.LastWords.{AreListed, EntriesAreKept, last_word, named_as}
 use Rattle.proto_listing.proofs.Common.{last_token, needs, path_at, read, read_on, seen, source_of, whole, or_at, place_is, entry_plain}
 use Rattle.proto_table.specs.Common.{Named, AreSpelled, name_above, named_by, named_on, named_in, Spelled}
 use Rattle.proto_listing.specs.declared.listing.Above.{Above}
@@ -94,7 +94,7 @@ names_are text es ss h t file = named_all file text [] es ss h (sym t)
 
 -- ---- what stays
 
-pub kept : (text : ℕ → List ℕ) (es : List Listed) (ss : List Spelled) → map bare ss ≡ map (bare_of text) es → IsKept es ss
+pub kept : (text : ℕ → List ℕ) (es : List Listed) (ss : List Spelled) → map bare ss ≡ map (bare_of text) es → EntriesAreKept es ss
 kept text [] [] h = record { aboves = refl; kinds = refl; tokens = refl }
 kept text [] (s ∷ ss) h = absurd (cc)
 kept text (e ∷ es) [] h = absurd (cc)

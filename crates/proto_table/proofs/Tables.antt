@@ -11,7 +11,7 @@ use Rattle.proto_table.specs.declared.table.Table.{Table}
 use Rattle.proto_meaning.specs.Joined.{IsPlain}
 use Rattle.proto_meaning.specs.Forest.{under, front, IsForest}
 use Rattle.proto_table.specs.declared.index.Below.{Below}
-use Rattle.proto_table.specs.Indexes.{aboves_in, HasWords, is_below, place}
+use Rattle.proto_table.specs.Indexes.{aboves_in, HasWords, is_below_number, word_place}
 use Rattle.proto_table.specs.Tables.{names_of, aboves_of, look, IsTable}
 use Rattle.proto_table.proofs.Positions.{nowhere}
 use Rattle.proto_table.proofs.IndexAdded.{first_false, second_false, both_true}
@@ -71,18 +71,18 @@ same_word v w = elim (cases_Bool (bytes_eq v w)) [
 
 -- below a number past all rows nothing stands
 none_above : (t : Table) → IsTable t → (above : ℕ) (v : List ℕ) → length t.rows.items < above → look t above v ≡ None
-none_above t ok above v past = go (place t.below.words.keys v)
+none_above t ok above v past = go (word_place t.below.words.keys v)
   where
-    apart : (w k : ℕ) (d : Below) → k < length t.below.rows.keys → is_below above w (get_or t.below.rows.keys k d) ≡ false
+    apart : (w k : ℕ) (d : Below) → k < length t.below.rows.keys → is_below_number above w (get_or t.below.rows.keys k d) ≡ false
     apart w k d l = first_false (above == (get_or t.below.rows.keys k d).above) (w == (get_or t.below.rows.keys k d).word) (false_from_ne_true (above == (get_or t.below.rows.keys k d).above) (λ q.
         let n = length-map t.rows.items (λ z. string_bytes z.name) in
         let g = ok.forest.grown k (omega (arith, l, ok.sized, n)) in
         let e : (get_or t.below.rows.keys k d).above ≡ get_or (aboves_of t) k 0 = sym (get_or-map (λ (b : Below). b.above) t.below.rows.keys k d 0 l) ∙ ap (λ z. get_or z k 0) ok.keyed in
         omega (arith, eqb-true above (get_or t.below.rows.keys k d).above q, e, g.0, l, ok.sized, past)))
 
-    go : (o : Option ℕ) → option_and_then (λ w. position (is_below above w) t.below.rows.keys) o ≡ None
+    go : (o : Option ℕ) → option_and_then (λ w. position (is_below_number above w) t.below.rows.keys) o ≡ None
     go None = refl
-    go (Some w) = nowhere (is_below above w) t.below.rows.keys (apart w)
+    go (Some w) = nowhere (is_below_number above w) t.below.rows.keys (apart w)
 
 pub table_added : (t t' : Table) (p : ℕ) (word : List ℕ) (r : Row) → IsTable t → p ≤ length t.rows.items → IsPlain word → look t p word ≡ None
     → t'.rows.items ≡ t.rows.items ++ r ∷ [] → string_bytes r.name ≡ under (front (names_of t) p) word → r.above ≡ p

@@ -9,17 +9,18 @@ use Rattle.proto_table.specs.declared.index.Below.{Below}
 use Rattle.proto_table.specs.declared.index.Index.{Index}
 
 -- the place of a word, if it is there
-abbrev pub place : List (String Global) → List ℕ → Option ℕ
-place words word = position (λ k. bytes_eq word (string_bytes k)) words
+abbrev pub word_place : List (String Global) → List ℕ → Option ℕ
+word_place words word = position (λ k. bytes_eq word (string_bytes k)) words
 
 -- this word below this number
-abbrev pub is_below : ℕ → ℕ → Below → Bool
-is_below above word b = (above == b.above) && (word == b.word)
+abbrev pub is_below_number : ℕ → ℕ → Below → Bool
+is_below_number above word b = (above == b.above) && (word == b.word)
 
 -- the row of the name that stands with this word right below the name with a number
 abbrev pub look_in : Index → ℕ → List ℕ → Option ℕ
 look_in x above word =
-    option_and_then (λ w. position (is_below above w) x.rows.keys) (place x.words.keys word)
+    option_and_then (λ w. position (is_below_number above w) x.rows.keys)
+    (word_place x.words.keys word)
 
 -- for each row, the number above it
 abbrev pub aboves_in : Index → List ℕ

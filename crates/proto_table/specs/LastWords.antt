@@ -26,7 +26,7 @@ abbrev pub last_word : (ℕ → List ℕ) → Listed → List ℕ
 last_word text e = spell text entry_name (source_of e.word e.token)
 
 -- spelled declarations say what the entries of the list say beside their last words
-pub record IsKept (es : List Listed) (ss : List Spelled) : Type 0 where
+pub record EntriesAreKept (es : List Listed) (ss : List Spelled) : Type 0 where
   pub aboves : map (λ s. s.above) ss ≡ map (λ e. e.above) es
   pub kinds : map (λ s. s.kind) ss ≡ map (λ e. e.kind) es
   pub tokens : map (λ s. s.token) ss ≡ map (λ e. e.token) es

@@ -13,8 +13,8 @@ use Rattle.proto_table.specs.Tables.{names_of}
 use Rattle.proto_table.specs.Search.{passes}
 
 -- the files that declare the name of a row: that of its first declaration, and the further ones
-abbrev pub files_of : Row → List ℕ
-files_of r = r.symbol.file ∷ r.more.items
+abbrev pub declaring_files : Row → List ℕ
+declaring_files r = r.symbol.file ∷ r.more.items
 
 -- each symbol has the row of its name, and each row's files have a symbol
 pub record IsIndexOf (t : Table) (symbols : List Symbol) : Type 0 where
@@ -23,9 +23,9 @@ pub record IsIndexOf (t : Table) (symbols : List Symbol) : Type 0 where
       → (k : ℕ) × (k < length t.rows.items) × (get_or (names_of t) k [] ≡ joined s.name)
       × ((d : Row)
       → ((get_or t.rows.items k d).symbol.kind ≡ s.kind)
-      × Contains (files_of (get_or t.rows.items k d)) s.file)
+      × Contains (declaring_files (get_or t.rows.items k d)) s.file)
   pub symbol : (k file : ℕ) (d : Row) → k < length t.rows.items
-      → Contains (files_of (get_or t.rows.items k d)) file
+      → Contains (declaring_files (get_or t.rows.items k d)) file
       → (s : Symbol) × Contains symbols s × (joined s.name ≡ get_or (names_of t) k [])
       × (s.kind ≡ (get_or t.rows.items k d).symbol.kind) × (s.file ≡ file)
 
@@ -52,7 +52,7 @@ IsTypeAt t seen text None =
     → passes seen true (get_or t.rows.items k d) ≡ false
 
 -- the table has one symbol more, and the names keep their numbers
-pub record IsDeclared (old new : Table) (text : List ℕ) (symbol : Declaration) : Type 0 where
+pub record SymbolIsDeclared (old new : Table) (text : List ℕ) (symbol : Declaration) : Type 0 where
   pub fronts : (n : ℕ) → n ≤ length old.rows.items → front (names_of new) n ≡ front (names_of old) n
   pub named : (k : ℕ) × (k < length new.rows.items) × (get_or (names_of new) k [] ≡ text)
   pub index : (symbols : List Symbol) (s : Symbol)

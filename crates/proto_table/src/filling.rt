@@ -7,7 +7,7 @@ ghost use Rattle.proto_table.specs.Filling.{AreInFront, ArePackageRows, AreRows,
 ghost use Rattle.proto_meaning.specs.Forest.{front, under};
 ghost use Rattle.proto_meaning.specs.Joined.{IsPlain};
 ghost use Rattle.proto_listing.specs.Listing.{needs};
-ghost use Rattle.proto_table.specs.Resolved.{IsDeclared, IsIndexOf};
+ghost use Rattle.proto_table.specs.Resolved.{SymbolIsDeclared, IsIndexOf};
 ghost use Rattle.proto_table.specs.Spelled.{all_named, AreSpelled, ClashFault, Named, named_in, symbol_named};
 ghost use Rattle.proto_table.specs.Tables.{IsTable, names_of};
 ghost use Rattle.proto_table.specs.declared.filling.NameError.TheVariants.{NoMemory};
@@ -229,7 +229,7 @@ fn declare_one(
     ensures row { IfOk result (IsRowOf table.old table.new
         (under (front (names_of table.old) (number_above rows.now spelled.now.above))
         (string_bytes spelled.now.word)) (declaration_of file spelled.now)) }
-    ensures index { OnOk result (IsDeclared table.old table.new
+    ensures index { OnOk result (SymbolIsDeclared table.old table.new
         (under (front (names_of table.old) (number_above rows.now spelled.now.above))
         (string_bytes spelled.now.word)) (declaration_of file spelled.now)) }
     ensures clash { IfErr result (IsClashAt table.old

@@ -2,7 +2,7 @@
 
 ghost use Rattle.std.specs.Prelude.{◌≡◌, ◌≢◌, ◌≤◌, ◌+◌, ◌++◌, ◌∷◌, ◌⊎◌, [], ℕ, List, ◌&&◌, ◌==◌, if◌then◌else◌, Some, None, length, IfOk, OnOk, OnErr};
 ghost use Rattle.std.specs.Str.{bytes_eq};
-ghost use Rattle.proto_table.specs.Indexes.{aboves_in, HasWords, keys_in, look_in, place};
+ghost use Rattle.proto_table.specs.Indexes.{aboves_in, HasWords, keys_in, look_in, word_place};
 
 use indexmap::IndexSet;
 use proto_faults::NoMemory;
@@ -25,11 +25,11 @@ pub struct Index {
 /// The number of a word, which is put behind the others where it is new. Refused for want of memory
 /// alone; then the words stay as they were.
 fn number(alloc: Global, words: &mut IndexSet<String>, word: &str) -> Result<usize, NoMemory>
-    ensures found { IfOk result (λ k. place words.new.keys word.now ≡ Some k) }
+    ensures found { IfOk result (λ k. word_place words.new.keys word.now ≡ Some k) }
     ensures old_or_new { IfOk result (λ k. (words.new.keys ≡ words.old.keys)
-        ⊎ ((k ≡ length words.old.keys) × (place words.old.keys word.now ≡ None))) }
+        ⊎ ((k ≡ length words.old.keys) × (word_place words.old.keys word.now ≡ None))) }
     ensures other { OnOk result ((v : List ℕ) → v ≢ word.now
-        → place words.new.keys v ≡ place words.old.keys v) }
+        → word_place words.new.keys v ≡ word_place words.old.keys v) }
     ensures long { length words.old.keys ≤ length words.new.keys }
     ensures kept { OnErr result (words.new.keys ≡ words.old.keys) }
 {

@@ -3,7 +3,7 @@
 ghost use Rattle.std.specs.Prelude.{◌≡◌, ◌<◌, ◌≤◌, ℕ, length, get_or, map, Some, IfOk};
 ghost use Rattle.std.specs.String.{string_bytes};
 ghost use Rattle.proto_text.specs.Texts.{word_at};
-ghost use Rattle.proto_table.specs.LastWords.{AreListed, IsKept, last_word, named_as};
+ghost use Rattle.proto_table.specs.LastWords.{AreListed, EntriesAreKept, last_word, named_as};
 ghost use Rattle.proto_listing.specs.Listing.{last_token, needs, read, whole};
 ghost use Rattle.proto_table.specs.Spelled.{AreSpelled, named_in};
 
@@ -15,7 +15,7 @@ use proto_listing::listing::{LastWord, Listed};
 use std::alloc::Global;
 
 /// A text of its own.
-fn copied(alloc: Global, text: &str) -> Result<String, NoMemory>
+fn copy_text(alloc: Global, text: &str) -> Result<String, NoMemory>
     ensures { IfOk result (λ word. string_bytes word ≡ text.now) }
 {
     Ok(String::from_str(alloc, text)?)
@@ -26,23 +26,27 @@ fn last_word(alloc: Global, words: &Words, entry: &Listed) -> Result<String, NoM
     ensures { IfOk result (λ word. string_bytes word ≡ last_word (word_at words.now) entry.now) }
 {
     match entry.word {
-        LastWord::Text => copied(alloc, words.get(entry.token)),
+        LastWord::Text => copy_text(alloc, words.get(entry.token)),
         LastWord::EntryName => entry_name(alloc, words.get(entry.token)),
-        LastWord::Key => copied(alloc, "key"),
-        LastWord::Value => copied(alloc, "value"),
+        LastWord::Key => copy_text(alloc, "key"),
+        LastWord::Value => copy_text(alloc, "value"),
     }
 }
 
 /// The declarations of a file, in their order, with their last words. Refused for want of memory
 /// alone.
-pub fn spelled(alloc: Global, words: &Words, declared: &[Listed]) -> Result<Vec<Spelled>, NoMemory>
+pub fn spelled_names(
+    alloc: Global,
+    words: &Words,
+    declared: &[Listed],
+) -> Result<Vec<Spelled>, NoMemory>
     requires ordered { (k : ℕ) (d : Listed) → k
         < length declared.now → needs (get_or declared.now k d).above ≤ k }
     requires tokens { map (λ e. Some e.token) declared.now
         ≡ map (λ p. last_token (whole p)) (read declared.now) }
     ensures names { IfOk result (λ ss. (file : ℕ)
         → named_in file ss.items ≡ map (named_as file (word_at words.now)) (read declared.now)) }
-    ensures kept { IfOk result (λ ss. IsKept declared.now ss.items) }
+    ensures kept { IfOk result (λ ss. EntriesAreKept declared.now ss.items) }
     ensures spelled { IfOk result (λ ss. AreListed
         (word_at words.now) declared.now → AreSpelled ss.items) }
 {

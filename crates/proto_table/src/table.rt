@@ -8,7 +8,7 @@ ghost use Rattle.proto_table.specs.Filling.{IsRowOf};
 ghost use Rattle.proto_meaning.specs.Forest.{under, front};
 ghost use Rattle.proto_meaning.specs.Joined.{joined, ArePlain, IsPlain};
 ghost use Rattle.proto_meaning.specs.Names.{Reference, Workspace, meaning};
-ghost use Rattle.proto_table.specs.Resolved.{IsAsked, IsDeclared, IsIndexOf, IsTaken, IsTypeAt, under_all};
+ghost use Rattle.proto_table.specs.Resolved.{IsAsked, SymbolIsDeclared, IsIndexOf, IsTaken, IsTypeAt, under_all};
 ghost use Rattle.proto_meaning.specs.Marks.{MarksSeen};
 ghost use Rattle.proto_table.specs.Search.{is_seen, passes, HitsAt, IsHit};
 ghost use Rattle.proto_table.specs.Tables.{IsTable, IsUnchanged, names_of, look, row_of};
@@ -107,7 +107,7 @@ impl Table {
     }
 
     /// The index of the row with this name; none where no row has it.
-    pub fn named(&self, text: &str) -> Option<usize>
+    pub fn index_of_name(&self, text: &str) -> Option<usize>
         requires { IsTable self.now }
         ensures sound { IfSome result (λ k. (k < length self.now.rows.items)
             × (get_or (names_of self.now) k [] ≡ text.now)) }
@@ -116,7 +116,7 @@ impl Table {
     {
         let mut number = 0;
         let mut rest = text;
-        while let Some((word, behind)) = cut(rest) {
+        while let Some((word, behind)) = split_at_dot(rest) {
             number = self.find(number, word)? + 1;
             rest = behind;
         }
@@ -252,7 +252,7 @@ impl Table {
         requires plain { IsPlain word.now }
         ensures table { OnOk result (IsTable self.new) }
         ensures index { IfOk result (λ o. IfSome o
-            (λ _. IsDeclared self.old self.new
+            (λ _. SymbolIsDeclared self.old self.new
             (under (front (names_of self.old) above) word.now) symbol)) }
         ensures row { IfOk result (λ o. IfSome o
             (IsRowOf self.old self.new (under (front (names_of self.old) above) word.now) symbol)) }
@@ -342,7 +342,7 @@ fn add_file(rows: &mut Vec<Row>, row: usize, file: u32) -> Result<(), NoMemory>
 }
 
 /// A text before and after its first `.`; none where it has no `.`.
-pub fn cut(text: &str) -> Option<(&str, &str)>
+pub fn split_at_dot(text: &str) -> Option<(&str, &str)>
     ensures cases { MatchOption result (list_any (λ b. b == ascii.dot) text.now ≡ false)
         (λ x. (text.now ≡ x.0.now ++ ascii.dot ∷ x.1.now)
         × (list_any (λ b. b == ascii.dot) x.0.now ≡ false)) }

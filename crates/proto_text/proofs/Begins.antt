@@ -1,7 +1,7 @@
 -- The first piece that is scanned is one that the text begins with, and no other is (for the crates above).
 use Rattle.std.proofs.Common.{◌≡◌, ℕ, ◌+◌, ◌-◌, suc, ◌<◌, ◌≤◌, Bool, true, false, cond, eqb, ◌||◌, List, [], ◌∷◌, ◌++◌, length, take, drop, Option, Some, None, Ok, Err, refl, sym, ap, subst, ◌∙◌, arith, ◌⊎◌, inl, inr, append_assoc, IfOk, IsTrue, ◌↔◌, eqb-true, take-append-drop, take_at, length-append}
 use Rattle.proto_faults.proofs.Common.{prefix_len, length-prefix_len}
-use Rattle.proto_text.specs.Common.{Class, Space, Letter, Digit, Quote, Mark, Slash, Other, Word, Number, Text, Punctuation, PieceKind, Blank, LineComment, BlockComment, Solid, LexFault, BadChar, OpenComment, OpenString, BadEscape, BadNumber, class_of, is_identifier, IsOne, IsRun, is_number, is_in_line, opens_comment, HasNoClose, IsLexeme, EndsBefore, IsFault, IsQuoted, IsAllowed, is_body, end_len, BeginsWith, Each, Stops, Found, block_found, close_len, comment_at, number_at, string_at, string_found, piece_of, piece_at}
+use Rattle.proto_text.specs.Common.{Class, Space, Letter, Digit, Quote, Mark, Slash, Other, Word, Number, Text, Punctuation, PieceKind, Blank, LineComment, BlockComment, Solid, LexFault, BadChar, OpenComment, OpenString, BadEscape, BadNumber, class_of, is_identifier, IsOne, IsRun, is_number, is_in_line, opens_comment, HasNoClose, IsLexeme, EndsBefore, IsFault, IsQuoted, IsAllowed, is_body, end_len, BeginsWith, EachByte, Stops, PieceFound, block_found, close_len, comment_at, scanned_number, scanned_string, string_found, piece_of, piece_at}
 use Rattle.proto_text.proofs.Ends.{quote_ends, end_found, end_sound, end_misses, end_none}
 use Rattle.proto_text.proofs.Runs.{run_len, run_passes, run_stops, close_found, close_sound, close_none, close_misses}
 
@@ -34,7 +34,7 @@ pub record Begins (kind : PieceKind) (bytes : List ℕ) (n : ℕ) : Type 0 where
   pub ends : EndsBefore kind rest
   pub some : 0 < n
 
-abbrev ok : PieceKind × ℕ → Found
+abbrev ok : PieceKind × ℕ → PieceFound
 ok x = Ok x
 
 ok_is : (x y : PieceKind × ℕ) → ok x ≡ ok y → x ≡ y
@@ -110,8 +110,8 @@ number_begins b bytes class good = record {
   some = omega arith;
 }
 
-number_is : (b : ℕ) (bytes : List ℕ) (t : Bool) → is_number (b ∷ take (prefix_len is_identifier bytes) bytes) ≡ t → number_at (1 + prefix_len is_identifier bytes) (b ∷ bytes) ≡ cond t (Ok (Solid Number, 1 + prefix_len is_identifier bytes)) (Err BadNumber)
-unfolding number_at
+number_is : (b : ℕ) (bytes : List ℕ) (t : Bool) → is_number (b ∷ take (prefix_len is_identifier bytes) bytes) ≡ t → scanned_number (1 + prefix_len is_identifier bytes) (b ∷ bytes) ≡ cond t (Ok (Solid Number, 1 + prefix_len is_identifier bytes)) (Err BadNumber)
+unfolding scanned_number
 number_is b bytes t e = rw (front_is b bytes (prefix_len is_identifier bytes), e) refl
 
 -- ---- comments
@@ -158,7 +158,7 @@ slash_sound [] kind n e = absurd cc
 slash_sound (b ∷ bytes) kind n e = comment_sound b bytes kind n (eqb b 47) (eqb b 42) refl refl e
 
 number_sound : (b : ℕ) (bytes : List ℕ) (kind : PieceKind) (n : ℕ) (t : Bool) → class_of b ≡ Digit → is_number (b ∷ take (prefix_len is_identifier bytes) bytes) ≡ t
-    → cond {A = Found} t (Ok (Solid Number, 1 + prefix_len is_identifier bytes)) (Err BadNumber) ≡ Ok (kind, n) → Begins kind (b ∷ bytes) n
+    → cond {A = PieceFound} t (Ok (Solid Number, 1 + prefix_len is_identifier bytes)) (Err BadNumber) ≡ Ok (kind, n) → Begins kind (b ∷ bytes) n
 number_sound b bytes kind n true class good e = begins_as (b ∷ bytes) (Solid Number, 1 + prefix_len is_identifier bytes) kind n e (number_begins b bytes class good)
 number_sound b bytes kind n false class good e = absurd cc
 
@@ -176,8 +176,8 @@ string_sound_by b bytes (Some m) kind n class found e =
       some = omega arith;
     })
 
-string_sound : (b : ℕ) (bytes : List ℕ) (kind : PieceKind) (n : ℕ) → class_of b ≡ Quote → string_at b bytes ≡ Ok (kind, n) → Begins kind (b ∷ bytes) n
-unfolding string_at
+string_sound : (b : ℕ) (bytes : List ℕ) (kind : PieceKind) (n : ℕ) → class_of b ≡ Quote → scanned_string b bytes ≡ Ok (kind, n) → Begins kind (b ∷ bytes) n
+unfolding scanned_string
 string_sound b bytes kind n class e = string_sound_by b bytes (end_len false b bytes) kind n class refl e
 
 class_sound : (class : Class) (b : ℕ) (bytes : List ℕ) (kind : PieceKind) (n : ℕ) → class_of b ≡ class → piece_of class b bytes ≡ Ok (kind, n) → Begins kind (b ∷ bytes) n
@@ -201,7 +201,7 @@ one_again : (class : Class) (kind : PieceKind) (piece rest : List ℕ) → IsOne
 unfolding piece_at
 one_again class kind piece rest one gives = rw (one.1, one.2) (gives one.0 rest)
 
-run_again : (b : ℕ) (bytes rest : List ℕ) → Each is_identifier bytes → Stops is_identifier rest → 1 + prefix_len is_identifier (bytes ++ rest) ≡ suc (length bytes)
+run_again : (b : ℕ) (bytes rest : List ℕ) → EachByte is_identifier bytes → Stops is_identifier rest → 1 + prefix_len is_identifier (bytes ++ rest) ≡ suc (length bytes)
 run_again b bytes rest each stops = let e = run_len is_identifier bytes rest each stops in omega arith
 
 word_again : (piece rest : List ℕ) → IsRun Letter piece → Stops is_identifier rest → piece_at (piece ++ rest) ≡ Ok (Solid Word, length piece)
@@ -209,14 +209,14 @@ unfolding piece_at
 word_again [] rest run stops = absurd run
 word_again (b ∷ bytes) rest run stops = rw run.0 (ap (λ (n : ℕ). ok (Solid Word, n)) (run_again b bytes rest run.1 stops))
 
-number_again : (piece rest : List ℕ) (t : Bool) → IsRun Digit piece → Stops is_identifier rest → is_number piece ≡ t → piece_at (piece ++ rest) ≡ cond {A = Found} t (Ok (Solid Number, length piece)) (Err BadNumber)
-unfolding piece_at number_at
+number_again : (piece rest : List ℕ) (t : Bool) → IsRun Digit piece → Stops is_identifier rest → is_number piece ≡ t → piece_at (piece ++ rest) ≡ cond {A = PieceFound} t (Ok (Solid Number, length piece)) (Err BadNumber)
+unfolding piece_at scanned_number
 number_again [] rest t run stops good = absurd run
 number_again (b ∷ bytes) rest t run stops good =
     let len = run_again b bytes rest run.1 stops in
     let front = take_at (b ∷ bytes) rest (suc (length bytes)) refl in
     let test : is_number (take (suc (length bytes)) (b ∷ (bytes ++ rest))) ≡ t = ap is_number front ∙ good in
-    rw (run.0, len) (ap (λ (u : Bool). cond {A = Found} u (Ok (Solid Number, suc (length bytes))) (Err BadNumber)) test)
+    rw (run.0, len) (ap (λ (u : Bool). cond {A = PieceFound} u (Ok (Solid Number, suc (length bytes))) (Err BadNumber)) test)
 
 line_again : (piece rest : List ℕ) → IsLexeme LineComment piece → EndsBefore LineComment rest → piece_at (piece ++ rest) ≡ Ok (LineComment, length piece)
 unfolding piece_at class_of comment_at
@@ -234,12 +234,12 @@ block_again piece rest is =
     ap piece_at whole ∙ ap block_found found ∙ ap (λ (n : ℕ). ok (BlockComment, n)) n
 
 string_again : (piece rest : List ℕ) (quote : ℕ) (body : List ℕ) → IsQuoted piece quote body → piece_at (piece ++ rest) ≡ Ok (Solid Text, length piece)
-unfolding piece_at string_at
+unfolding piece_at scanned_string
 string_again piece rest quote body is =
     let found = end_found false quote body rest (quote_ends quote is.0) is.2 in
     let whole : piece ++ rest ≡ quote ∷ (body ++ quote ∷ rest) = ap (λ (t : List ℕ). t ++ rest) is.1 ∙ ap (λ (t : List ℕ). quote ∷ t) (append_assoc body (quote ∷ []) rest) in
     let n : 1 + (length body + 1) ≡ length piece = omega (arith, ap length is.1, length-append body (quote ∷ [])) in
-    let class : piece_at (quote ∷ (body ++ quote ∷ rest)) ≡ string_at quote (body ++ quote ∷ rest) = rw is.0 refl in
+    let class : piece_at (quote ∷ (body ++ quote ∷ rest)) ≡ scanned_string quote (body ++ quote ∷ rest) = rw is.0 refl in
     ap piece_at whole ∙ class ∙ ap string_found found ∙ ap (λ (n : ℕ). ok (Solid Text, n)) n
 
 pub piece_again : (kind : PieceKind) (piece rest : List ℕ) → IsRaw kind piece → EndsBefore kind rest → piece_at (piece ++ rest) ≡ Ok (kind, length piece)
@@ -253,7 +253,7 @@ piece_again (Solid Punctuation) piece rest is ends = one_again Mark (Solid Punct
 
 -- ---- faults
 
-abbrev fault_as : LexFault → Found
+abbrev fault_as : LexFault → PieceFound
 fault_as f = Err f
 
 err_is : (a b : LexFault) → fault_as a ≡ fault_as b → a ≡ b
@@ -267,7 +267,7 @@ open_fault bytes None fault e f = fault_from (47 ∷ 42 ∷ bytes) OpenComment f
 open_fault bytes (Some n) fault e f = absurd cc
 
 comment_fault : (b : ℕ) (bytes : List ℕ) (fault : LexFault) (line block : Bool) → eqb b 47 ≡ line → eqb b 42 ≡ block
-    → cond {A = Found} line (Ok (LineComment, 2 + prefix_len is_in_line bytes)) (cond block (block_found (close_len false bytes)) (Err BadChar)) ≡ Err fault → IsFault fault (47 ∷ b ∷ bytes)
+    → cond {A = PieceFound} line (Ok (LineComment, 2 + prefix_len is_in_line bytes)) (cond block (block_found (close_len false bytes)) (Err BadChar)) ≡ Err fault → IsFault fault (47 ∷ b ∷ bytes)
 unfolding class_of
 comment_fault b bytes fault true block l s e = absurd cc
 comment_fault b bytes fault false true l s e = rw (eqb-true b 42 s) (open_fault bytes (close_len false bytes) fault refl e)
@@ -281,7 +281,7 @@ slash_fault [] fault e = fault_from (47 ∷ []) BadChar fault e (47, [], refl, i
 slash_fault (b ∷ bytes) fault e = comment_fault b bytes fault (eqb b 47) (eqb b 42) refl refl e
 
 number_fault : (b : ℕ) (bytes : List ℕ) (fault : LexFault) (t : Bool) → class_of b ≡ Digit → is_number (b ∷ take (prefix_len is_identifier bytes) bytes) ≡ t
-    → cond {A = Found} t (Ok (Solid Number, 1 + prefix_len is_identifier bytes)) (Err BadNumber) ≡ Err fault → IsFault fault (b ∷ bytes)
+    → cond {A = PieceFound} t (Ok (Solid Number, 1 + prefix_len is_identifier bytes)) (Err BadNumber) ≡ Err fault → IsFault fault (b ∷ bytes)
 number_fault b bytes fault true class good e = absurd cc
 number_fault b bytes fault false class good e =
     fault_from (b ∷ bytes) BadNumber fault e
@@ -291,8 +291,8 @@ string_fault_by : (b : ℕ) (bytes : List ℕ) (o : Option ℕ) (fault : LexFaul
 string_fault_by b bytes None fault class found e = fault_from (b ∷ bytes) OpenString fault e (b, bytes, refl, class, end_misses b bytes (quote_ends b class) found)
 string_fault_by b bytes (Some n) fault class found e = absurd cc
 
-string_fault : (b : ℕ) (bytes : List ℕ) (fault : LexFault) → class_of b ≡ Quote → string_at b bytes ≡ Err fault → IsFault fault (b ∷ bytes)
-unfolding string_at
+string_fault : (b : ℕ) (bytes : List ℕ) (fault : LexFault) → class_of b ≡ Quote → scanned_string b bytes ≡ Err fault → IsFault fault (b ∷ bytes)
+unfolding scanned_string
 string_fault b bytes fault class e = string_fault_by b bytes (end_len false b bytes) fault class refl e
 
 class_fault : (class : Class) (b : ℕ) (bytes : List ℕ) (fault : LexFault) → class_of b ≡ class → piece_of class b bytes ≡ Err fault → IsFault fault (b ∷ bytes)
@@ -305,7 +305,7 @@ class_fault Mark b bytes fault c e = absurd cc
 class_fault Slash b bytes fault c e = rw (slash_is b c) (slash_fault bytes fault e)
 class_fault Other b bytes fault c e = fault_from (b ∷ bytes) BadChar fault e (b, bytes, refl, inl c)
 
-neither : (a b : Bool) (x y : Found) → (a || b) ≡ false → cond a x (cond b y (Err BadChar)) ≡ Err BadChar
+neither : (a b : Bool) (x y : PieceFound) → (a || b) ≡ false → cond a x (cond b y (Err BadChar)) ≡ Err BadChar
 neither true b x y e = absurd cc
 neither false true x y e = absurd cc
 neither false false x y e = refl
@@ -323,8 +323,8 @@ open_again : (more : List ℕ) → HasNoClose more → piece_at (47 ∷ 42 ∷ m
 unfolding piece_at class_of comment_at
 open_again more clean = ap block_found (close_misses more clean)
 
-open_string : (c : ℕ) (more : List ℕ) → ((body back : List ℕ) → more ≡ body ++ c ∷ back → is_body false c body ≡ true → ⊥) → string_at c more ≡ Err OpenString
-unfolding string_at
+open_string : (c : ℕ) (more : List ℕ) → ((body back : List ℕ) → more ≡ body ++ c ∷ back → is_body false c body ≡ true → ⊥) → scanned_string c more ≡ Err OpenString
+unfolding scanned_string
 open_string c more h = ap string_found (end_none c more h)
 
 pub fault_sound : (bytes : List ℕ) (fault : LexFault) → 0 < length bytes → piece_at bytes ≡ Err fault → IsFault fault bytes
@@ -333,7 +333,7 @@ fault_sound [] fault some e = absurd (omega arith)
 fault_sound (b ∷ bytes) fault some e = class_fault (class_of b) b bytes fault refl e
 
 -- what the scan finds at a fault: the fault, or a string
-abbrev pub found_at : LexFault → List ℕ → Found
+abbrev pub found_at : LexFault → List ℕ → PieceFound
 found_at BadEscape text = Ok (Solid Text, length text)
 found_at BadChar text = Err BadChar
 found_at OpenComment text = Err OpenComment
@@ -348,17 +348,17 @@ fault_again OpenString bytes f = ([], rw (f.2, f.3) (open_string f.0 f.1 f.4))
 fault_again BadEscape bytes f = (f.0, rw f.4 (string_again f.0 f.1 f.2 f.3 f.5))
 fault_again BadNumber bytes f = ([], rw f.2 (number_again f.0 f.1 false f.3 f.4 f.5))
 
-pub found_some : (bytes : List ℕ) (result : Found) → result ≡ piece_at bytes → IfOk result (λ found. 0 < found.1)
+pub found_some : (bytes : List ℕ) (result : PieceFound) → result ≡ piece_at bytes → IfOk result (λ found. 0 < found.1)
 found_some bytes (Ok found) e = (piece_sound bytes found.0 found.1 (sym e)).some
 found_some bytes (Err fault) e = tt
 
-pub found_fits : (bytes : List ℕ) (result : Found) → result ≡ piece_at bytes → IfOk result (λ found. found.1 ≤ length bytes)
+pub found_fits : (bytes : List ℕ) (result : PieceFound) → result ≡ piece_at bytes → IfOk result (λ found. found.1 ≤ length bytes)
 found_fits bytes (Ok found) e =
     let b = piece_sound bytes found.0 found.1 (sym e) in
     omega (arith, b.len, ap length b.parts, length-append b.piece b.rest)
 found_fits bytes (Err fault) e = tt
 
-pub found_quoted : (bytes : List ℕ) (result : Found) → result ≡ piece_at bytes → IfOk result (λ found. found.0 ≡ Solid Text → 2 ≤ found.1)
+pub found_quoted : (bytes : List ℕ) (result : PieceFound) → result ≡ piece_at bytes → IfOk result (λ found. found.0 ≡ Solid Text → 2 ≤ found.1)
 found_quoted bytes (Ok found) e = λ text. long text (piece_sound bytes found.0 found.1 (sym e))
   where
     long : found.0 ≡ Solid Text → Begins found.0 bytes found.1 → 2 ≤ found.1
@@ -368,21 +368,21 @@ found_quoted bytes (Err fault) e = tt
 -- ---- with what a string stands for
 
 -- between the quotes
-abbrev pub inside : ℕ → List ℕ → List ℕ
-inside n bytes = take (n - 2) (drop 1 bytes)
+abbrev pub between_quotes : ℕ → List ℕ → List ℕ
+between_quotes n bytes = take (n - 2) (drop 1 bytes)
 
-inside_is : (bytes : List ℕ) (n : ℕ) (piece rest : List ℕ) (quote : ℕ) (body : List ℕ) → bytes ≡ piece ++ rest → n ≡ length piece → IsQuoted piece quote body → inside n bytes ≡ body
+inside_is : (bytes : List ℕ) (n : ℕ) (piece rest : List ℕ) (quote : ℕ) (body : List ℕ) → bytes ≡ piece ++ rest → n ≡ length piece → IsQuoted piece quote body → between_quotes n bytes ≡ body
 inside_is bytes n piece rest quote body parts len q =
     let whole : bytes ≡ quote ∷ (body ++ quote ∷ rest) = parts ∙ ap (λ (t : List ℕ). t ++ rest) q.1 ∙ ap (λ (t : List ℕ). quote ∷ t) (append_assoc body (quote ∷ []) rest) in
-    ap (inside n) whole ∙ take_at body (quote ∷ rest) (n - 2) (omega (arith, len, ap length q.1, length-append body (quote ∷ [])))
+    ap (between_quotes n) whole ∙ take_at body (quote ∷ rest) (n - 2) (omega (arith, len, ap length q.1, length-append body (quote ∷ [])))
 
-pub accept_text : (bytes : List ℕ) (n : ℕ) → piece_at bytes ≡ Ok (Solid Text, n) → IsAllowed (inside n bytes) → BeginsWith (Solid Text) bytes n
+pub accept_text : (bytes : List ℕ) (n : ℕ) → piece_at bytes ≡ Ok (Solid Text, n) → IsAllowed (between_quotes n bytes) → BeginsWith (Solid Text) bytes n
 accept_text bytes n found allowed =
     let b = piece_sound bytes (Solid Text) n found in
     let body = inside_is bytes n b.piece b.rest b.is.0 b.is.1 b.parts b.len b.is.2 in
     record { piece = b.piece; rest = b.rest; parts = b.parts; len = b.len; is = (b.is.0, b.is.1, b.is.2, subst IsAllowed body allowed); ends = tt }
 
-pub refuse_text : (bytes : List ℕ) (n : ℕ) → piece_at bytes ≡ Ok (Solid Text, n) → (IsAllowed (inside n bytes) → ⊥) → IsFault BadEscape bytes
+pub refuse_text : (bytes : List ℕ) (n : ℕ) → piece_at bytes ≡ Ok (Solid Text, n) → (IsAllowed (between_quotes n bytes) → ⊥) → IsFault BadEscape bytes
 refuse_text bytes n found refused =
     let b = piece_sound bytes (Solid Text) n found in
     let body = inside_is bytes n b.piece b.rest b.is.0 b.is.1 b.parts b.len b.is.2 in
@@ -413,10 +413,10 @@ accept_as kind bytes n text tests no-text found = accept_other kind bytes n (λ 
 text_found : (kind : PieceKind) (bytes : List ℕ) (n : ℕ) → kind ≡ Solid Text → piece_at bytes ≡ Ok (kind, n) → piece_at bytes ≡ Ok (Solid Text, n)
 text_found kind bytes n is found = found ∙ ap (λ (k : PieceKind). ok (k, n)) is
 
-pub accept_string : (kind : PieceKind) (bytes : List ℕ) (n : ℕ) → kind ≡ Solid Text → piece_at bytes ≡ Ok (kind, n) → IsAllowed (inside n bytes) → BeginsWith kind bytes n
+pub accept_string : (kind : PieceKind) (bytes : List ℕ) (n : ℕ) → kind ≡ Solid Text → piece_at bytes ≡ Ok (kind, n) → IsAllowed (between_quotes n bytes) → BeginsWith kind bytes n
 accept_string kind bytes n is found allowed = subst (λ (k : PieceKind). BeginsWith k bytes n) (sym is) (accept_text bytes n (text_found kind bytes n is found) allowed)
 
-pub refuse_string : (kind : PieceKind) (bytes : List ℕ) (n : ℕ) → kind ≡ Solid Text → piece_at bytes ≡ Ok (kind, n) → (IsAllowed (inside n bytes) → ⊥) → IsFault BadEscape bytes
+pub refuse_string : (kind : PieceKind) (bytes : List ℕ) (n : ℕ) → kind ≡ Solid Text → piece_at bytes ≡ Ok (kind, n) → (IsAllowed (between_quotes n bytes) → ⊥) → IsFault BadEscape bytes
 refuse_string kind bytes n is found refused = refuse_text bytes n (text_found kind bytes n is found) refused
 
 is_true : (b : Bool) → b ≡ true → IsTrue b

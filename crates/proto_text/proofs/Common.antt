@@ -6,17 +6,17 @@ pub use Rattle.proto_text.proofs.Order.{text_token_is_string, token_is_lexeme, t
 pub use Rattle.proto_text.proofs.Values.{meaning_again, meaning_sound, strings_have_values, value_again, value_is_value_of}
 pub use Rattle.proto_text.proofs.WordChange.{not_empty}
 pub use Rattle.proto_text.proofs.WordTest.{is_run_again, run_is}
-pub use Rattle.proto_text.specs.Bytes.{Each}
+pub use Rattle.proto_text.specs.Bytes.{EachByte}
 pub use Rattle.proto_text.specs.Classes.{extends_word, is_digit, is_identifier, is_letter, is_mark, is_space}
 unfoldable pub use Rattle.proto_text.specs.Classes.{class_of}
 pub use Rattle.proto_text.specs.Edits.{AreShort, Edit, Puts, inverse_from, new_len, old_len}
-pub use Rattle.proto_text.specs.Pieces.{ArePieces, IsFault, IsLexeme, IsRun, Piece, text_of}
+pub use Rattle.proto_text.specs.Pieces.{ArePieces, IsFault, IsLexeme, IsRun, Piece, pieces_text}
 pub use Rattle.proto_text.specs.Segments.{EndsByItself, IsPlace, IsReplaced, IsSeam, IsSegment, QuotedStandsForItself, RunsAreReplaced, bytes_between, end_before, is_plain, moved, quoted}
 pub use Rattle.proto_text.specs.SourceFacts.{IsSpan, text_at}
 pub use Rattle.proto_text.specs.Splicing.{edit_of, edits}
 pub use Rattle.proto_text.specs.Strings.{IsAllowed, IsString, number_in}
 pub use Rattle.proto_text.specs.Texts.{AreWords, IsReworded, changed, edit_if, offset_at, or_word, token_edits, word_at, words}
 pub use Rattle.proto_text.specs.Tokens.{AreTokens, IsFaultAt, IsLexError, Lexeme, lexeme_at, token_at, tokens_from}
-pub use Rattle.proto_text.specs.Values.{StandsFor, is_value, meaning_from, says}
+pub use Rattle.proto_text.specs.Values.{StandsFor, is_value, meaning_behind, says}
 unfoldable pub use Rattle.proto_text.specs.Values.{value_of}
 pub use Rattle.proto_text.specs.Words.{is_run}

@@ -1,14 +1,14 @@
 -- Groups are pieces, and pieces are groups.
 use Rattle.std.proofs.Common.{◌≡◌, ℕ, Bool, true, false, List, [], ◌∷◌, ◌++◌, refl, sym, ap, subst, ◌∙◌, append_assoc, append-nil}
-use Rattle.proto_text.specs.Common.{PieceKind, Blank, LineComment, BlockComment, Solid, TokenKind, Word, Number, Text, Punctuation, Stops, class_of, extends_word, is_identifier, Piece, IsLexeme, EndsBefore, ArePieces, text_of}
+use Rattle.proto_text.specs.Common.{PieceKind, Blank, LineComment, BlockComment, Solid, TokenKind, Word, Number, Text, Punctuation, Stops, class_of, extends_word, is_identifier, Piece, IsLexeme, EndsBefore, ArePieces, pieces_text}
 use Rattle.proto_text.specs.Grouping.{IsTrivium, AreTrivia, Group, groups_text, TakesIdentifiers, BeginsIdentifier, IsApart, AreGroups, pieces_of, GroupsArePieces, PiecesAreGroups, OneGrouping}
 use Rattle.proto_text.proofs.Segments.{text_append, pieces_join}
 use Rattle.proto_text.proofs.Sequence.{same_front, end_is_stuck}
 use Rattle.proto_text.proofs.WordChange.{not_empty}
 
-groups_text_is : (gs : List Group) → text_of (pieces_of gs) ≡ groups_text gs
+groups_text_is : (gs : List Group) → pieces_text (pieces_of gs) ≡ groups_text gs
 groups_text_is [] = refl
-groups_text_is (g ∷ gs) = ap (λ (t : List ℕ). g.bytes ++ t) (text_append g.behind (pieces_of gs) ∙ ap (λ (t : List ℕ). text_of g.behind ++ t) (groups_text_is gs))
+groups_text_is (g ∷ gs) = ap (λ (t : List ℕ). g.bytes ++ t) (text_append g.behind (pieces_of gs) ∙ ap (λ (t : List ℕ). pieces_text g.behind ++ t) (groups_text_is gs))
 
 -- ---- groups are pieces
 
@@ -20,7 +20,7 @@ trivium_ends (Solid k) bytes rest t = absurd t
 
 trivia_are : (ts : List Piece) (rest : List ℕ) → AreTrivia ts rest → ArePieces ts rest
 trivia_are [] rest h = tt
-trivia_are (t ∷ ts) rest h = let one = trivium_ends t.kind t.bytes (text_of ts ++ rest) h.0 in (one.0, one.1, trivia_are ts rest h.1)
+trivia_are (t ∷ ts) rest h = let one = trivium_ends t.kind t.bytes (pieces_text ts ++ rest) h.0 in (one.0, one.1, trivia_are ts rest h.1)
 
 slash_is_none : is_identifier 47 ≡ false
 unfolding class_of
@@ -42,13 +42,13 @@ group_stops g h hs (b ∷ bytes) more e is takes apart none = by (is_identifier 
     by false w = w
 
 -- no identifier character stands behind a word or a number
-stops_behind : (g : Group) (gs : List Group) (behind : List Piece) → g.behind ≡ behind → TakesIdentifiers g.kind → AreTrivia behind (groups_text gs) → IsApart g gs → AreGroups gs → Stops is_identifier (text_of behind ++ groups_text gs)
+stops_behind : (g : Group) (gs : List Group) (behind : List Piece) → g.behind ≡ behind → TakesIdentifiers g.kind → AreTrivia behind (groups_text gs) → IsApart g gs → AreGroups gs → Stops is_identifier (pieces_text behind ++ groups_text gs)
 stops_behind g gs (t ∷ ts) e takes trivia apart are =
-    subst (Stops is_identifier) (sym (append_assoc t.bytes (text_of ts) (groups_text gs))) (trivium_stops t.kind t.bytes (text_of ts ++ groups_text gs) (text_of ts ++ groups_text gs) trivia.0)
+    subst (Stops is_identifier) (sym (append_assoc t.bytes (pieces_text ts) (groups_text gs))) (trivium_stops t.kind t.bytes (pieces_text ts ++ groups_text gs) (pieces_text ts ++ groups_text gs) trivia.0)
 stops_behind g [] [] e takes trivia apart are = tt
-stops_behind g (h ∷ hs) [] e takes trivia apart are = group_stops g h hs h.bytes (text_of h.behind ++ groups_text hs) refl are.0 takes apart e
+stops_behind g (h ∷ hs) [] e takes trivia apart are = group_stops g h hs h.bytes (pieces_text h.behind ++ groups_text hs) refl are.0 takes apart e
 
-token_ends : (g : Group) (gs : List Group) (kind : TokenKind) → g.kind ≡ kind → AreTrivia g.behind (groups_text gs) → IsApart g gs → AreGroups gs → EndsBefore (Solid kind) (text_of g.behind ++ groups_text gs)
+token_ends : (g : Group) (gs : List Group) (kind : TokenKind) → g.kind ≡ kind → AreTrivia g.behind (groups_text gs) → IsApart g gs → AreGroups gs → EndsBefore (Solid kind) (pieces_text g.behind ++ groups_text gs)
 token_ends g gs Word e trivia apart are = stops_behind g gs g.behind refl (subst TakesIdentifiers (sym e) tt) trivia apart are
 token_ends g gs Number e trivia apart are = stops_behind g gs g.behind refl (subst TakesIdentifiers (sym e) tt) trivia apart are
 token_ends g gs Text e trivia apart are = tt
@@ -57,19 +57,19 @@ token_ends g gs Punctuation e trivia apart are = tt
 groups_are : (gs : List Group) → AreGroups gs → ArePieces (pieces_of gs) []
 groups_are [] h = tt
 groups_are (g ∷ gs) h =
-    let rest : text_of (pieces_of gs) ++ [] ≡ groups_text gs = append-nil (text_of (pieces_of gs)) ∙ groups_text_is gs in
-    let behind : text_of (g.behind ++ pieces_of gs) ++ [] ≡ text_of g.behind ++ groups_text gs =
-    append-nil (text_of (g.behind ++ pieces_of gs)) ∙ text_append g.behind (pieces_of gs) ∙ ap (λ (t : List ℕ). text_of g.behind ++ t) (groups_text_is gs) in (
+    let rest : pieces_text (pieces_of gs) ++ [] ≡ groups_text gs = append-nil (pieces_text (pieces_of gs)) ∙ groups_text_is gs in
+    let behind : pieces_text (g.behind ++ pieces_of gs) ++ [] ≡ pieces_text g.behind ++ groups_text gs =
+    append-nil (pieces_text (g.behind ++ pieces_of gs)) ∙ text_append g.behind (pieces_of gs) ∙ ap (λ (t : List ℕ). pieces_text g.behind ++ t) (groups_text_is gs) in (
       h.0,
       subst (EndsBefore (Solid g.kind)) (sym behind) (token_ends g gs g.kind refl h.1 h.2 h.3),
-      pieces_join g.behind (pieces_of gs) [] (trivia_are g.behind (text_of (pieces_of gs) ++ []) (subst (AreTrivia g.behind) (sym rest) h.1)) (groups_are gs h.3),
+      pieces_join g.behind (pieces_of gs) [] (trivia_are g.behind (pieces_text (pieces_of gs) ++ []) (subst (AreTrivia g.behind) (sym rest) h.1)) (groups_are gs h.3),
     )
 
 pub groups_are_pieces : GroupsArePieces
 groups_are_pieces text first gs h =
-    let rest : text_of (pieces_of gs) ++ [] ≡ groups_text gs = append-nil (text_of (pieces_of gs)) ∙ groups_text_is gs in (
-      pieces_join first (pieces_of gs) [] (trivia_are first (text_of (pieces_of gs) ++ []) (subst (AreTrivia first) (sym rest) h.trivia)) (groups_are gs h.tokens),
-      h.whole ∙ ap (λ (t : List ℕ). text_of first ++ t) (sym (groups_text_is gs)) ∙ sym (text_append first (pieces_of gs)) ∙ sym (append-nil (text_of (first ++ pieces_of gs))),
+    let rest : pieces_text (pieces_of gs) ++ [] ≡ groups_text gs = append-nil (pieces_text (pieces_of gs)) ∙ groups_text_is gs in (
+      pieces_join first (pieces_of gs) [] (trivia_are first (pieces_text (pieces_of gs) ++ []) (subst (AreTrivia first) (sym rest) h.trivia)) (groups_are gs h.tokens),
+      h.whole ∙ ap (λ (t : List ℕ). pieces_text first ++ t) (sym (groups_text_is gs)) ∙ sym (text_append first (pieces_of gs)) ∙ sym (append-nil (pieces_text (first ++ pieces_of gs))),
     )
 
 -- ---- pieces are groups
@@ -91,18 +91,18 @@ no_identifier : (bytes more : List ℕ) → BeginsIdentifier bytes → Stops is_
 no_identifier [] more begins stops = begins
 no_identifier (b ∷ bytes) more begins stops = let e : true ≡ false = sym begins ∙ stops in absurd (cc)
 
-is_apart : (kind : TokenKind) (bytes : List ℕ) (behind : List Piece) (gs : List Group) → EndsBefore (Solid kind) (text_of behind ++ groups_text gs) → IsApart (record { kind = kind; bytes = bytes; behind = behind }) gs
+is_apart : (kind : TokenKind) (bytes : List ℕ) (behind : List Piece) (gs : List Group) → EndsBefore (Solid kind) (pieces_text behind ++ groups_text gs) → IsApart (record { kind = kind; bytes = bytes; behind = behind }) gs
 is_apart kind bytes behind [] ends = tt
 is_apart kind bytes behind (h ∷ hs) ends = λ takes begins none.
-    no_identifier h.bytes (text_of h.behind ++ groups_text hs) begins (subst (λ (b : List Piece). Stops is_identifier (text_of b ++ groups_text (h ∷ hs))) none (apart_by kind (text_of behind ++ groups_text (h ∷ hs)) takes ends))
+    no_identifier h.bytes (pieces_text h.behind ++ groups_text hs) begins (subst (λ (b : List Piece). Stops is_identifier (pieces_text b ++ groups_text (h ∷ hs))) none (apart_by kind (pieces_text behind ++ groups_text (h ∷ hs)) takes ends))
 
-grouped_step : (kind : PieceKind) (bytes : List ℕ) (ps : List Piece) → IsLexeme kind bytes → EndsBefore kind (text_of ps ++ []) → Grouped ps → Grouped (record { kind = kind; bytes = bytes } ∷ ps)
+grouped_step : (kind : PieceKind) (bytes : List ℕ) (ps : List Piece) → IsLexeme kind bytes → EndsBefore kind (pieces_text ps ++ []) → Grouped ps → Grouped (record { kind = kind; bytes = bytes } ∷ ps)
 grouped_step kind bytes ps is ends g = by kind is (subst (EndsBefore kind) rest ends)
   where
-    rest : text_of ps ++ [] ≡ text_of g.first ++ groups_text g.groups
-    rest = append-nil (text_of ps) ∙ ap text_of g.parts ∙ text_append g.first (pieces_of g.groups) ∙ ap (λ (t : List ℕ). text_of g.first ++ t) (groups_text_is g.groups)
+    rest : pieces_text ps ++ [] ≡ pieces_text g.first ++ groups_text g.groups
+    rest = append-nil (pieces_text ps) ∙ ap pieces_text g.parts ∙ text_append g.first (pieces_of g.groups) ∙ ap (λ (t : List ℕ). pieces_text g.first ++ t) (groups_text_is g.groups)
 
-    more : (k : PieceKind) → IsTrivium k bytes (text_of g.first ++ groups_text g.groups) → Grouped (record { kind = k; bytes = bytes } ∷ ps)
+    more : (k : PieceKind) → IsTrivium k bytes (pieces_text g.first ++ groups_text g.groups) → Grouped (record { kind = k; bytes = bytes } ∷ ps)
     more k t = record {
       first = record { kind = k; bytes = bytes } ∷ g.first;
       groups = g.groups;
@@ -111,7 +111,7 @@ grouped_step kind bytes ps is ends g = by kind is (subst (EndsBefore kind) rest 
       parts = ap (λ (z : List Piece). let p : Piece = record { kind = k; bytes = bytes } in p ∷ z) g.parts;
     }
 
-    by : (k : PieceKind) → IsLexeme k bytes → EndsBefore k (text_of g.first ++ groups_text g.groups) → Grouped (record { kind = k; bytes = bytes } ∷ ps)
+    by : (k : PieceKind) → IsLexeme k bytes → EndsBefore k (pieces_text g.first ++ groups_text g.groups) → Grouped (record { kind = k; bytes = bytes } ∷ ps)
     by Blank is ends = more Blank is
     by LineComment is ends = more LineComment (is, ends)
     by BlockComment is ends = more BlockComment is
@@ -135,7 +135,7 @@ pieces_are_groups text ps is =
       record {
         trivia = g.trivia;
         tokens = g.tokens;
-        whole = is.1 ∙ append-nil (text_of ps) ∙ ap text_of g.parts ∙ text_append g.first (pieces_of g.groups) ∙ ap (λ (t : List ℕ). text_of g.first ++ t) (groups_text_is g.groups);
+        whole = is.1 ∙ append-nil (pieces_text ps) ∙ ap pieces_text g.parts ∙ text_append g.first (pieces_of g.groups) ∙ ap (λ (t : List ℕ). pieces_text g.first ++ t) (groups_text_is g.groups);
       },
       g.parts,
     )
@@ -181,10 +181,10 @@ same_groups (r ∷ ps) (p ∷ a) (q ∷ b) gs hs t g u h x y =
     let head : p ≡ q = sym (heads r p ps (a ++ pieces_of gs) x) ∙ heads r q ps (b ++ pieces_of hs) y in
     (ap (λ (z : Piece). z ∷ a) head ∙ ap (λ (z : List Piece). q ∷ z) more.0, more.1)
 same_groups (r ∷ ps) (p ∷ a) [] gs (k ∷ hs) t g u h x y =
-    absurd (no_trivium p k (text_of a ++ groups_text gs) (sym (heads r p ps (a ++ pieces_of gs) x) ∙ heads r (token_piece k) ps (k.behind ++ pieces_of hs) y) t.0)
+    absurd (no_trivium p k (pieces_text a ++ groups_text gs) (sym (heads r p ps (a ++ pieces_of gs) x) ∙ heads r (token_piece k) ps (k.behind ++ pieces_of hs) y) t.0)
 same_groups (r ∷ ps) (p ∷ a) [] gs [] t g u h x y = absurd (no_nil r ps (sym y))
 same_groups (r ∷ ps) [] (q ∷ b) (k ∷ gs) hs t g u h x y =
-    absurd (no_trivium q k (text_of b ++ groups_text hs) (sym (heads r q ps (b ++ pieces_of hs) y) ∙ heads r (token_piece k) ps (k.behind ++ pieces_of gs) x) u.0)
+    absurd (no_trivium q k (pieces_text b ++ groups_text hs) (sym (heads r q ps (b ++ pieces_of hs) y) ∙ heads r (token_piece k) ps (k.behind ++ pieces_of gs) x) u.0)
 same_groups (r ∷ ps) [] (q ∷ b) [] hs t g u h x y = absurd (no_nil r ps (sym x))
 same_groups (r ∷ ps) [] [] [] hs t g u h x y = absurd (no_nil r ps (sym x))
 same_groups (r ∷ ps) [] [] (k ∷ gs) [] t g u h x y = absurd (no_nil r ps (sym y))

@@ -1,7 +1,7 @@
 -- Tokens stand in order, and are in the lexical sets; where a token stays, it has its word at its moved index (for the crates above).
 use Rattle.std.proofs.Common.{◌≡◌, ℕ, zero, suc, ◌+◌, ◌-◌, ◌<◌, ◌≤◌, ◌⊎◌, inl, inr, ltb, List, [], ◌∷◌, ◌++◌, length, get_or, take, drop, map, All, refl, sym, ap, subst, ◌∙◌, arith, lt-ltb, le-ltb, append-nil, length-append, length-take}
 use Rattle.proto_faults.proofs.Common.{AllByRecursion, cond-true, cond-false, All-from_recursion}
-use Rattle.proto_text.specs.Common.{PieceKind, Blank, LineComment, BlockComment, Solid, TokenKind, Text, Token, Piece, IsLexeme, ArePieces, text_of, end_before, TokensAreInOrder, TokensAreMoved, TokensAreLexemes, moved, text_at, IsString, word_at, offset_at, Lexeme, lexeme_at, lexeme_if, lexemes, token_at, tokens_from, AreTokens}
+use Rattle.proto_text.specs.Common.{PieceKind, Blank, LineComment, BlockComment, Solid, TokenKind, Text, Token, Piece, IsLexeme, ArePieces, pieces_text, end_before, TokensAreInOrder, TokensAreMoved, TokensAreLexemes, moved, text_at, IsString, word_at, offset_at, Lexeme, lexeme_at, lexeme_if, lexemes, token_at, tokens_from, AreTokens}
 use Rattle.proto_text.proofs.Reading.{tokens_read_pieces}
 use Rattle.proto_text.proofs.WordChange.{not_empty}
 
@@ -82,15 +82,15 @@ order_step (Solid k) bytes at hi ts is le w = one_more at (at + length bytes) hi
     some [] is = absurd (not_empty (Solid k) is)
     some (b ∷ bytes) is = omega arith
 
-ordered : (ps : List Piece) (at hi : ℕ) → ArePieces ps [] → at + length (text_of ps) ≤ hi → AreWithin at hi (tokens_from at ps)
+ordered : (ps : List Piece) (at hi : ℕ) → ArePieces ps [] → at + length (pieces_text ps) ≤ hi → AreWithin at hi (tokens_from at ps)
 ordered [] at hi h le = none at hi
 ordered (p ∷ ps) at hi h le =
-    let len = length-append p.bytes (text_of ps) in
+    let len = length-append p.bytes (pieces_text ps) in
     order_step p.kind p.bytes at hi (tokens_from (at + length p.bytes) ps) h.0 (omega (arith, le, len)) (ordered ps (at + length p.bytes) hi h.2 (omega (arith, le, len)))
 
 pub tokens_are_in_order : TokensAreInOrder
 tokens_are_in_order text tokens lexed =
-    let len = ap (λ (t : List ℕ). length t) (lexed.1.1 ∙ append-nil (text_of lexed.0)) in
+    let len = ap (λ (t : List ℕ). length t) (lexed.1.1 ∙ append-nil (pieces_text lexed.0)) in
     let w = subst (AreWithin 0 (length text)) (sym lexed.2) (ordered lexed.0 0 (length text) lexed.1.0 (omega (arith, len))) in
     record {
       apart = w.apart;

@@ -2,7 +2,7 @@
 use Rattle.std.proofs.Common.{◌≡◌, ℕ, zero, suc, ◌<◌, ◌≤◌, Bool, true, false, not, eqb, ◌||◌, List, [], ◌∷◌, ◌++◌, length, get_or, refl, sym, ap, subst, ◌∙◌, inl, arith, decimal, append-nil}
 use Rattle.proto_faults.proofs.Common.{IsInRange, list_all, nat_tests, decimal_digit, decimal_nonempty, digits_decimal, first_decimal, IsNumeralModel, numerals_by_value, tells_by_index}
 use Rattle.std.specs.Str.Parse.{digits_value}
-use Rattle.proto_text.specs.Common.{Space, Digit, Quote, Step, GoesOn, Blank, Solid, TokenKind, Word, Number, Text, Punctuation, Each, class_of, extends_word, is_space, is_letter, is_digit, is_identifier, IsLexeme, EndsBefore, EndsByItself, is_plain, QuotedStandsForItself, TokenIsSegment, SpaceIsSegment, TokenBeforeSegment, DecimalIsNumber, Means, step_of, body_after, is_body, Lexeme}
+use Rattle.proto_text.specs.Common.{Space, Digit, Quote, Step, GoesOn, Blank, Solid, TokenKind, Word, Number, Text, Punctuation, EachByte, class_of, extends_word, is_space, is_letter, is_digit, is_identifier, IsLexeme, EndsBefore, EndsByItself, is_plain, QuotedStandsForItself, TokenIsSegment, SpaceIsSegment, TokenBeforeSegment, DecimalIsNumber, Means, step_of, body_after, is_body, Lexeme}
 
 space_class : (b : ℕ) → is_space b ≡ true → class_of b ≡ Space
 unfolding class_of
@@ -49,11 +49,11 @@ plain_step b h =
     let n = none_of (eqb b 34) (eqb b 39) (eqb b 92) (eqb b 10) (eqb b 0) h in
     rw (n.0, n.2, n.3, n.4) refl
 
-plain_body : (value : List ℕ) → Each is_plain value → is_body false 34 value ≡ true
+plain_body : (value : List ℕ) → EachByte is_plain value → is_body false 34 value ≡ true
 plain_body [] h = refl
 plain_body (b ∷ value) h = ap (λ (s : Step). body_after s (λ next. is_body next 34 value)) (plain_step b h.0) ∙ plain_body value h.1
 
-pub plain_means : (value : List ℕ) → Each is_plain value → Means value value
+pub plain_means : (value : List ℕ) → EachByte is_plain value → Means value value
 plain_means [] h = refl
 plain_means (b ∷ value) h =
     let n = none_of (eqb b 34) (eqb b 39) (eqb b 92) (eqb b 10) (eqb b 0) h.0 in
@@ -86,7 +86,7 @@ digit_class : (b : ℕ) → 48 ≤ b → b ≤ 57 → class_of b ≡ Digit
 unfolding class_of
 digit_class b lo hi = rw (no_space b lo hi, no_letter b lo hi, is_decimal b lo hi) refl
 
-each_extends : (ds : List ℕ) → ((i : ℕ) → i < length ds → IsInRange 48 57 (get_or ds i 0)) → Each is_identifier ds
+each_extends : (ds : List ℕ) → ((i : ℕ) → i < length ds → IsInRange 48 57 (get_or ds i 0)) → EachByte is_identifier ds
 each_extends [] h = tt
 each_extends (d ∷ ds) h = let r = h 0 (omega arith) in (ap extends_word (digit_class d r.0 r.1), each_extends ds (λ i lt. h (suc i) (omega (arith, lt))))
 

@@ -1,7 +1,7 @@
 -- A text is cut between its tokens, and segments are put in.
 use Rattle.std.proofs.Common.{◌≡◌, ℕ, zero, suc, ◌+◌, ◌-◌, ◌<◌, ◌≤◌, ◌⊎◌, inl, inr, Bool, true, false, not, eqb, List, [], ◌∷◌, ◌++◌, length, take, drop, map, refl, sym, ap, subst, ◌∙◌, arith, append_assoc, IsUtf8, IsCharBoundary, append-nil, length-append, take_at, drop_at}
 use Rattle.std.proofs.lemmas.Str.{IsUtf8-append, IsUtf8-take, IsUtf8-drop}
-use Rattle.proto_text.specs.Common.{Class, Space, Letter, Digit, Quote, Mark, PieceKind, Blank, LineComment, BlockComment, Solid, TokenKind, Word, Number, Text, Punctuation, Token, Stops, class_of, Piece, is_in_line, IsLexeme, EndsBefore, ArePieces, IsPieces, text_of, offset_at, Lexeme, lexeme_at, lexeme_if, lexemes, token_at, tokens_from, AreTokens, EndsByItself, IsSeam, end_before, IsPlace, SegmentsJoin, bytes_between, BetweenPlaces, RunsAreReplaced}
+use Rattle.proto_text.specs.Common.{Class, Space, Letter, Digit, Quote, Mark, PieceKind, Blank, LineComment, BlockComment, Solid, TokenKind, Word, Number, Text, Punctuation, Token, Stops, class_of, Piece, is_in_line, IsLexeme, EndsBefore, ArePieces, IsPieces, pieces_text, offset_at, Lexeme, lexeme_at, lexeme_if, lexemes, token_at, tokens_from, AreTokens, EndsByItself, IsSeam, end_before, IsPlace, SegmentsJoin, bytes_between, BetweenPlaces, RunsAreReplaced}
 use Rattle.proto_text.proofs.OneEdit.{length_map}
 use Rattle.proto_text.proofs.Reading.{tokens_read_pieces}
 use Rattle.proto_text.proofs.Spans.{boundary}
@@ -12,24 +12,24 @@ piece kind bytes = record { kind = kind; bytes = bytes }
 
 -- ---- lists of pieces
 
-pub text_append : (ps qs : List Piece) → text_of (ps ++ qs) ≡ text_of ps ++ text_of qs
+pub text_append : (ps qs : List Piece) → pieces_text (ps ++ qs) ≡ pieces_text ps ++ pieces_text qs
 text_append [] qs = refl
-text_append (p ∷ ps) qs = ap (λ (t : List ℕ). p.bytes ++ t) (text_append ps qs) ∙ sym (append_assoc p.bytes (text_of ps) (text_of qs))
+text_append (p ∷ ps) qs = ap (λ (t : List ℕ). p.bytes ++ t) (text_append ps qs) ∙ sym (append_assoc p.bytes (pieces_text ps) (pieces_text qs))
 
 pub lexemes_append : (ps qs : List Piece) → lexemes (ps ++ qs) ≡ lexemes ps ++ lexemes qs
 lexemes_append [] qs = refl
 lexemes_append (p ∷ ps) qs = ap (λ (t : List Lexeme). lexeme_if p.kind p.bytes ++ t) (lexemes_append ps qs) ∙ sym (append_assoc (lexeme_if p.kind p.bytes) (lexemes ps) (lexemes qs))
 
-pub pieces_join : (ps qs : List Piece) (rest : List ℕ) → ArePieces ps (text_of qs ++ rest) → ArePieces qs rest → ArePieces (ps ++ qs) rest
+pub pieces_join : (ps qs : List Piece) (rest : List ℕ) → ArePieces ps (pieces_text qs ++ rest) → ArePieces qs rest → ArePieces (ps ++ qs) rest
 pieces_join [] qs rest a b = b
 pieces_join (p ∷ ps) qs rest a b =
-    let e = ap (λ (t : List ℕ). t ++ rest) (text_append ps qs) ∙ append_assoc (text_of ps) (text_of qs) rest in
+    let e = ap (λ (t : List ℕ). t ++ rest) (text_append ps qs) ∙ append_assoc (pieces_text ps) (pieces_text qs) rest in
     (a.0, subst (EndsBefore p.kind) (sym e) a.1, pieces_join ps qs rest a.2 b)
 
-pub pieces_part : (ps qs : List Piece) (rest : List ℕ) → ArePieces (ps ++ qs) rest → ArePieces ps (text_of qs ++ rest) × ArePieces qs rest
+pub pieces_part : (ps qs : List Piece) (rest : List ℕ) → ArePieces (ps ++ qs) rest → ArePieces ps (pieces_text qs ++ rest) × ArePieces qs rest
 pieces_part [] qs rest h = (tt, h)
 pieces_part (p ∷ ps) qs rest h =
-    let e = ap (λ (t : List ℕ). t ++ rest) (text_append ps qs) ∙ append_assoc (text_of ps) (text_of qs) rest in
+    let e = ap (λ (t : List ℕ). t ++ rest) (text_append ps qs) ∙ append_assoc (pieces_text ps) (pieces_text qs) rest in
     let more = pieces_part ps qs rest h.2 in
     ((h.0, subst (EndsBefore p.kind) e h.1, more.0), more.1)
 
@@ -59,9 +59,9 @@ stays : (kind : PieceKind) (ps : List Piece) (back : List ℕ) → ArePieces ps 
 stays kind [] back h f rest = tt
 stays kind (p ∷ []) back h f rest = (h.0, free_ends p.kind rest f, tt)
 stays kind (p ∷ q ∷ ps) back h f rest =
-    let a = subst (EndsBefore p.kind) (append_assoc q.bytes (text_of ps) back) h.1 in
-    let b = ends_same p.kind q (text_of ps ++ back) (text_of ps ++ rest) h.2.0 a in
-    (h.0, subst (EndsBefore p.kind) (sym (append_assoc q.bytes (text_of ps) rest)) b, stays p.kind (q ∷ ps) back h.2 f rest)
+    let a = subst (EndsBefore p.kind) (append_assoc q.bytes (pieces_text ps) back) h.1 in
+    let b = ends_same p.kind q (pieces_text ps ++ back) (pieces_text ps ++ rest) h.2.0 a in
+    (h.0, subst (EndsBefore p.kind) (sym (append_assoc q.bytes (pieces_text ps) rest)) b, stays p.kind (q ∷ ps) back h.2 f rest)
 
 -- ---- a cut between tokens
 
@@ -70,7 +70,7 @@ record IsCut (kind : PieceKind) (ps : List Piece) (at i place : ℕ) : Type 0 wh
   front : List Piece
   back : List Piece
   parts : ps ≡ front ++ back
-  here : place ≡ at + length (text_of front)
+  here : place ≡ at + length (pieces_text front)
   count : length (lexemes front) ≡ i
   free : IsFree (last_kind kind front)
 
@@ -79,7 +79,7 @@ cut_on kind next bytes ps at i n place c e = record {
   front = piece next bytes ∷ c.front;
   back = c.back;
   parts = ap (λ (x : List Piece). piece next bytes ∷ x) c.parts;
-  here = omega (arith, c.here, length-append bytes (text_of c.front));
+  here = omega (arith, c.here, length-append bytes (pieces_text c.front));
   count = omega (arith, c.count, e, length-append (lexeme_if next bytes) (lexemes c.front));
   free = c.free;
 }
@@ -153,23 +153,23 @@ ready_behind k zero t ts text e s = (inl (subst EndsByItself e s), tt)
 ready_behind k (suc i) t ts text e s = (tt, s)
 
 -- right before a token
-cut_before_step : (kind next : PieceKind) (bytes : List ℕ) (ps : List Piece) (at i : ℕ) → IsReady kind i (bytes ++ text_of ps) → IsLexeme next bytes → EndsBefore next (text_of ps)
+cut_before_step : (kind next : PieceKind) (bytes : List ℕ) (ps : List Piece) (at i : ℕ) → IsReady kind i (bytes ++ pieces_text ps) → IsLexeme next bytes → EndsBefore next (pieces_text ps)
     → IsSeam (token_at next at (length bytes) ++ tokens_from (at + length bytes) ps) i → i < length (token_at next at (length bytes) ++ tokens_from (at + length bytes) ps)
-    → ((j : ℕ) → IsReady next j (text_of ps) → IsSeam (tokens_from (at + length bytes) ps) j → j < length (tokens_from (at + length bytes) ps) → IsCut next ps (at + length bytes) j (offset_at (tokens_from (at + length bytes) ps) j))
+    → ((j : ℕ) → IsReady next j (pieces_text ps) → IsSeam (tokens_from (at + length bytes) ps) j → j < length (tokens_from (at + length bytes) ps) → IsCut next ps (at + length bytes) j (offset_at (tokens_from (at + length bytes) ps) j))
     → IsCut kind (piece next bytes ∷ ps) at i (offset_at (token_at next at (length bytes) ++ tokens_from (at + length bytes) ps) i)
-cut_before_step kind Blank bytes ps at i r is ends s lt again = cut_on kind Blank bytes ps at i i _ (again i (ready Blank i (text_of ps) tt) s lt) (omega arith)
-cut_before_step kind LineComment bytes ps at i r is ends s lt again = cut_on kind LineComment bytes ps at i i _ (again i (ready_line i (text_of ps) ends) s lt) (omega arith)
-cut_before_step kind BlockComment bytes ps at i r is ends s lt again = cut_on kind BlockComment bytes ps at i i _ (again i (ready BlockComment i (text_of ps) tt) s lt) (omega arith)
-cut_before_step kind (Solid k) bytes ps at zero r is ends s lt again = cut_here kind (piece (Solid k) bytes ∷ ps) at (free_from kind k bytes (text_of ps) is r)
+cut_before_step kind Blank bytes ps at i r is ends s lt again = cut_on kind Blank bytes ps at i i _ (again i (ready Blank i (pieces_text ps) tt) s lt) (omega arith)
+cut_before_step kind LineComment bytes ps at i r is ends s lt again = cut_on kind LineComment bytes ps at i i _ (again i (ready_line i (pieces_text ps) ends) s lt) (omega arith)
+cut_before_step kind BlockComment bytes ps at i r is ends s lt again = cut_on kind BlockComment bytes ps at i i _ (again i (ready BlockComment i (pieces_text ps) tt) s lt) (omega arith)
+cut_before_step kind (Solid k) bytes ps at zero r is ends s lt again = cut_here kind (piece (Solid k) bytes ∷ ps) at (free_from kind k bytes (pieces_text ps) is r)
 cut_before_step kind (Solid k) bytes ps at (suc i) r is ends s lt again =
-    let next = ready_behind k i (record { kind = k; span = record { start = at; end = at + length bytes } }) (tokens_from (at + length bytes) ps) (text_of ps) refl s in
+    let next = ready_behind k i (record { kind = k; span = record { start = at; end = at + length bytes } }) (tokens_from (at + length bytes) ps) (pieces_text ps) refl s in
     cut_on kind (Solid k) bytes ps at i (suc i) _ (again i next.0 next.1 (omega (arith, lt))) (omega arith)
 
-cut_before : (kind : PieceKind) (ps : List Piece) (at i : ℕ) → ArePieces ps [] → IsReady kind i (text_of ps) → IsSeam (tokens_from at ps) i → i < length (tokens_from at ps)
+cut_before : (kind : PieceKind) (ps : List Piece) (at i : ℕ) → ArePieces ps [] → IsReady kind i (pieces_text ps) → IsSeam (tokens_from at ps) i → i < length (tokens_from at ps)
     → IsCut kind ps at i (offset_at (tokens_from at ps) i)
 cut_before kind [] at i h r s lt = absurd (omega (arith, lt))
 cut_before kind (p ∷ ps) at i h r s lt =
-    cut_before_step kind p.kind p.bytes ps at i r h.0 (subst (EndsBefore p.kind) (append-nil (text_of ps)) h.1) s lt
+    cut_before_step kind p.kind p.bytes ps at i r h.0 (subst (EndsBefore p.kind) (append-nil (pieces_text ps)) h.1) s lt
     (λ j ready seam below. cut_before p.kind ps (at + length p.bytes) j h.2 ready seam below)
 
 cut_at : (ps : List Piece) (i place : ℕ) → ArePieces ps [] → IsPlace (tokens_from 0 ps) i place → IsCut Blank ps 0 i place
@@ -178,23 +178,23 @@ cut_at ps i place h is = by i is.seam is.there
     by : (i : ℕ) → IsSeam (tokens_from 0 ps) i → (place ≡ end_before (tokens_from 0 ps) i) ⊎ ((i < length (tokens_from 0 ps)) × (place ≡ offset_at (tokens_from 0 ps) i)) → IsCut Blank ps 0 i place
     by zero s (inl e) = subst (IsCut Blank ps 0 0) (sym e) (cut_here Blank ps 0 tt)
     by (suc i) s (inl e) = subst (IsCut Blank ps 0 (suc i)) (sym e) (cut_behind Blank ps 0 i s)
-    by i s (inr e) = subst (IsCut Blank ps 0 i) (sym e.1) (cut_before Blank ps 0 i h (ready Blank i (text_of ps) tt) s e.0)
+    by i s (inr e) = subst (IsCut Blank ps 0 i) (sym e.1) (cut_before Blank ps 0 i h (ready Blank i (pieces_text ps) tt) s e.0)
 
 -- ---- two cuts
 
 -- the shorter front stands in the longer one
-nested : (a b c d : List Piece) → ArePieces (a ++ b) [] → a ++ b ≡ c ++ d → length (text_of a) ≤ length (text_of c) → (mid : List Piece) × (c ≡ a ++ mid) × (b ≡ mid ++ d)
+nested : (a b c d : List Piece) → ArePieces (a ++ b) [] → a ++ b ≡ c ++ d → length (pieces_text a) ≤ length (pieces_text c) → (mid : List Piece) × (c ≡ a ++ mid) × (b ≡ mid ++ d)
 nested [] b c d h e le = (c, refl, e)
 nested (p ∷ a) b [] d h e le = absurd (too_long p.bytes h.0 le)
   where
-    too_long : (bytes : List ℕ) → IsLexeme p.kind bytes → length (bytes ++ text_of a) ≤ 0 → ⊥
+    too_long : (bytes : List ℕ) → IsLexeme p.kind bytes → length (bytes ++ pieces_text a) ≤ 0 → ⊥
     too_long [] is le = not_empty p.kind is
     too_long (x ∷ bytes) is le = omega (arith, le)
 nested (p ∷ a) b (q ∷ c) d h e le =
     let same : p ≡ q = head_same p q (a ++ b) (c ++ d) e in
     let rest : a ++ b ≡ c ++ d = ap (drop 1) e in
     let len = ap (λ (x : Piece). length x.bytes) same in
-    let more = nested a b c d h.2 rest (omega (arith, le, len, length-append p.bytes (text_of a), length-append q.bytes (text_of c))) in
+    let more = nested a b c d h.2 rest (omega (arith, le, len, length-append p.bytes (pieces_text a), length-append q.bytes (pieces_text c))) in
     (more.0, ap (λ (x : List Piece). q ∷ x) more.1 ∙ ap (λ (x : Piece). x ∷ (a ++ more.0)) (sym same), more.2)
   where
     head_same : (x y : Piece) (xs ys : List Piece) → x ∷ xs ≡ y ∷ ys → x ≡ y
@@ -205,9 +205,9 @@ record AreCuts (text : List ℕ) (tokens : List Token) (i j from to : ℕ) : Typ
   front : List Piece
   mid : List Piece
   back : List Piece
-  whole : text ≡ text_of front ++ (text_of mid ++ text_of back)
-  at_from : from ≡ length (text_of front)
-  at_to : to ≡ from + length (text_of mid)
+  whole : text ≡ pieces_text front ++ (pieces_text mid ++ pieces_text back)
+  at_from : from ≡ length (pieces_text front)
+  at_to : to ≡ from + length (pieces_text mid)
   front_stays : (rest : List ℕ) → ArePieces front rest
   mid_stays : (rest : List ℕ) → ArePieces mid rest
   back_is : ArePieces back []
@@ -224,18 +224,18 @@ cuts text tokens i j from to lexed a b le =
     let y = cut_at ps j to is (subst (λ (ts : List Token). IsPlace ts j to) e b) in
     let n = nested x.front x.back y.front y.back (subst (λ (z : List Piece). ArePieces z []) x.parts is) (sym x.parts ∙ y.parts) (omega (arith, le, x.here, y.here)) in
     let mid = n.0 in
-    let y_stays = stays Blank y.front (text_of y.back ++ []) (pieces_part y.front y.back [] (subst (λ (z : List Piece). ArePieces z []) y.parts is)).0 y.free in
+    let y_stays = stays Blank y.front (pieces_text y.back ++ []) (pieces_part y.front y.back [] (subst (λ (z : List Piece). ArePieces z []) y.parts is)).0 y.free in
     let all = x.parts ∙ ap (λ (z : List Piece). x.front ++ z) n.2 in
-    let y_text = ap (λ (z : List Piece). length (text_of z)) n.1 ∙ ap (λ (t : List ℕ). length t) (text_append x.front mid) ∙ length-append (text_of x.front) (text_of mid) in
+    let y_text = ap (λ (z : List Piece). length (pieces_text z)) n.1 ∙ ap (λ (t : List ℕ). length t) (text_append x.front mid) ∙ length-append (pieces_text x.front) (pieces_text mid) in
     let y_count = ap (λ (z : List Piece). length (lexemes z)) n.1 ∙ ap (λ (t : List Lexeme). length t) (lexemes_append x.front mid) ∙ length-append (lexemes x.front) (lexemes mid) in
     record {
       front = x.front;
       mid = mid;
       back = y.back;
-      whole = lexed.1.1 ∙ append-nil (text_of ps) ∙ ap text_of all ∙ text_append x.front (mid ++ y.back) ∙ ap (λ (t : List ℕ). text_of x.front ++ t) (text_append mid y.back);
+      whole = lexed.1.1 ∙ append-nil (pieces_text ps) ∙ ap pieces_text all ∙ text_append x.front (mid ++ y.back) ∙ ap (λ (t : List ℕ). pieces_text x.front ++ t) (text_append mid y.back);
       at_from = omega (arith, x.here);
       at_to = omega (arith, x.here, y.here, y_text);
-      front_stays = stays Blank x.front (text_of x.back ++ []) (pieces_part x.front x.back [] (subst (λ (z : List Piece). ArePieces z []) x.parts is)).0 x.free;
+      front_stays = stays Blank x.front (pieces_text x.back ++ []) (pieces_part x.front x.back [] (subst (λ (z : List Piece). ArePieces z []) x.parts is)).0 x.free;
       mid_stays = λ rest. (pieces_part x.front mid rest (subst (λ (z : List Piece). ArePieces z rest) n.1 (y_stays rest))).1;
       back_is = (pieces_part y.front y.back [] (subst (λ (z : List Piece). ArePieces z []) y.parts is)).1;
       read = ap (map (lexeme_at text)) e ∙ tokens_read_pieces text ps lexed.1 ∙ ap lexemes all ∙ lexemes_append x.front (mid ++ y.back) ∙ ap (λ (t : List Lexeme). lexemes x.front ++ t) (lexemes_append mid y.back);
@@ -248,8 +248,8 @@ cuts text tokens i j from to lexed a b le =
 pub segments_join : SegmentsJoin
 segments_join a b ls ms x y = (
   x.0 ++ y.0,
-  λ rest. pieces_join x.0 y.0 rest (x.1 (text_of y.0 ++ rest)) (y.1 rest),
-  ap (λ (t : List ℕ). t ++ b) x.2 ∙ ap (λ (t : List ℕ). text_of x.0 ++ t) y.2 ∙ sym (text_append x.0 y.0),
+  λ rest. pieces_join x.0 y.0 rest (x.1 (pieces_text y.0 ++ rest)) (y.1 rest),
+  ap (λ (t : List ℕ). t ++ b) x.2 ∙ ap (λ (t : List ℕ). pieces_text x.0 ++ t) y.2 ∙ sym (text_append x.0 y.0),
   ap (λ (t : List Lexeme). t ++ ms) x.3 ∙ ap (λ (t : List Lexeme). lexemes x.0 ++ t) y.3 ∙ sym (lexemes_append x.0 y.0),
 )
 
@@ -267,18 +267,18 @@ last_third whole a b c m n e len many =
 pub between_places : BetweenPlaces
 between_places text tokens i j from to lexed a b le =
     let c = cuts text tokens i j from to lexed a b le in
-    let bytes : bytes_between text from to ≡ text_of c.mid = middle text (text_of c.front) (text_of c.mid) (text_of c.back) from (to - from) c.whole c.at_from (omega (arith, c.at_to)) in
+    let bytes : bytes_between text from to ≡ pieces_text c.mid = middle text (pieces_text c.front) (pieces_text c.mid) (pieces_text c.back) from (to - from) c.whole c.at_from (omega (arith, c.at_to)) in
     let ls : take (j - i) (drop i (map (lexeme_at text) tokens)) ≡ lexemes c.mid = middle (map (lexeme_at text) tokens) (lexemes c.front) (lexemes c.mid) (lexemes c.back) i (j - i) c.read c.front_count (omega (arith, c.mid_count)) in
     let many = ap (λ (z : List Lexeme). length z) c.read ∙ length-append (lexemes c.front) (lexemes c.mid ++ lexemes c.back) in
     let rest = length-append (lexemes c.mid) (lexemes c.back) in
     let mapped = length_map (lexeme_at text) tokens in
-    let start = boundary text (text_of c.front) (c.mid ++ c.back) (pieces_join c.mid c.back [] (c.mid_stays (text_of c.back ++ [])) c.back_is) (c.whole ∙ ap (λ (t : List ℕ). text_of c.front ++ t) (sym (text_append c.mid c.back))) in
-    let stop = boundary text (text_of c.front ++ text_of c.mid) c.back c.back_is (c.whole ∙ sym (append_assoc (text_of c.front) (text_of c.mid) (text_of c.back))) in (
+    let start = boundary text (pieces_text c.front) (c.mid ++ c.back) (pieces_join c.mid c.back [] (c.mid_stays (pieces_text c.back ++ [])) c.back_is) (c.whole ∙ ap (λ (t : List ℕ). pieces_text c.front ++ t) (sym (text_append c.mid c.back))) in
+    let stop = boundary text (pieces_text c.front ++ pieces_text c.mid) c.back c.back_is (c.whole ∙ sym (append_assoc (pieces_text c.front) (pieces_text c.mid) (pieces_text c.back))) in (
       (c.mid, c.mid_stays, bytes, ls),
       record {
         ordered = le;
         starts = subst (IsCharBoundary text) (sym c.at_from) start;
-        ends = subst (IsCharBoundary text) (omega (arith, c.at_from, c.at_to, length-append (text_of c.front) (text_of c.mid))) stop;
+        ends = subst (IsCharBoundary text) (omega (arith, c.at_from, c.at_to, length-append (pieces_text c.front) (pieces_text c.mid))) stop;
       },
       omega (arith, c.mid_count),
       omega (arith, c.mid_count, c.front_count, many, rest, mapped),
@@ -288,35 +288,35 @@ pub runs_are_replaced : RunsAreReplaced
 runs_are_replaced text tokens i j from to new ls lexed a b le seg =
     let c = cuts text tokens i j from to lexed a b le in
     let qs = c.front ++ (seg.0 ++ c.back) in
-    let later = pieces_join seg.0 c.back [] (seg.1 (text_of c.back ++ [])) c.back_is in
-    let are = pieces_join c.front (seg.0 ++ c.back) [] (c.front_stays (text_of (seg.0 ++ c.back) ++ [])) later in
-    let front = first_third text (text_of c.front) (text_of c.mid) (text_of c.back) from c.whole c.at_from in
-    let mid = middle text (text_of c.front) (text_of c.mid) (text_of c.back) from (to - from) c.whole c.at_from (omega (arith, c.at_to)) in
-    let back = last_third text (text_of c.front) (text_of c.mid) (text_of c.back) from to c.whole c.at_from c.at_to in
-    let result : text_of qs ≡ take from text ++ (new ++ drop to text) =
-    text_append c.front (seg.0 ++ c.back) ∙ ap (λ (t : List ℕ). text_of c.front ++ t) (text_append seg.0 c.back)
-    ∙ ap (λ (t : List ℕ). t ++ (text_of seg.0 ++ text_of c.back)) (sym front)
-    ∙ ap (λ (t : List ℕ). take from text ++ (t ++ text_of c.back)) (sym seg.2)
+    let later = pieces_join seg.0 c.back [] (seg.1 (pieces_text c.back ++ [])) c.back_is in
+    let are = pieces_join c.front (seg.0 ++ c.back) [] (c.front_stays (pieces_text (seg.0 ++ c.back) ++ [])) later in
+    let front = first_third text (pieces_text c.front) (pieces_text c.mid) (pieces_text c.back) from c.whole c.at_from in
+    let mid = middle text (pieces_text c.front) (pieces_text c.mid) (pieces_text c.back) from (to - from) c.whole c.at_from (omega (arith, c.at_to)) in
+    let back = last_third text (pieces_text c.front) (pieces_text c.mid) (pieces_text c.back) from to c.whole c.at_from c.at_to in
+    let result : pieces_text qs ≡ take from text ++ (new ++ drop to text) =
+    text_append c.front (seg.0 ++ c.back) ∙ ap (λ (t : List ℕ). pieces_text c.front ++ t) (text_append seg.0 c.back)
+    ∙ ap (λ (t : List ℕ). t ++ (pieces_text seg.0 ++ pieces_text c.back)) (sym front)
+    ∙ ap (λ (t : List ℕ). take from text ++ (t ++ pieces_text c.back)) (sym seg.2)
     ∙ ap (λ (t : List ℕ). take from text ++ (new ++ t)) (sym back) in
     let whole : text ≡ take from text ++ (bytes_between text from to ++ drop to text) =
-    c.whole ∙ ap (λ (t : List ℕ). t ++ (text_of c.mid ++ text_of c.back)) (sym front)
-    ∙ ap (λ (t : List ℕ). take from text ++ (t ++ text_of c.back)) (sym mid)
+    c.whole ∙ ap (λ (t : List ℕ). t ++ (pieces_text c.mid ++ pieces_text c.back)) (sym front)
+    ∙ ap (λ (t : List ℕ). take from text ++ (t ++ pieces_text c.back)) (sym mid)
     ∙ ap (λ (t : List ℕ). take from text ++ (bytes_between text from to ++ t)) (sym back) in
-    let is_pieces : IsPieces (text_of qs) qs = (are, sym (append-nil (text_of qs))) in
-    let start = boundary text (text_of c.front) (c.mid ++ c.back) (pieces_join c.mid c.back [] (c.mid_stays (text_of c.back ++ [])) c.back_is) (c.whole ∙ ap (λ (t : List ℕ). text_of c.front ++ t) (sym (text_append c.mid c.back))) in
-    let stop = boundary text (text_of c.front ++ text_of c.mid) c.back c.back_is (c.whole ∙ sym (append_assoc (text_of c.front) (text_of c.mid) (text_of c.back))) in
+    let is_pieces : IsPieces (pieces_text qs) qs = (are, sym (append-nil (pieces_text qs))) in
+    let start = boundary text (pieces_text c.front) (c.mid ++ c.back) (pieces_join c.mid c.back [] (c.mid_stays (pieces_text c.back ++ [])) c.back_is) (c.whole ∙ ap (λ (t : List ℕ). pieces_text c.front ++ t) (sym (text_append c.mid c.back))) in
+    let stop = boundary text (pieces_text c.front ++ pieces_text c.mid) c.back c.back_is (c.whole ∙ sym (append_assoc (pieces_text c.front) (pieces_text c.mid) (pieces_text c.back))) in
     let at_start = subst (IsCharBoundary text) (sym c.at_from) start in
-    let end : length (text_of c.front ++ text_of c.mid) ≡ to = omega (arith, c.at_from, c.at_to, length-append (text_of c.front) (text_of c.mid)) in
+    let end : length (pieces_text c.front ++ pieces_text c.mid) ≡ to = omega (arith, c.at_from, c.at_to, length-append (pieces_text c.front) (pieces_text c.mid)) in
     let at_stop = subst (IsCharBoundary text) end stop in
     let ls_front = first_third (map (lexeme_at text) tokens) (lexemes c.front) (lexemes c.mid) (lexemes c.back) i c.read c.front_count in
     let ls_back = last_third (map (lexeme_at text) tokens) (lexemes c.front) (lexemes c.mid) (lexemes c.back) i j c.read c.front_count c.mid_count in (
-      text_of qs,
+      pieces_text qs,
       tokens_from 0 qs,
       record {
         is = result;
         put = (take from text, drop to text, drop to text, (whole, omega (arith, ap (λ (t : List ℕ). length t) front, c.at_from)), result, refl);
         lexed = (qs, is_pieces, refl);
-        lexemes = tokens_read_pieces (text_of qs) qs is_pieces ∙ lexemes_append c.front (seg.0 ++ c.back) ∙ ap (λ (t : List Lexeme). lexemes c.front ++ t) (lexemes_append seg.0 c.back)
+        lexemes = tokens_read_pieces (pieces_text qs) qs is_pieces ∙ lexemes_append c.front (seg.0 ++ c.back) ∙ ap (λ (t : List Lexeme). lexemes c.front ++ t) (lexemes_append seg.0 c.back)
             ∙ ap (λ (t : List Lexeme). t ++ (lexemes seg.0 ++ lexemes c.back)) (sym ls_front)
             ∙ ap (λ (t : List Lexeme). take i (map (lexeme_at text) tokens) ++ (t ++ lexemes c.back)) (sym seg.3)
             ∙ ap (λ (t : List Lexeme). take i (map (lexeme_at text) tokens) ++ (ls ++ t)) (sym ls_back);

@@ -1,15 +1,15 @@
 -- Pieces one after the other: a front goes on by a piece, and there is one list of pieces (for the crates above).
 use Rattle.std.proofs.Common.{◌≡◌, ℕ, ◌+◌, ◌≤◌, List, [], ◌∷◌, ◌++◌, length, take, drop, zero-add, ◌⊎◌, inl, inr, Result, Ok, Err, refl, sym, ap, subst, ◌∙◌, arith, append_assoc, take_at, append-nil, length-append, drop_at, MatchResult, IsErrAnd}
 use Rattle.proto_faults.proofs.Common.{append_cancel_left, nil_from_length, same_from_push, Vec, text_limit}
-use Rattle.proto_text.specs.Common.{PieceKind, LexFault, BadChar, OpenComment, OpenString, BadEscape, BadNumber, Digit, TextFault, Token, Piece, IsLexeme, EndsBefore, text_of, ArePieces, IsFront, IsPieces, IsFault, IsRun, Found, piece_at, token_at, tokens_from, AreTokens, IsFaultAt, IsLexed, IsLexError, fault_of, BeginsWith, IsFirstPiece, IsQuoted, IsAllowed, Solid, Text}
+use Rattle.proto_text.specs.Common.{PieceKind, LexFault, BadChar, OpenComment, OpenString, BadEscape, BadNumber, Digit, TextFault, Token, Piece, IsLexeme, EndsBefore, pieces_text, ArePieces, IsFront, IsPieces, IsFault, IsRun, PieceFound, piece_at, token_at, tokens_from, AreTokens, IsFaultAt, IsLexed, IsLexError, text_fault_of, BeginsWith, IsFirstPiece, IsQuoted, IsAllowed, Solid, Text}
 use Rattle.proto_text.specs.declared.fault.TextFault.TheVariants.{TooLarge, NotUtf8, At, NoMemory}
 use Rattle.proto_text.proofs.Begins.{raw_is, piece_again, found_at, fault_again}
 use Rattle.proto_faults.specs.declared.or_no_memory.OrNoMemory.{OrNoMemory}
 use Rattle.proto_faults.specs.declared.or_no_memory.OrNoMemory.TheVariants as or
 
-text_push : (ps : List Piece) (p : Piece) (rest : List ℕ) → text_of (ps ++ p ∷ []) ++ rest ≡ text_of ps ++ (p.bytes ++ rest)
+text_push : (ps : List Piece) (p : Piece) (rest : List ℕ) → pieces_text (ps ++ p ∷ []) ++ rest ≡ pieces_text ps ++ (p.bytes ++ rest)
 text_push [] p rest = ap (λ (t : List ℕ). t ++ rest) (append-nil p.bytes)
-text_push (q ∷ ps) p rest = append_assoc q.bytes (text_of (ps ++ p ∷ [])) rest ∙ ap (λ (t : List ℕ). q.bytes ++ t) (text_push ps p rest) ∙ sym (append_assoc q.bytes (text_of ps) (p.bytes ++ rest))
+text_push (q ∷ ps) p rest = append_assoc q.bytes (pieces_text (ps ++ p ∷ [])) rest ∙ ap (λ (t : List ℕ). q.bytes ++ t) (text_push ps p rest) ∙ sym (append_assoc q.bytes (pieces_text ps) (p.bytes ++ rest))
 
 pieces_push : (ps : List Piece) (p : Piece) (rest : List ℕ) → ArePieces ps (p.bytes ++ rest) → IsLexeme p.kind p.bytes → EndsBefore p.kind rest → ArePieces (ps ++ p ∷ []) rest
 pieces_push [] p rest h is ends = (is, ends, tt)
@@ -19,16 +19,16 @@ pieces_push (q ∷ ps) p rest h is ends = (h.0, subst (EndsBefore q.kind) (sym (
 pub front_push : (text : List ℕ) (ps : List Piece) (p : Piece) (rest : List ℕ) → IsFront text ps (p.bytes ++ rest) → IsLexeme p.kind p.bytes → EndsBefore p.kind rest → IsFront text (ps ++ p ∷ []) rest
 front_push text ps p rest h is ends = (pieces_push ps p rest h.0 is ends, h.1 ∙ sym (text_push ps p rest))
 
-pub length_push : (ps : List Piece) (p : Piece) → length (text_of (ps ++ p ∷ [])) ≡ length (text_of ps) + length p.bytes
+pub length_push : (ps : List Piece) (p : Piece) → length (pieces_text (ps ++ p ∷ [])) ≡ length (pieces_text ps) + length p.bytes
 length_push [] p = omega (arith, ap length (append-nil p.bytes))
-length_push (q ∷ ps) p = omega (arith, length-append q.bytes (text_of (ps ++ p ∷ [])), length-append q.bytes (text_of ps), length_push ps p)
+length_push (q ∷ ps) p = omega (arith, length-append q.bytes (pieces_text (ps ++ p ∷ [])), length-append q.bytes (pieces_text ps), length_push ps p)
 
-pub tokens_push : (at : ℕ) (ps : List Piece) (p : Piece) → tokens_from at (ps ++ p ∷ []) ≡ tokens_from at ps ++ token_at p.kind (at + length (text_of ps)) (length p.bytes)
+pub tokens_push : (at : ℕ) (ps : List Piece) (p : Piece) → tokens_from at (ps ++ p ∷ []) ≡ tokens_from at ps ++ token_at p.kind (at + length (pieces_text ps)) (length p.bytes)
 tokens_push at [] p = append-nil (token_at p.kind at (length p.bytes)) ∙ ap (λ (n : ℕ). token_at p.kind n (length p.bytes)) (omega arith)
 tokens_push at (q ∷ ps) p =
-    let n : (at + length q.bytes) + length (text_of ps) ≡ at + length (q.bytes ++ text_of ps) = omega (arith, length-append q.bytes (text_of ps)) in
+    let n : (at + length q.bytes) + length (pieces_text ps) ≡ at + length (q.bytes ++ pieces_text ps) = omega (arith, length-append q.bytes (pieces_text ps)) in
     ap (λ (t : List Token). token_at q.kind at (length q.bytes) ++ t) (tokens_push (at + length q.bytes) ps p)
-    ∙ sym (append_assoc (token_at q.kind at (length q.bytes)) (tokens_from (at + length q.bytes) ps) (token_at p.kind ((at + length q.bytes) + length (text_of ps)) (length p.bytes)))
+    ∙ sym (append_assoc (token_at q.kind at (length q.bytes)) (tokens_from (at + length q.bytes) ps) (token_at p.kind ((at + length q.bytes) + length (pieces_text ps)) (length p.bytes)))
     ∙ ap (λ (n : ℕ). (token_at q.kind at (length q.bytes) ++ tokens_from (at + length q.bytes) ps) ++ token_at p.kind n (length p.bytes)) n
 
 -- ---- one list of pieces
@@ -37,7 +37,7 @@ tokens_push at (q ∷ ps) p =
 abbrev pub IsStuck : List ℕ → Type 0
 IsStuck rest = (kind : PieceKind) (piece more : List ℕ) → rest ≡ piece ++ more → IsLexeme kind piece → EndsBefore kind more → ⊥
 
-abbrev ok : PieceKind × ℕ → Found
+abbrev ok : PieceKind × ℕ → PieceFound
 ok x = Ok x
 
 ok_is : (x y : PieceKind × ℕ) → ok x ≡ ok y → x ≡ y
@@ -46,8 +46,8 @@ ok_is x y e = cc
 ok_not_err : (x : PieceKind × ℕ) (f : LexFault) → ok x ≡ Err f → ⊥
 ok_not_err x f e = cc
 
-first_is : (p : Piece) (ps : List Piece) (rest : List ℕ) → ArePieces (p ∷ ps) rest → piece_at (text_of (p ∷ ps) ++ rest) ≡ Ok (p.kind, length p.bytes)
-first_is p ps rest h = ap piece_at (append_assoc p.bytes (text_of ps) rest) ∙ piece_again p.kind p.bytes (text_of ps ++ rest) (raw_is p.kind p.bytes h.0) h.1
+first_is : (p : Piece) (ps : List Piece) (rest : List ℕ) → ArePieces (p ∷ ps) rest → piece_at (pieces_text (p ∷ ps) ++ rest) ≡ Ok (p.kind, length p.bytes)
+first_is p ps rest h = ap piece_at (append_assoc p.bytes (pieces_text ps) rest) ∙ piece_again p.kind p.bytes (pieces_text ps ++ rest) (raw_is p.kind p.bytes h.0) h.1
 
 abbrev make : PieceKind → List ℕ → Piece
 make kind bytes = record { kind = kind; bytes = bytes }
@@ -55,10 +55,10 @@ make kind bytes = record { kind = kind; bytes = bytes }
 piece_is : (p q : Piece) → p.kind ≡ q.kind → p.bytes ≡ q.bytes → p ≡ q
 piece_is p q k b = ap (λ (x : PieceKind). make x p.bytes) k ∙ ap (make q.kind) b
 
-not_stuck : (p : Piece) (ps : List Piece) (rest stuck : List ℕ) → ArePieces (p ∷ ps) rest → text_of (p ∷ ps) ++ rest ≡ stuck → IsStuck stuck → ⊥
-not_stuck p ps rest stuck h e s = s p.kind p.bytes (text_of ps ++ rest) (sym e ∙ append_assoc p.bytes (text_of ps) rest) h.0 h.1
+not_stuck : (p : Piece) (ps : List Piece) (rest stuck : List ℕ) → ArePieces (p ∷ ps) rest → pieces_text (p ∷ ps) ++ rest ≡ stuck → IsStuck stuck → ⊥
+not_stuck p ps rest stuck h e s = s p.kind p.bytes (pieces_text ps ++ rest) (sym e ∙ append_assoc p.bytes (pieces_text ps) rest) h.0 h.1
 
-pub same_front : (ps qs : List Piece) (r s : List ℕ) → ArePieces ps r → ArePieces qs s → text_of ps ++ r ≡ text_of qs ++ s → IsStuck r → IsStuck s → (ps ≡ qs) × (r ≡ s)
+pub same_front : (ps qs : List Piece) (r s : List ℕ) → ArePieces ps r → ArePieces qs s → pieces_text ps ++ r ≡ pieces_text qs ++ s → IsStuck r → IsStuck s → (ps ≡ qs) × (r ≡ s)
 same_front [] [] r s a b e x y = (refl, e)
 same_front [] (q ∷ qs) r s a b e x y = absurd (not_stuck q qs s r b (sym e) x)
 same_front (p ∷ ps) [] r s a b e x y = absurd (not_stuck p ps r s a e y)
@@ -66,9 +66,9 @@ same_front (p ∷ ps) (q ∷ qs) r s a b e x y =
     let one = ok_is (p.kind, length p.bytes) (q.kind, length q.bytes) (sym (first_is p ps r a) ∙ ap piece_at e ∙ first_is q qs s b) in
     let kind : p.kind ≡ q.kind = ap (λ (x : PieceKind × ℕ). x.0) one in
     let len : length p.bytes ≡ length q.bytes = ap (λ (x : PieceKind × ℕ). x.1) one in
-    let whole : p.bytes ++ (text_of ps ++ r) ≡ q.bytes ++ (text_of qs ++ s) = sym (append_assoc p.bytes (text_of ps) r) ∙ e ∙ append_assoc q.bytes (text_of qs) s in
-    let bytes : p.bytes ≡ q.bytes = sym (take_at p.bytes (text_of ps ++ r) (length q.bytes) len) ∙ ap (take (length q.bytes)) whole ∙ take_at q.bytes (text_of qs ++ s) (length q.bytes) refl in
-    let more : text_of ps ++ r ≡ text_of qs ++ s = append_cancel_left q.bytes (text_of ps ++ r) (text_of qs ++ s) (ap (λ (t : List ℕ). t ++ (text_of ps ++ r)) (sym bytes) ∙ whole) in
+    let whole : p.bytes ++ (pieces_text ps ++ r) ≡ q.bytes ++ (pieces_text qs ++ s) = sym (append_assoc p.bytes (pieces_text ps) r) ∙ e ∙ append_assoc q.bytes (pieces_text qs) s in
+    let bytes : p.bytes ≡ q.bytes = sym (take_at p.bytes (pieces_text ps ++ r) (length q.bytes) len) ∙ ap (take (length q.bytes)) whole ∙ take_at q.bytes (pieces_text qs ++ s) (length q.bytes) refl in
+    let more : pieces_text ps ++ r ≡ pieces_text qs ++ s = append_cancel_left q.bytes (pieces_text ps ++ r) (pieces_text qs ++ s) (ap (λ (t : List ℕ). t ++ (pieces_text ps ++ r)) (sym bytes) ∙ whole) in
     let others = same_front ps qs r s a.2 b.2 more x y in
     (let head = piece_is p q kind bytes in let tail = others.0 in cc, others.1)
 
@@ -111,7 +111,7 @@ fault_is_stuck fault rest f kind piece more e is ends = by fault f (fault_again 
         refused kind piece f.0 f.2 f.3 (ap (λ (x : PieceKind × ℕ). x.0) same) (same_front_of piece more f.0 f.1 (sym e ∙ f.4) (ap (λ (x : PieceKind × ℕ). x.1) same)) f.5 f.6 is
 
 -- the fault that a scan shows
-abbrev shown : Found → LexFault
+abbrev shown : PieceFound → LexFault
 shown (Ok x) = BadEscape
 shown (Err f) = f
 
@@ -122,7 +122,7 @@ shows OpenString text = refl
 shows BadEscape text = refl
 shows BadNumber text = refl
 
-same_fault : (f g : LexFault) {r s : Found} (a : (text : List ℕ) × (r ≡ found_at f text)) (b : (text : List ℕ) × (s ≡ found_at g text)) → r ≡ s → f ≡ g
+same_fault : (f g : LexFault) {r s : PieceFound} (a : (text : List ℕ) × (r ≡ found_at f text)) (b : (text : List ℕ) × (s ≡ found_at g text)) → r ≡ s → f ≡ g
 same_fault f g a b e = sym (shows f a.0) ∙ ap shown (sym a.1 ∙ e ∙ b.1) ∙ shows g b.0
 
 -- a fault has a byte to stand at
@@ -146,7 +146,7 @@ not_at_end BadNumber f = no_run f.0 f.1 f.2 f.3
 pub record IsLexedUpTo (text rest : List ℕ) (at : ℕ) (tokens : List Token) : Type 0 where
   pub pieces : List Piece
   pub front : IsFront text pieces rest
-  pub place : at ≡ length (text_of pieces)
+  pub place : at ≡ length (pieces_text pieces)
   pub found : tokens ≡ tokens_from 0 pieces
   pub room : at + length rest ≤ text_limit
 
@@ -165,12 +165,12 @@ lexed_more text rest at tokens kind n so_far b =
       front = rw rest-is front;
       place = omega (arith, length_push so_far.pieces p, so_far.place, b.len);
       found = ap (λ (t : List Token). t ++ token_at kind at n) so_far.found ∙ ap (λ (k : ℕ). tokens_from 0 so_far.pieces ++ token_at kind k n) so_far.place
-          ∙ ap (λ (k : ℕ). tokens_from 0 so_far.pieces ++ token_at kind (length (text_of so_far.pieces)) k) b.len ∙ sym (moved so_far.pieces p);
+          ∙ ap (λ (k : ℕ). tokens_from 0 so_far.pieces ++ token_at kind (length (pieces_text so_far.pieces)) k) b.len ∙ sym (moved so_far.pieces p);
       room = omega (arith, so_far.room, ap length b.parts, length-append b.piece b.rest, b.len, ap length rest-is);
     }
   where
-    moved : (ps : List Piece) (p : Piece) → tokens_from 0 (ps ++ p ∷ []) ≡ tokens_from 0 ps ++ token_at p.kind (length (text_of ps)) (length p.bytes)
-    moved ps p = tokens_push 0 ps p ∙ ap (λ (n : ℕ). tokens_from 0 ps ++ token_at p.kind n (length p.bytes)) (zero-add (length (text_of ps)))
+    moved : (ps : List Piece) (p : Piece) → tokens_from 0 (ps ++ p ∷ []) ≡ tokens_from 0 ps ++ token_at p.kind (length (pieces_text ps)) (length p.bytes)
+    moved ps p = tokens_push 0 ps p ∙ ap (λ (n : ℕ). tokens_from 0 ps ++ token_at p.kind n (length p.bytes)) (zero-add (length (pieces_text ps)))
 
 pub lexed_all : (text rest : List ℕ) (at : ℕ) (tokens : List Token) → IsLexedUpTo text rest at tokens → length rest ≡ 0 → AreTokens text tokens
 lexed_all text rest at tokens so_far none = (so_far.pieces, subst (λ (r : List ℕ). IsFront text so_far.pieces r) (nil_from_length rest none) so_far.front, so_far.found)
@@ -179,7 +179,7 @@ pub lexed_fault : (text rest : List ℕ) (at : ℕ) (tokens : List Token) (fault
 lexed_fault text rest at tokens fault so_far e = (so_far.pieces, rest, so_far.front, so_far.place, e)
 
 -- why the loop stops
-pub lexed_stop : (text rest : List ℕ) (at : ℕ) (tokens : List Token) (stop : OrNoMemory LexFault) → IsLexedUpTo text rest at tokens → IsFirstPiece rest (Err stop) → IsLexError text (fault_of at stop)
+pub lexed_stop : (text rest : List ℕ) (at : ℕ) (tokens : List Token) (stop : OrNoMemory LexFault) → IsLexedUpTo text rest at tokens → IsFirstPiece rest (Err stop) → IsLexError text (text_fault_of at stop)
 lexed_stop text rest at tokens (or.Fault fault) so_far f = lexed_fault text rest at tokens fault so_far f
 lexed_stop text rest at tokens or.NoMemory so_far f = tt
 
@@ -197,7 +197,7 @@ no_fault text ps offset fault is at =
 pub only_fault : (text : List ℕ) (o q : ℕ) (f g : LexFault) → IsFaultAt text o f → IsFaultAt text q g → (o ≡ q) × (f ≡ g)
 only_fault text o q f g a b =
     let same = same_front a.0 b.0 a.1 b.1 a.2.0 b.2.0 (sym a.2.1 ∙ b.2.1) (fault_is_stuck f a.1 a.4) (fault_is_stuck g b.1 b.4) in
-    (a.3 ∙ ap (λ (ps : List Piece). length (text_of ps)) same.0 ∙ sym b.3, same_fault f g (fault_again f a.1 a.4) (fault_again g b.1 b.4) (ap piece_at same.1))
+    (a.3 ∙ ap (λ (ps : List Piece). length (pieces_text ps)) same.0 ∙ sym b.3, same_fault f g (fault_again f a.1 a.4) (fault_again g b.1 b.4) (ap piece_at same.1))
 
 pub is_only : (text : List ℕ) (result : Result (Vec Token) TextFault) (ps : List Piece) → IsLexed text result → IsPieces text ps → MatchResult result (λ tokens. tokens.items ≡ tokens_from 0 ps) (λ e. e ≡ NoMemory)
 is_only text (Ok tokens) ps h is = only_tokens text tokens.items ps h is

@@ -1,7 +1,7 @@
 -- Tokens begin and end between characters (for the crates above).
 use Rattle.std.proofs.Common.{◌≡◌, ℕ, ◌+◌, ◌<◌, ◌≤◌, false, ◌||◌, eqb, List, [], ◌∷◌, ◌++◌, length, get_or, All, refl, sym, ap, subst, ◌∙◌, arith, inl, inr, append_assoc, Result, Ok, Err, IfOk, IsCharBoundary, append-nil, length-append}
 use Rattle.proto_faults.proofs.Common.{Vec, AllByRecursion, cases_lt, nat_tests, get_or_at, All-from_recursion, IsCharBoundary-end, IsCharBoundary-before_ascii}
-use Rattle.proto_text.specs.Common.{TextFault, Class, Space, Letter, Digit, Quote, Mark, Other, Word, Number, Text, Punctuation, PieceKind, Blank, LineComment, BlockComment, Solid, Token, class_of, is_space, is_letter, is_digit, is_mark, Piece, IsLexeme, text_of, ArePieces, token_at, tokens_from, AreTokens, IsLexed, IsSpan}
+use Rattle.proto_text.specs.Common.{TextFault, Class, Space, Letter, Digit, Quote, Mark, Other, Word, Number, Text, Punctuation, PieceKind, Blank, LineComment, BlockComment, Solid, Token, class_of, is_space, is_letter, is_digit, is_mark, Piece, IsLexeme, pieces_text, ArePieces, token_at, tokens_from, AreTokens, IsLexed, IsSpan}
 use Rattle.proto_text.proofs.WordChange.{not_empty}
 
 no_space : (b : ℕ) → 128 ≤ b → is_space b ≡ false
@@ -71,9 +71,9 @@ boundary_at text front (b ∷ more) rest kind is e =
     let len : length text ≡ length front + length (b ∷ (more ++ rest)) = ap length e ∙ length-append front (b ∷ (more ++ rest)) in
     IsCharBoundary-before_ascii text (length front) (omega arith) (omega arith)
 
-pub boundary : (text front : List ℕ) (ps : List Piece) → ArePieces ps [] → text ≡ front ++ text_of ps → IsCharBoundary text (length front)
+pub boundary : (text front : List ℕ) (ps : List Piece) → ArePieces ps [] → text ≡ front ++ pieces_text ps → IsCharBoundary text (length front)
 boundary text front [] h e = subst (IsCharBoundary text) (ap length (e ∙ append-nil front)) (IsCharBoundary-end text)
-boundary text front (p ∷ ps) h e = boundary_at text front p.bytes (text_of ps) p.kind h.0 e
+boundary text front (p ∷ ps) h e = boundary_at text front p.bytes (pieces_text ps) p.kind h.0 e
 
 token_span : (text : List ℕ) (kind : PieceKind) (at n : ℕ) (more : List Token) → IsCharBoundary text at → IsCharBoundary text (at + n) → AllByRecursion (λ t. IsSpan text t.span) more → AllByRecursion (λ t. IsSpan text t.span) (token_at kind at n ++ more)
 token_span text Blank at n more a b h = h
@@ -81,17 +81,17 @@ token_span text LineComment at n more a b h = h
 token_span text BlockComment at n more a b h = h
 token_span text (Solid kind) at n more a b h = (record { ordered = omega arith; starts = a; ends = b }, h)
 
-spans : (text front : List ℕ) (ps : List Piece) → ArePieces ps [] → text ≡ front ++ text_of ps → AllByRecursion (λ t. IsSpan text t.span) (tokens_from (length front) ps)
+spans : (text front : List ℕ) (ps : List Piece) → ArePieces ps [] → text ≡ front ++ pieces_text ps → AllByRecursion (λ t. IsSpan text t.span) (tokens_from (length front) ps)
 spans text front [] h e = tt
 spans text front (p ∷ ps) h e =
-    let next : text ≡ (front ++ p.bytes) ++ text_of ps = e ∙ sym (append_assoc front p.bytes (text_of ps)) in
+    let next : text ≡ (front ++ p.bytes) ++ pieces_text ps = e ∙ sym (append_assoc front p.bytes (pieces_text ps)) in
     let len = length-append front p.bytes in
     let others = subst (λ (n : ℕ). AllByRecursion (λ t. IsSpan text t.span) (tokens_from n ps)) len (spans text (front ++ p.bytes) ps h.2 next) in
     token_span text p.kind (length front) (length p.bytes) (tokens_from (length front + length p.bytes) ps) (boundary text front (p ∷ ps) h e) (subst (IsCharBoundary text) len (boundary text (front ++ p.bytes) ps h.2 next)) others
 
 pub token_spans : (text : List ℕ) (tokens : List Token) → AreTokens text tokens → All (λ t. IsSpan text t.span) tokens
 token_spans text tokens are =
-    let whole : text ≡ [] ++ text_of are.0 = are.1.1 ∙ append-nil (text_of are.0) in
+    let whole : text ≡ [] ++ pieces_text are.0 = are.1.1 ∙ append-nil (pieces_text are.0) in
     All-from_recursion (λ t. IsSpan text t.span) tokens (subst (AllByRecursion (λ t. IsSpan text t.span)) (sym are.2) (spans text [] are.0 are.1.0 whole))
 
 pub result_spans : (text : List ℕ) (result : Result (Vec Token) TextFault) → IsLexed text result → IfOk result (λ tokens. All (λ t. IsSpan text t.span) tokens.items)

@@ -1,7 +1,7 @@
 -- Words in the place of words (for the crates above).
 use Rattle.std.proofs.Common.{◌≡◌, ℕ, zero, suc, ◌+◌, ◌<◌, true, arith, List, [], ◌∷◌, ◌++◌, ◌⊎◌, inl, inr, length, map, Option, Some, None, refl, sym, ap, subst, ◌∙◌, append-nil, take_at, drop_at, IsUtf8, slice_index}
 use Rattle.std.proofs.lemmas.Str.{IsUtf8-append, IsUtf8-nil, IsUtf8-take, IsUtf8-drop, IsUtf8-from_ascii}
-use Rattle.proto_text.specs.Common.{Class, Space, Digit, Quote, Mark, Slash, Other, class_of, extends_word, is_identifier, Each, Letter, PieceKind, Blank, LineComment, BlockComment, Solid, TokenKind, Word, Token, Edit, Puts, Piece, IsRun, IsLexeme, ArePieces, IsPieces, text_of, text_at, Lexeme, lexeme_at, lexeme_if, lexemes, token_at, tokens_from, IsWord, SameButWords, after, edits_from, or_word, changed, edit_if, token_edits, AreWords, IsReworded, WordsArePut}
+use Rattle.proto_text.specs.Common.{Class, Space, Digit, Quote, Mark, Slash, Other, class_of, extends_word, is_identifier, EachByte, Letter, PieceKind, Blank, LineComment, BlockComment, Solid, TokenKind, Word, Token, Edit, Puts, Piece, IsRun, IsLexeme, ArePieces, IsPieces, pieces_text, text_at, Lexeme, lexeme_at, lexeme_if, lexemes, token_at, tokens_from, IsWord, SameButWords, piece_after, edits_from, or_word, changed, edit_if, token_edits, AreWords, IsReworded, WordsArePut}
 use Rattle.proto_text.proofs.Spans.{boundary, classed_is_low}
 use Rattle.proto_text.proofs.WordChange.{words_may_change}
 use Rattle.proto_text.proofs.PieceEdits.{edits_change_pieces}
@@ -28,7 +28,7 @@ changes c n [] = []
 changes c n (p ∷ ps) = (p, change_of p.kind (c n)) ∷ changes c (next_of p.kind n) ps
 
 abbrev pub pieces_after : Change → ℕ → List Piece → List Piece
-pieces_after c n ps = map after (changes c n ps)
+pieces_after c n ps = map piece_after (changes c n ps)
 
 firsts : (c : Change) (n : ℕ) (ps : List Piece) → map (λ (x : Piece × Option (List ℕ)). x.0) (changes c n ps) ≡ ps
 firsts c n [] = refl
@@ -41,13 +41,13 @@ abbrev lexeme : TokenKind → List ℕ → Lexeme
 lexeme kind text = record { kind = kind; text = text }
 
 lexemes_step : (c : Change) (n : ℕ) (kind : PieceKind) (bytes : List ℕ) (ls : List Lexeme) (qs : List Piece) → lexemes qs ≡ changed c (next_of kind n) ls
-    → lexemes (after (piece kind bytes, change_of kind (c n)) ∷ qs) ≡ changed c n (lexeme_if kind bytes ++ ls)
+    → lexemes (piece_after (piece kind bytes, change_of kind (c n)) ∷ qs) ≡ changed c n (lexeme_if kind bytes ++ ls)
 lexemes_step c n Blank bytes ls qs h = h
 lexemes_step c n LineComment bytes ls qs h = h
 lexemes_step c n BlockComment bytes ls qs h = h
 lexemes_step c n (Solid k) bytes ls qs h = by (c n)
   where
-    by : (o : Option (List ℕ)) → lexemes (after (piece (Solid k) bytes, o) ∷ qs) ≡ lexeme k (or_word o bytes) ∷ changed c (suc n) ls
+    by : (o : Option (List ℕ)) → lexemes (piece_after (piece (Solid k) bytes, o) ∷ qs) ≡ lexeme k (or_word o bytes) ∷ changed c (suc n) ls
     by None = ap (λ l. lexeme k bytes ∷ l) h
     by (Some w) = ap (λ l. lexeme k w ∷ l) h
 
@@ -56,13 +56,13 @@ lexemes_after c n [] = refl
 lexemes_after c n (p ∷ ps) = lexemes_step c n p.kind p.bytes (lexemes ps) (pieces_after c (next_of p.kind n) ps) (lexemes_after c (next_of p.kind n) ps)
 
 words_step : (c : Change) (n : ℕ) (kind : PieceKind) (bytes : List ℕ) (ls : List Lexeme) → IsLexeme kind bytes → AreWords c n (lexeme_if kind bytes ++ ls)
-    → ((piece kind bytes ≡ after (piece kind bytes, change_of kind (c n))) ⊎ (IsWord (piece kind bytes) × IsWord (after (piece kind bytes, change_of kind (c n))))) × AreWords c (next_of kind n) ls
+    → ((piece kind bytes ≡ piece_after (piece kind bytes, change_of kind (c n))) ⊎ (IsWord (piece kind bytes) × IsWord (piece_after (piece kind bytes, change_of kind (c n))))) × AreWords c (next_of kind n) ls
 words_step c n Blank bytes ls is w = (inl refl, w)
 words_step c n LineComment bytes ls is w = (inl refl, w)
 words_step c n BlockComment bytes ls is w = (inl refl, w)
 words_step c n (Solid k) bytes ls is w = (by (c n) refl, w.1)
   where
-    by : (o : Option (List ℕ)) → c n ≡ o → (piece (Solid k) bytes ≡ after (piece (Solid k) bytes, o)) ⊎ (IsWord (piece (Solid k) bytes) × IsWord (after (piece (Solid k) bytes, o)))
+    by : (o : Option (List ℕ)) → c n ≡ o → (piece (Solid k) bytes ≡ piece_after (piece (Solid k) bytes, o)) ⊎ (IsWord (piece (Solid k) bytes) × IsWord (piece_after (piece (Solid k) bytes, o)))
     by None e = inl refl
     by (Some v) e =
         let it = w.0 v e in
@@ -113,12 +113,12 @@ abbrev AllUtf8 : List Piece → Type 0
 AllUtf8 [] = Unit {0}
 AllUtf8 (p ∷ ps) = IsUtf8 p.bytes × AllUtf8 ps
 
-utf8_pieces : (ps : List Piece) → ArePieces ps [] → IsUtf8 (text_of ps) → AllUtf8 ps
+utf8_pieces : (ps : List Piece) → ArePieces ps [] → IsUtf8 (pieces_text ps) → AllUtf8 ps
 utf8_pieces [] is u = tt
 utf8_pieces (p ∷ ps) is u =
-    let seam = boundary (p.bytes ++ text_of ps) p.bytes ps is.2 refl in (
-      subst IsUtf8 (take_at p.bytes (text_of ps) (length p.bytes) refl) (IsUtf8-take (p.bytes ++ text_of ps) (length p.bytes) u seam),
-      utf8_pieces ps is.2 (subst IsUtf8 (drop_at p.bytes (text_of ps) (length p.bytes) refl) (IsUtf8-drop (p.bytes ++ text_of ps) (length p.bytes) u seam)),
+    let seam = boundary (p.bytes ++ pieces_text ps) p.bytes ps is.2 refl in (
+      subst IsUtf8 (take_at p.bytes (pieces_text ps) (length p.bytes) refl) (IsUtf8-take (p.bytes ++ pieces_text ps) (length p.bytes) u seam),
+      utf8_pieces ps is.2 (subst IsUtf8 (drop_at p.bytes (pieces_text ps) (length p.bytes) refl) (IsUtf8-drop (p.bytes ++ pieces_text ps) (length p.bytes) u seam)),
     )
 
 extends_low : (b : ℕ) (k : Class) → class_of b ≡ k → extends_word k ≡ true → b < 128
@@ -134,7 +134,7 @@ past : (i : ℕ) → slice_index [] i < 128
 past zero = omega arith
 past (suc i) = omega arith
 
-each_ascii : (bytes : List ℕ) → Each is_identifier bytes → IsUtf8 bytes
+each_ascii : (bytes : List ℕ) → EachByte is_identifier bytes → IsUtf8 bytes
 each_ascii [] h = IsUtf8-nil
 each_ascii (b ∷ bytes) h = IsUtf8-append (b ∷ []) bytes (one_ascii b (extends_low b (class_of b) refl h.0)) (each_ascii bytes h.1)
   where
@@ -150,17 +150,17 @@ run_utf8 [] h = absurd h
 run_utf8 (b ∷ bytes) h = each_ascii (b ∷ bytes) (ap extends_word h.0, h.1)
 
 utf8_step : (c : Change) (n : ℕ) (kind : PieceKind) (bytes : List ℕ) (ls : List Lexeme) → IsUtf8 bytes → AreWords c n (lexeme_if kind bytes ++ ls)
-    → IsUtf8 (after (piece kind bytes, change_of kind (c n))).bytes × AreWords c (next_of kind n) ls
+    → IsUtf8 (piece_after (piece kind bytes, change_of kind (c n))).bytes × AreWords c (next_of kind n) ls
 utf8_step c n Blank bytes ls u w = (u, w)
 utf8_step c n LineComment bytes ls u w = (u, w)
 utf8_step c n BlockComment bytes ls u w = (u, w)
 utf8_step c n (Solid k) bytes ls u w = (by (c n) refl, w.1)
   where
-    by : (o : Option (List ℕ)) → c n ≡ o → IsUtf8 (after (piece (Solid k) bytes, o)).bytes
+    by : (o : Option (List ℕ)) → c n ≡ o → IsUtf8 (piece_after (piece (Solid k) bytes, o)).bytes
     by None e = u
     by (Some v) e = run_utf8 v (w.0 v e).1
 
-utf8_after : (c : Change) (n : ℕ) (ps : List Piece) → AllUtf8 ps → AreWords c n (lexemes ps) → IsUtf8 (text_of (pieces_after c n ps))
+utf8_after : (c : Change) (n : ℕ) (ps : List Piece) → AllUtf8 ps → AreWords c n (lexemes ps) → IsUtf8 (pieces_text (pieces_after c n ps))
 utf8_after c n [] u w = IsUtf8-nil
 utf8_after c n (p ∷ ps) u w =
     let step = utf8_step c n p.kind p.bytes (lexemes ps) u.0 w in
@@ -168,20 +168,20 @@ utf8_after c n (p ∷ ps) u w =
 
 -- the edit, over pieces of the text
 pub reworded : (text : List ℕ) (c : Change) (ps : List Piece) → IsPieces text ps → AreWords c 0 (lexemes ps)
-    → IsReworded text (tokens_from 0 ps) c (text_of (pieces_after c 0 ps)) (tokens_from 0 (pieces_after c 0 ps))
+    → IsReworded text (tokens_from 0 ps) c (pieces_text (pieces_after c 0 ps)) (tokens_from 0 (pieces_after c 0 ps))
 reworded text c ps is w =
     let qs = pieces_after c 0 ps in
     let same = same_but_words c 0 ps is.0 w in
     let new_pieces = words_may_change text ps qs is same in
-    let whole : text_of (map (λ (x : Piece × Option (List ℕ)). x.0) (changes c 0 ps)) ≡ text = ap text_of (firsts c 0 ps) ∙ sym (is.1 ∙ append-nil (text_of ps)) in
+    let whole : pieces_text (map (λ (x : Piece × Option (List ℕ)). x.0) (changes c 0 ps)) ≡ text = ap pieces_text (firsts c 0 ps) ∙ sym (is.1 ∙ append-nil (pieces_text ps)) in
     let read = tokens_read_pieces text ps is in
     let put_0 = edits_change_pieces (changes c 0 ps) in
-    let put_1 = subst (λ (t : List ℕ). Puts 0 t (edits_from 0 (changes c 0 ps)) (text_of qs)) whole put_0 in
+    let put_1 = subst (λ (t : List ℕ). Puts 0 t (edits_from 0 (changes c 0 ps)) (pieces_text qs)) whole put_0 in
     record {
-      put = subst (λ (es : List Edit). Puts 0 text es (text_of qs)) (edits_are text c 0 0 ps read) put_1;
+      put = subst (λ (es : List Edit). Puts 0 text es (pieces_text qs)) (edits_are text c 0 0 ps read) put_1;
       lexed = (qs, new_pieces, refl);
-      utf8 = λ u. utf8_after c 0 ps (utf8_pieces ps is.0 (subst IsUtf8 (is.1 ∙ append-nil (text_of ps)) u)) w;
-      words = tokens_read_pieces (text_of qs) qs new_pieces ∙ lexemes_after c 0 ps ∙ ap (changed c 0) (sym read);
+      utf8 = λ u. utf8_after c 0 ps (utf8_pieces ps is.0 (subst IsUtf8 (is.1 ∙ append-nil (pieces_text ps)) u)) w;
+      words = tokens_read_pieces (pieces_text qs) qs new_pieces ∙ lexemes_after c 0 ps ∙ ap (changed c 0) (sym read);
     }
 
 pub words_are_put : WordsArePut
@@ -191,4 +191,4 @@ words_are_put text tokens c lexed w =
     let w_0 = subst (λ (ts : List Token). AreWords c 0 (map (lexeme_at text) ts)) e w in
     let w_1 = subst (AreWords c 0) (tokens_read_pieces text ps lexed.1) w_0 in
     let qs = pieces_after c 0 ps in
-    (text_of qs, tokens_from 0 qs, subst (λ (ts : List Token). IsReworded text ts c (text_of qs) (tokens_from 0 qs)) (sym e) (reworded text c ps lexed.1 w_1))
+    (pieces_text qs, tokens_from 0 qs, subst (λ (ts : List Token). IsReworded text ts c (pieces_text qs) (tokens_from 0 qs)) (sym e) (reworded text c ps lexed.1 w_1))

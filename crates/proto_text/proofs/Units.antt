@@ -3,18 +3,18 @@ use Rattle.std.proofs.Common.{◌≡◌, ℕ, ◌+◌, suc, zero, min, ◌<◌, 
 use Rattle.proto_faults.proofs.Common.{list_any, prefix_len, cases_lt, nil_from_length, append_cancel_left, prefix_len-le-length}
 use Rattle.proto_text.specs.declared.escape.Escape.{Escape}
 use Rattle.proto_text.specs.declared.escape.Escape.TheVariants.{Octal, Hexadecimal, Single, Unknown}
-use Rattle.proto_text.specs.Common.{Each, is_backslash, is_octal, is_hex, escape_of, number_in, IsPlain, IsSingle, IsDigits, IsUnit, Means, IsAllowed, octal_at, hex_at, escape_after, escape_at, unit_at}
+use Rattle.proto_text.specs.Common.{EachByte, is_backslash, is_octal, is_hex, escape_of, number_in, IsPlainByte, IsSingle, IsDigits, IsUnit, Means, IsAllowed, octal_at, hex_at, escape_after, escape_at, unit_at}
 use Rattle.proto_text.proofs.Runs.{run_len, run_passes, run_stops}
 
 -- ---- digits, as many as there are
 
-each_front : (p : ℕ → Bool) (n m : ℕ) (bytes : List ℕ) → n ≤ m → Each p (take m bytes) → Each p (take n bytes)
+each_front : (p : ℕ → Bool) (n m : ℕ) (bytes : List ℕ) → n ≤ m → EachByte p (take m bytes) → EachByte p (take n bytes)
 each_front p zero m bytes le h = tt
 each_front p (suc n) zero bytes le h = absurd (omega arith)
 each_front p (suc n) (suc m) [] le h = tt
 each_front p (suc n) (suc m) (b ∷ bytes) le h = (h.0, each_front p n m bytes (omega arith) h.1)
 
-run_least : (p : ℕ → Bool) (xs rest : List ℕ) → Each p xs → length xs ≤ prefix_len p (xs ++ rest)
+run_least : (p : ℕ → Bool) (xs rest : List ℕ) → EachByte p xs → length xs ≤ prefix_len p (xs ++ rest)
 run_least p [] rest each = omega arith
 run_least p (x ∷ xs) rest each = rw each.0 (let h = run_least p xs rest each.1 in omega arith)
 
@@ -127,7 +127,7 @@ unit_sound (b ∷ bytes) value n e = unit_sound_by (eqb b 92) b bytes value n re
 
 -- ---- what stands there is found
 
-plain_again : (piece rest : List ℕ) (value : ℕ) → IsPlain piece value → unit_at (piece ++ rest) ≡ Some (value, length piece)
+plain_again : (piece rest : List ℕ) (value : ℕ) → IsPlainByte piece value → unit_at (piece ++ rest) ≡ Some (value, length piece)
 unfolding unit_at
 plain_again piece rest value is = rw (is.0, is.1) refl
 

@@ -2,7 +2,7 @@
 use Rattle.std.proofs.Common.{◌≡◌, ℕ, zero, suc, ◌-◌, ◌<◌, ◌≤◌, Bool, true, eqb, eq-eqb, List, [], ◌∷◌, ◌++◌, length, take, drop, Option, Some, None, refl, sym, ap, subst, ◌∙◌, arith, IsTrue, ◌↔◌, option_map, IsUtf8, take_at, drop_at, length-append, eqb-true}
 use Rattle.proto_faults.proofs.Common.{same_from_push, nil_from_length, same_from_decides, bytes_eq-Decides}
 use Rattle.proto_text.specs.Strings.{IsString, IsUnit, Means, unit_at}
-use Rattle.proto_text.specs.Values.{StandsFor, OneValue, StringsHaveValues, unit_then, meaning_from, value_of, ValueIsValueOf, is_value, says}
+use Rattle.proto_text.specs.Values.{StandsFor, OneValue, StringsHaveValues, unit_then, meaning_behind, value_of, ValueIsValueOf, is_value, says}
 use Rattle.proto_text.proofs.Units.{unit_sound, unit_again, unit_some, some_is, only_meaning}
 
 abbrev some_of : ℕ × ℕ → Option (ℕ × ℕ)
@@ -27,23 +27,23 @@ strings_have_values text is = (is.3.0, (is.0, is.0, is.1, is.2.1, is.3.1), is.3.
 
 -- ---- from left to right
 
-skipped : (n : ℕ) (front rest : List ℕ) → n ≡ length front → meaning_from n (front ++ rest) ≡ meaning_from 0 rest
+skipped : (n : ℕ) (front rest : List ℕ) → n ≡ length front → meaning_behind n (front ++ rest) ≡ meaning_behind 0 rest
 skipped zero [] rest e = refl
 skipped zero (b ∷ front) rest e = absurd (omega (arith, e))
 skipped (suc n) [] rest e = absurd (omega (arith, e))
 skipped (suc n) (b ∷ front) rest e = skipped n front rest (omega (arith, e))
 
 -- one unit, and what stands behind it
-unit_step : (piece rest : List ℕ) (value : ℕ) → IsUnit piece value rest → meaning_from 0 (piece ++ rest) ≡ option_map (λ values. value ∷ values) (meaning_from 0 rest)
+unit_step : (piece rest : List ℕ) (value : ℕ) → IsUnit piece value rest → meaning_behind 0 (piece ++ rest) ≡ option_map (λ values. value ∷ values) (meaning_behind 0 rest)
 unit_step [] rest value is = absurd (omega (arith, unit_some [] rest value is))
 unit_step (b ∷ piece) rest value is =
-    ap (λ (o : Option (ℕ × ℕ)). unit_then o (λ n. meaning_from n (piece ++ rest))) (unit_again (b ∷ piece) rest value is)
+    ap (λ (o : Option (ℕ × ℕ)). unit_then o (λ n. meaning_behind n (piece ++ rest))) (unit_again (b ∷ piece) rest value is)
     ∙ ap (option_map (λ values. value ∷ values)) (skipped (length (b ∷ piece) - 1) piece rest (omega arith))
 
-pub meaning_again : (text values : List ℕ) → Means text values → meaning_from 0 text ≡ Some values
-meaning_again text [] m = ap (meaning_from 0) m
+pub meaning_again : (text values : List ℕ) → Means text values → meaning_behind 0 text ≡ Some values
+meaning_again text [] m = ap (meaning_behind 0) m
 meaning_again text (v ∷ values) m =
-    ap (meaning_from 0) m.2 ∙ unit_step m.0 m.1 v m.3 ∙ ap (option_map (λ vs. v ∷ vs)) (meaning_again m.1 values m.4)
+    ap (meaning_behind 0) m.2 ∙ unit_step m.0 m.1 v m.3 ∙ ap (option_map (λ vs. v ∷ vs)) (meaning_again m.1 values m.4)
 
 some_cons : (v : ℕ) (o : Option (List ℕ)) (values : List ℕ) → option_map (λ vs. v ∷ vs) o ≡ Some values → (more : List ℕ) × (o ≡ Some more) × (values ≡ v ∷ more)
 some_cons v None values e = absurd cc
@@ -52,21 +52,21 @@ some_cons v (Some more) values e = (more, refl, let all : v ∷ more ≡ values 
 none_is_not : (f : ℕ → Option (List ℕ)) (values : List ℕ) → unit_then None f ≡ Some values → ⊥
 none_is_not f values e = cc
 
-meaning_sound_by : (limit : ℕ) (text values : List ℕ) → length text ≤ limit → meaning_from 0 text ≡ Some values → Means text values
+meaning_sound_by : (limit : ℕ) (text values : List ℕ) → length text ≤ limit → meaning_behind 0 text ≡ Some values → Means text values
 meaning_sound_by limit [] values le e = let none : [] ≡ values = cc in subst (Means []) none refl
 meaning_sound_by zero (b ∷ bytes) values le e = absurd (omega (arith, le))
 meaning_sound_by (suc limit) (b ∷ bytes) values le e = go (λ rest more shorter h. meaning_sound_by limit rest more shorter h) (unit_at (b ∷ bytes)) refl
   where
-    go : ((rest more : List ℕ) → length rest ≤ limit → meaning_from 0 rest ≡ Some more → Means rest more) → (o : Option (ℕ × ℕ)) → unit_at (b ∷ bytes) ≡ o → Means (b ∷ bytes) values
-    go again None none = absurd (none_is_not (λ n. meaning_from n bytes) values (ap (λ (o : Option (ℕ × ℕ)). unit_then o (λ n. meaning_from n bytes)) (sym none) ∙ e))
+    go : ((rest more : List ℕ) → length rest ≤ limit → meaning_behind 0 rest ≡ Some more → Means rest more) → (o : Option (ℕ × ℕ)) → unit_at (b ∷ bytes) ≡ o → Means (b ∷ bytes) values
+    go again None none = absurd (none_is_not (λ n. meaning_behind n bytes) values (ap (λ (o : Option (ℕ × ℕ)). unit_then o (λ n. meaning_behind n bytes)) (sym none) ∙ e))
     go again (Some found) some =
         let s = unit_sound (b ∷ bytes) found.0 found.1 some in
-        let step = sym (unit_step s.piece s.rest found.0 s.is) ∙ ap (meaning_from 0) (sym s.parts) ∙ e in
-        let more = some_cons found.0 (meaning_from 0 s.rest) values step in
+        let step = sym (unit_step s.piece s.rest found.0 s.is) ∙ ap (meaning_behind 0) (sym s.parts) ∙ e in
+        let more = some_cons found.0 (meaning_behind 0 s.rest) values step in
         let shorter : length s.rest ≤ limit = omega (arith, le, ap length s.parts, length-append s.piece s.rest, unit_some s.piece s.rest found.0 s.is) in
         subst (Means (b ∷ bytes)) (sym more.2) (s.piece, s.rest, s.parts, s.is, again s.rest more.0 shorter more.1)
 
-pub meaning_sound : (text values : List ℕ) → meaning_from 0 text ≡ Some values → Means text values
+pub meaning_sound : (text values : List ℕ) → meaning_behind 0 text ≡ Some values → Means text values
 meaning_sound text values e = meaning_sound_by (length text) text values (omega arith) e
 
 -- ---- the whole text
@@ -76,11 +76,11 @@ parted : (b : ℕ) (more : List ℕ) → (body : List ℕ) × (last : ℕ) × (b
 parted b [] = ([], b, refl, refl)
 parted b (c ∷ more) = let r = parted c more in (b ∷ r.0, r.1, ap (λ (t : List ℕ). b ∷ t) r.2, ap suc r.3)
 
-value_within : (first last : ℕ) (body : List ℕ) → value_of (first ∷ (body ++ last ∷ [])) ≡ meaning_from 0 body
+value_within : (first last : ℕ) (body : List ℕ) → value_of (first ∷ (body ++ last ∷ [])) ≡ meaning_behind 0 body
 unfolding value_of
 value_within first last [] = refl
 value_within first last (b ∷ body) =
-    ap (meaning_from 0) (take_at (b ∷ body) (last ∷ []) (length (body ++ last ∷ [])) (omega (arith, length-append body (last ∷ []))))
+    ap (meaning_behind 0) (take_at (b ∷ body) (last ∷ []) (length (body ++ last ∷ [])) (omega (arith, length-append body (last ∷ []))))
 
 no_value : (value : List ℕ) → value_of [] ≡ Some value → ⊥
 unfolding value_of

@@ -1,6 +1,6 @@
 -- A word in a word's place leaves the other pieces as they are (for the crates above).
 use Rattle.std.proofs.Common.{◌≡◌, ℕ, Bool, true, false, not, eqb, List, [], ◌∷◌, ◌++◌, ◌⊎◌, inl, inr, refl, sym, ap, subst, ◌∙◌, append-nil, append_assoc, eqb-true}
-use Rattle.proto_text.specs.Common.{Space, Letter, PieceKind, Blank, LineComment, BlockComment, Solid, Word, Number, Text, Punctuation, class_of, is_identifier, extends_word, Piece, IsRun, is_in_line, IsLexeme, EndsBefore, text_of, ArePieces, IsWord, SameButWords, WordsMayChange}
+use Rattle.proto_text.specs.Common.{Space, Letter, PieceKind, Blank, LineComment, BlockComment, Solid, Word, Number, Text, Punctuation, class_of, is_identifier, extends_word, Piece, IsRun, is_in_line, IsLexeme, EndsBefore, pieces_text, ArePieces, IsWord, SameButWords, WordsMayChange}
 
 -- what may stand behind a piece is told by the first byte
 ends_at : (kind : PieceKind) (b : ℕ) (x y : List ℕ) → EndsBefore kind (b ∷ x) → EndsBefore kind (b ∷ y)
@@ -59,16 +59,16 @@ ends_word : (kind : PieceKind) (bytes x y : List ℕ) → IsRun Letter bytes →
 ends_word kind [] x y run h = absurd run
 ends_word kind (b ∷ bytes) x y run h = ends_anyhow kind b (bytes ++ x) y run.0 h
 
-ends_again : (kind : PieceKind) (ps qs : List Piece) (rest : List ℕ) → ArePieces ps rest → SameButWords ps qs → EndsBefore kind (text_of ps ++ rest) → EndsBefore kind (text_of qs ++ rest)
+ends_again : (kind : PieceKind) (ps qs : List Piece) (rest : List ℕ) → ArePieces ps rest → SameButWords ps qs → EndsBefore kind (pieces_text ps ++ rest) → EndsBefore kind (pieces_text qs ++ rest)
 ends_again kind [] [] rest h s ends = ends
 ends_again kind [] (q ∷ qs) rest h s ends = absurd s
 ends_again kind (p ∷ ps) [] rest h s ends = absurd s
 ends_again kind (p ∷ ps) (q ∷ qs) rest h s ends =
-    subst (EndsBefore kind) (sym (append_assoc q.bytes (text_of qs) rest)) (by s.0 (subst (EndsBefore kind) (append_assoc p.bytes (text_of ps) rest) ends))
+    subst (EndsBefore kind) (sym (append_assoc q.bytes (pieces_text qs) rest)) (by s.0 (subst (EndsBefore kind) (append_assoc p.bytes (pieces_text ps) rest) ends))
   where
-    by : (p ≡ q) ⊎ (IsWord p × IsWord q) → EndsBefore kind (p.bytes ++ (text_of ps ++ rest)) → EndsBefore kind (q.bytes ++ (text_of qs ++ rest))
-    by (inl same) e = subst (λ (x : Piece). EndsBefore kind (x.bytes ++ (text_of qs ++ rest))) same (ends_same kind p (text_of ps ++ rest) (text_of qs ++ rest) h.0 e)
-    by (inr words) e = ends_word kind p.bytes (text_of ps ++ rest) (q.bytes ++ (text_of qs ++ rest)) words.0.1 e
+    by : (p ≡ q) ⊎ (IsWord p × IsWord q) → EndsBefore kind (p.bytes ++ (pieces_text ps ++ rest)) → EndsBefore kind (q.bytes ++ (pieces_text qs ++ rest))
+    by (inl same) e = subst (λ (x : Piece). EndsBefore kind (x.bytes ++ (pieces_text qs ++ rest))) same (ends_same kind p (pieces_text ps ++ rest) (pieces_text qs ++ rest) h.0 e)
+    by (inr words) e = ends_word kind p.bytes (pieces_text ps ++ rest) (q.bytes ++ (pieces_text qs ++ rest)) words.0.1 e
 
 one_again : (p q : Piece) (x y : List ℕ) → ((kind : PieceKind) → EndsBefore kind x → EndsBefore kind y) → (p ≡ q) ⊎ (IsWord p × IsWord q) → IsLexeme p.kind p.bytes → EndsBefore p.kind x → IsLexeme q.kind q.bytes × EndsBefore q.kind y
 one_again p q x y again (inl same) is ends = subst (λ (r : Piece). IsLexeme r.kind r.bytes × EndsBefore r.kind y) same (is, again p.kind ends)
@@ -81,8 +81,8 @@ pieces_again [] [] rest h s = tt
 pieces_again [] (q ∷ qs) rest h s = absurd s
 pieces_again (p ∷ ps) [] rest h s = absurd s
 pieces_again (p ∷ ps) (q ∷ qs) rest h s =
-    let one = one_again p q (text_of ps ++ rest) (text_of qs ++ rest) (λ kind ends. ends_again kind ps qs rest h.2 s.1 ends) s.0 h.0 h.1 in
+    let one = one_again p q (pieces_text ps ++ rest) (pieces_text qs ++ rest) (λ kind ends. ends_again kind ps qs rest h.2 s.1 ends) s.0 h.0 h.1 in
     (one.0, one.1, pieces_again ps qs rest h.2 s.1)
 
 pub words_may_change : WordsMayChange
-words_may_change text ps qs is same = (pieces_again ps qs [] is.0 same, sym (append-nil (text_of qs)))
+words_may_change text ps qs is same = (pieces_again ps qs [] is.0 same, sym (append-nil (pieces_text qs)))

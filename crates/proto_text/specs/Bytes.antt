@@ -5,8 +5,8 @@ use Rattle.proto_faults.specs.Ascii as ascii
 use Rattle.proto_text.specs.Classes.{is_digit}
 
 -- each byte passes
-abbrev pub Each : (ℕ → Bool) → List ℕ → Type 0
-Each p bytes = AllByRecursion (λ b. p b ≡ true) bytes
+abbrev pub EachByte : (ℕ → Bool) → List ℕ → Type 0
+EachByte p bytes = AllByRecursion (λ b. p b ≡ true) bytes
 
 -- no byte that passes stands first
 abbrev pub Stops : (ℕ → Bool) → List ℕ → Type 0

@@ -47,8 +47,8 @@ InverseLeadsBack =
     → Puts 0 new (inverse_from 0 0 es) text
 
 -- Edits put one text.
-abbrev pub PutsOnce : Type 0
-PutsOnce =
+abbrev pub EditsPutOnce : Type 0
+EditsPutOnce =
     (text a b : List ℕ) (es : List Edit) → Puts 0 text es a → Puts 0 text es b → a ≡ b
 
 -- how many bytes the old texts have

@@ -8,7 +8,7 @@ use Rattle.proto_text.specs.declared.kind.TokenKind.{TokenKind}
 use Rattle.proto_text.specs.declared.kind.TokenKind.TheVariants.{Word, Number, Text, Punctuation}
 use Rattle.proto_text.specs.Bytes.{Stops}
 use Rattle.proto_text.specs.Classes.{is_identifier}
-use Rattle.proto_text.specs.Pieces.{Piece, IsOne, IsLineComment, IsBlockComment, IsLexeme, IsPieces, is_in_line, text_of}
+use Rattle.proto_text.specs.Pieces.{Piece, IsOne, IsLineComment, IsBlockComment, IsLexeme, IsPieces, is_in_line, pieces_text}
 
 -- one white-space byte, a block comment through its first `*/`, or a line comment up to a line feed
 -- or the end of the text
@@ -21,7 +21,7 @@ IsTrivium (Solid kind) bytes rest = ⊥
 -- trivia: any run of these, also none; the rest of the text stands behind it
 abbrev pub AreTrivia : List Piece → List ℕ → Type 0
 AreTrivia [] rest = Unit {0}
-AreTrivia (t ∷ ts) rest = IsTrivium t.kind t.bytes (text_of ts ++ rest) × AreTrivia ts rest
+AreTrivia (t ∷ ts) rest = IsTrivium t.kind t.bytes (pieces_text ts ++ rest) × AreTrivia ts rest
 
 -- a token, and the trivia behind it
 pub record Group : Type 0 where
@@ -32,7 +32,7 @@ pub record Group : Type 0 where
 -- the text of groups: each token, and the trivia behind it
 abbrev pub groups_text : List Group → List ℕ
 groups_text [] = []
-groups_text (g ∷ gs) = g.bytes ++ (text_of g.behind ++ groups_text gs)
+groups_text (g ∷ gs) = g.bytes ++ (pieces_text g.behind ++ groups_text gs)
 
 -- a word or a number
 abbrev pub TakesIdentifiers : TokenKind → Type 0
@@ -64,7 +64,7 @@ AreGroups (g ∷ gs) =
 pub record IsGrouped (text : List ℕ) (first : List Piece) (groups : List Group) : Type 0 where
   pub trivia : AreTrivia first (groups_text groups)
   pub tokens : AreGroups groups
-  pub whole : text ≡ text_of first ++ groups_text groups
+  pub whole : text ≡ pieces_text first ++ groups_text groups
 
 -- the pieces of groups: each token, and the trivia behind it
 abbrev pub pieces_of : List Group → List Piece

@@ -11,7 +11,7 @@ use Rattle.proto_text.specs.declared.kind.PieceKind.TheVariants.{Blank, LineComm
 use Rattle.proto_text.specs.declared.fault.LexFault.{LexFault}
 use Rattle.proto_text.specs.declared.fault.LexFault.TheVariants.{BadChar, OpenComment, OpenString, BadEscape, BadNumber}
 use Rattle.proto_text.specs.Classes.{class_of, is_identifier, is_digit}
-use Rattle.proto_text.specs.Bytes.{Each, Stops, is_octal, is_hex}
+use Rattle.proto_text.specs.Bytes.{EachByte, Stops, is_octal, is_hex}
 use Rattle.proto_text.specs.Strings.{IsString, IsQuoted, IsAllowed, is_body}
 
 -- one byte of the class
@@ -21,7 +21,7 @@ IsOne class bytes = (b : ℕ) × (bytes ≡ b ∷ []) × (class_of b ≡ class)
 -- identifier characters, the first of the class
 abbrev pub IsRun : Class → List ℕ → Type 0
 IsRun class [] = ⊥
-IsRun class (b ∷ bytes) = (class_of b ≡ class) × Each is_identifier bytes
+IsRun class (b ∷ bytes) = (class_of b ≡ class) × EachByte is_identifier bytes
 
 -- `x` or `X`, and one or more hexadecimal digits
 abbrev pub is_hex_tail : List ℕ → Bool
@@ -52,7 +52,7 @@ HasNoClose bytes =
 -- `//`, and bytes that are no line feed
 abbrev pub IsLineComment : List ℕ → Type 0
 IsLineComment bytes =
-    (body : List ℕ) × (bytes ≡ ascii.slash ∷ ascii.slash ∷ body) × Each is_in_line body
+    (body : List ℕ) × (bytes ≡ ascii.slash ∷ ascii.slash ∷ body) × EachByte is_in_line body
 
 -- `/*`, bytes in which no `*/` stands, and `*/`
 abbrev pub IsBlockComment : List ℕ → Type 0
@@ -88,19 +88,19 @@ pub record Piece : Type 0 where
   pub bytes : List ℕ
 
 -- the text of pieces: their bytes, one piece after the other
-abbrev pub text_of : List Piece → List ℕ
-text_of [] = []
-text_of (p ∷ ps) = p.bytes ++ text_of ps
+abbrev pub pieces_text : List Piece → List ℕ
+pieces_text [] = []
+pieces_text (p ∷ ps) = p.bytes ++ pieces_text ps
 
 -- the pieces stand one after the other, and rest behind them
 abbrev pub ArePieces : List Piece → List ℕ → Type 0
 ArePieces [] rest = Unit {0}
 ArePieces (p ∷ ps) rest =
-    IsLexeme p.kind p.bytes × EndsBefore p.kind (text_of ps ++ rest) × ArePieces ps rest
+    IsLexeme p.kind p.bytes × EndsBefore p.kind (pieces_text ps ++ rest) × ArePieces ps rest
 
 -- the text is these pieces, and then rest
 abbrev pub IsFront : List ℕ → List Piece → List ℕ → Type 0
-IsFront text ps rest = ArePieces ps rest × (text ≡ text_of ps ++ rest)
+IsFront text ps rest = ArePieces ps rest × (text ≡ pieces_text ps ++ rest)
 
 -- the text is these pieces
 abbrev pub IsPieces : List ℕ → List Piece → Type 0

@@ -5,7 +5,7 @@ use Rattle.proto_text.specs.Edits.{Edit, Puts}
 use Rattle.proto_text.specs.declared.class.Class.TheVariants.{Letter}
 use Rattle.proto_text.specs.declared.kind.PieceKind.TheVariants.{Solid}
 use Rattle.proto_text.specs.declared.kind.TokenKind.TheVariants.{Word}
-use Rattle.proto_text.specs.Pieces.{Piece, IsRun, IsPieces, text_of}
+use Rattle.proto_text.specs.Pieces.{Piece, IsRun, IsPieces, pieces_text}
 use Rattle.proto_text.specs.Texts.{edit_if}
 
 -- a piece that is a word token
@@ -23,12 +23,12 @@ SameButWords (p ∷ ps) (q ∷ qs) = ((p ≡ q) ⊎ (IsWord p × IsWord q)) × S
 abbrev pub WordsMayChange : Type 0
 WordsMayChange =
     (text : List ℕ) (ps qs : List Piece) → IsPieces text ps → SameButWords ps qs
-    → IsPieces (text_of qs) qs
+    → IsPieces (pieces_text qs) qs
 
 -- a piece, and the bytes that come in its place, if others do
-abbrev pub after : Piece × Option Text → Piece
-after (p, None) = p
-after (p, Some bytes) = record p { bytes = bytes }
+abbrev pub piece_after : Piece × Option Text → Piece
+piece_after (p, None) = p
+piece_after (p, Some bytes) = record p { bytes = bytes }
 
 -- the edits of pieces that begin at an offset
 abbrev pub edits_from : ℕ → List (Piece × Option Text) → List Edit
@@ -40,5 +40,5 @@ edits_from at (c ∷ cs) =
 abbrev pub EditsChangePieces : Type 0
 EditsChangePieces =
     (changes : List (Piece × Option (List ℕ)))
-    → Puts 0 (text_of (map (λ c. c.0) changes)) (edits_from 0 changes)
-    (text_of (map after changes))
+    → Puts 0 (pieces_text (map (λ c. c.0) changes)) (edits_from 0 changes)
+    (pieces_text (map piece_after changes))

@@ -7,12 +7,12 @@ use Rattle.proto_text.specs.declared.kind.TokenKind.{TokenKind}
 use Rattle.proto_text.specs.declared.kind.TokenKind.TheVariants.{Word, Number, Text, Punctuation}
 use Rattle.proto_text.specs.declared.lexer.Token.{Token}
 use Rattle.proto_text.specs.declared.kind.PieceKind.TheVariants.{Solid}
-use Rattle.proto_text.specs.Bytes.{Each}
+use Rattle.proto_text.specs.Bytes.{EachByte}
 use Rattle.proto_text.specs.Classes.{is_space, is_identifier}
 use Rattle.proto_text.specs.Strings.{IsString}
 use Rattle.proto_text.specs.Values.{StandsFor}
 use Rattle.proto_text.specs.Edits.{Puts}
-use Rattle.proto_text.specs.Pieces.{Piece, IsLexeme, ArePieces, text_of}
+use Rattle.proto_text.specs.Pieces.{Piece, IsLexeme, ArePieces, pieces_text}
 use Rattle.proto_text.specs.SourceFacts.{IsSpan}
 use Rattle.proto_text.specs.Texts.{word_at, offset_at}
 use Rattle.proto_text.specs.Tokens.{Lexeme, lexeme_at, lexemes, AreTokens}
@@ -63,7 +63,7 @@ TokensAreInOrder =
 abbrev pub IsSegment : List ℕ → List Lexeme → Type 0
 IsSegment bytes ls =
     (ps : List Piece) × ((rest : List ℕ) → ArePieces ps rest)
-    × (bytes ≡ text_of ps) × (ls ≡ lexemes ps)
+    × (bytes ≡ pieces_text ps) × (ls ≡ lexemes ps)
 
 -- Two segments one behind the other are a segment, with the tokens of both.
 abbrev pub SegmentsJoin : Type 0
@@ -137,7 +137,7 @@ quoted value = ascii.quote ∷ (value ++ ascii.quote ∷ [])
 -- Plain bytes in quotes are a string token, which stands for them.
 abbrev pub QuotedStandsForItself : Type 0
 QuotedStandsForItself =
-    (value : List ℕ) → Each is_plain value → IsUtf8 value
+    (value : List ℕ) → EachByte is_plain value → IsUtf8 value
     → IsString (quoted value) × StandsFor (quoted value) value
 
 -- A token that ends by itself is a segment.

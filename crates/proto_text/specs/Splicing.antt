@@ -17,9 +17,9 @@ abbrev pub edits : List Splice → List Edit
 edits ss = map edit_of ss
 
 -- the text with the edits, if each old text is at its place
-abbrev pub IsPut : Text → List Edit → Option (Vec ℕ) → Type 0
-IsPut text es None = (new : List ℕ) → Puts 0 text es new → ⊥
-IsPut text es (Some new) = Puts 0 text es new.items
+abbrev pub IsTextPut : Text → List Edit → Option (Vec ℕ) → Type 0
+IsTextPut text es None = (new : List ℕ) → Puts 0 text es new → ⊥
+IsTextPut text es (Some new) = Puts 0 text es new.items
 
 -- the text is put, too long, or not there
 abbrev pub IsApplied : Text → List Edit → Result (Vec ℕ) SpliceFault → Type 0

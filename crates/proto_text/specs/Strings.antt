@@ -11,7 +11,7 @@ use Rattle.proto_text.specs.declared.ending.Step.TheVariants.{Breaks, Ends, Goes
 use Rattle.proto_text.specs.declared.escape.Escape.{Escape}
 use Rattle.proto_text.specs.declared.escape.Escape.TheVariants.{Octal, Hexadecimal, Single, Unknown}
 use Rattle.proto_text.specs.Classes.{class_of, is_digit}
-use Rattle.proto_text.specs.Bytes.{Each, Stops, is_octal, is_hex}
+use Rattle.proto_text.specs.Bytes.{EachByte, Stops, is_octal, is_hex}
 
 -- ---- where a string ends
 
@@ -72,8 +72,8 @@ number_in base front [] = front
 number_in base front (d ∷ ds) = number_in base (front * base + digit_value d) ds
 
 -- a byte that is no backslash
-abbrev pub IsPlain : Text → ℕ → Type 0
-IsPlain bytes value = (bytes ≡ value ∷ []) × ((value == ascii.backslash) ≡ false)
+abbrev pub IsPlainByte : Text → ℕ → Type 0
+IsPlainByte bytes value = (bytes ≡ value ∷ []) × ((value == ascii.backslash) ≡ false)
 
 -- a backslash and one character, which stand for one byte
 abbrev pub IsSingle : Text → ℕ → Type 0
@@ -82,7 +82,7 @@ IsSingle bytes value =
 
 -- one to limit digits, as many as there are
 pub record IsDigits (is : ℕ → Bool) (limit : ℕ) (digits rest : Text) : Type 0 where
-  pub each : Each is digits
+  pub each : EachByte is digits
   pub some : 0 < length digits
   pub short : length digits ≤ limit
   pub longest : length digits < limit → Stops is rest
@@ -103,7 +103,7 @@ IsHexadecimal bytes value rest =
 -- bytes before rest that stand for one byte
 abbrev pub IsUnit : Text → ℕ → Text → Type 0
 IsUnit bytes value rest =
-    IsPlain bytes value
+    IsPlainByte bytes value
     ⊎ (IsSingle bytes value ⊎ (IsOctal bytes value rest ⊎ IsHexadecimal bytes value rest))
 
 -- the text between the quotes stands for these bytes

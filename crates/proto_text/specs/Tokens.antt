@@ -12,7 +12,7 @@ use Rattle.proto_text.specs.declared.kind.TokenKind.{TokenKind}
 use Rattle.proto_text.specs.declared.lexer.Token.{Token}
 use Rattle.proto_text.specs.declared.fault.TextFault.{TextFault}
 use Rattle.proto_text.specs.declared.fault.TextFault.TheVariants.{TooLarge, NotUtf8, At, NoMemory}
-use Rattle.proto_text.specs.Pieces.{Piece, text_of, IsFault, IsFront, IsPieces}
+use Rattle.proto_text.specs.Pieces.{Piece, pieces_text, IsFault, IsFront, IsPieces}
 
 -- the token of a piece of n bytes at an offset, if it is one
 abbrev pub token_at : PieceKind → ℕ → ℕ → List Token
@@ -34,13 +34,13 @@ AreTokens text tokens = (ps : List Piece) × IsPieces text ps × (tokens ≡ tok
 -- Whole pieces stand before the offset, and at it stands what the fault says.
 abbrev pub IsFaultAt : Text → ℕ → LexFault → Type 0
 IsFaultAt text offset fault =
-    (ps : List Piece) × (rest : List ℕ) × IsFront text ps rest × (offset ≡ length (text_of ps))
+    (ps : List Piece) × (rest : List ℕ) × IsFront text ps rest × (offset ≡ length (pieces_text ps))
     × IsFault fault rest
 
 -- a fault of the piece at an offset
-abbrev pub fault_of : ℕ → OrNoMemory LexFault → TextFault
-fault_of offset (or.Fault fault) = At offset fault
-fault_of offset or.NoMemory = NoMemory
+abbrev pub text_fault_of : ℕ → OrNoMemory LexFault → TextFault
+text_fault_of offset (or.Fault fault) = At offset fault
+text_fault_of offset or.NoMemory = NoMemory
 
 -- an error of lexing: memory, or the fault
 abbrev pub IsLexError : Text → TextFault → Type 0

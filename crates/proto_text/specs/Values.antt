@@ -28,16 +28,16 @@ unit_then None more = None
 unit_then (Some found) more = option_map (λ values. found.0 ∷ values) (more (found.1 - 1))
 
 -- what a body stands for behind its first n bytes
-abbrev pub meaning_from : ℕ → Text → Option Text
-meaning_from n [] = Some []
-meaning_from zero (b ∷ bytes) = unit_then (unit_at (b ∷ bytes)) (λ n. meaning_from n bytes)
-meaning_from (suc n) (b ∷ bytes) = meaning_from n bytes
+abbrev pub meaning_behind : ℕ → Text → Option Text
+meaning_behind n [] = Some []
+meaning_behind zero (b ∷ bytes) = unit_then (unit_at (b ∷ bytes)) (λ n. meaning_behind n bytes)
+meaning_behind (suc n) (b ∷ bytes) = meaning_behind n bytes
 
 -- the value of the text of a string token, if its escapes are allowed
 unfoldable pub value_of : Text → Option Text
 value_of [] = None
 value_of (quote ∷ []) = None
-value_of (quote ∷ b ∷ more) = meaning_from 0 (take (length more) (b ∷ more))
+value_of (quote ∷ b ∷ more) = meaning_behind 0 (take (length more) (b ∷ more))
 
 -- A text stands for a value where this is the value from left to right, and nowhere else.
 abbrev pub ValueIsValueOf : Type 0

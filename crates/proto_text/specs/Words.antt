@@ -7,11 +7,11 @@ use Rattle.proto_text.specs.declared.class.Class.TheVariants.{Letter}
 use Rattle.proto_text.specs.Classes.{class_of, is_identifier}
 
 -- a byte of this class may begin a word: a letter
-abbrev pub begins_word : Class → Bool
-begins_word Letter = true
-begins_word _ = false
+abbrev pub may_begin_word : Class → Bool
+may_begin_word Letter = true
+may_begin_word _ = false
 
 -- a letter or `_`, and identifier characters
 abbrev pub is_run : Text → Bool
 is_run [] = false
-is_run (b ∷ bytes) = begins_word (class_of b) && list_all is_identifier bytes
+is_run (b ∷ bytes) = may_begin_word (class_of b) && list_all is_identifier bytes

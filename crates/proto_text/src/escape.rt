@@ -170,7 +170,7 @@ fn has_backslash(bytes: &[u8]) -> bool
 
 /// The bytes that the text between the quotes stands for, if each escape is allowed. Refused for
 /// want of memory alone.
-pub fn decoded(alloc: Global, body: &[u8]) -> Result<Option<Vec<u8>>, NoMemory>
+pub fn decoded_bytes(alloc: Global, body: &[u8]) -> Result<Option<Vec<u8>>, NoMemory>
     ensures { IfOk result (λ found. MatchOption found
         ((all : List ℕ) → Means body.now all → ⊥)
         (λ values. Means body.now values.items)) }
@@ -210,7 +210,7 @@ pub fn is_allowed(alloc: Global, body: &[u8]) -> Result<bool, NoMemory>
     if !has_backslash(body) {
         return Ok(is_utf8(body));
     }
-    match decoded(alloc, body)? {
+    match decoded_bytes(alloc, body)? {
         None => Ok(false),
         Some(values) => Ok(is_utf8(values.as_slice())),
     }

@@ -1,6 +1,6 @@
 //! Laws of the definitions, for the layers above. None of these does anything.
 
-ghost use Rattle.proto_text.specs.Edits.{InverseLeadsBack, PutsLength, PutsOnce};
+ghost use Rattle.proto_text.specs.Edits.{InverseLeadsBack, PutsLength, EditsPutOnce};
 ghost use Rattle.proto_text.specs.Grouping.{GroupsArePieces, OneGrouping, PiecesAreGroups};
 ghost use Rattle.proto_text.specs.Renames.{EditsChangePieces, WordsMayChange};
 ghost use Rattle.proto_text.specs.Segments.{BetweenPlaces, DecimalIsNumber, QuotedStandsForItself, RunsAreReplaced, SegmentsJoin, SpaceIsSegment, TokenBeforeSegment, TokenIsSegment, TokensAreInOrder, TokensAreLexemes, TokensAreMoved};
@@ -54,7 +54,7 @@ pub fn words_stand_at_spans()
 /// What was put is put back by the inverse edits; edits put one text, of a known length.
 pub fn puts_lead_back()
     ensures back { InverseLeadsBack }
-    ensures once { PutsOnce }
+    ensures once { EditsPutOnce }
     ensures length { PutsLength }
 {}
 

@@ -5,7 +5,7 @@ ghost use Rattle.proto_text.specs.declared.fault.LexFault.{LexFault};
 ghost use Rattle.proto_text.specs.declared.fault.TextFault.TheVariants as TextFault;
 ghost use Rattle.proto_text.specs.Pieces.{Piece, IsPieces};
 ghost use Rattle.proto_text.specs.SourceFacts.{IsSpan};
-ghost use Rattle.proto_text.specs.Tokens.{token_at, tokens_from, AreTokens, IsFaultAt, IsLexError, IsLexed, fault_of};
+ghost use Rattle.proto_text.specs.Tokens.{token_at, tokens_from, AreTokens, IsFaultAt, IsLexError, IsLexed, text_fault_of};
 
 use crate::fault::TextFault;
 use crate::kind::{PieceKind, TokenKind};
@@ -44,7 +44,7 @@ fn add_token(
 }
 
 fn fault_at(offset: u32, stop: Stop) -> TextFault
-    ensures { result ≡ fault_of offset stop }
+    ensures { result ≡ text_fault_of offset stop }
 {
     match stop {
         Stop::Fault(fault) => TextFault::At { offset, fault },

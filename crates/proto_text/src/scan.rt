@@ -8,7 +8,7 @@ ghost use Rattle.proto_text.specs.Bytes.{is_octal, is_hex};
 ghost use Rattle.proto_text.specs.declared.kind.PieceKind.TheVariants as PieceKind;
 ghost use Rattle.proto_text.specs.declared.kind.TokenKind.TheVariants as TokenKind;
 ghost use Rattle.proto_text.specs.First.{IsFirstPiece};
-ghost use Rattle.proto_text.specs.Scan.{close_len, comment_at, number_at, string_at, piece_at};
+ghost use Rattle.proto_text.specs.Scan.{close_len, comment_at, scanned_number, scanned_string, piece_at};
 
 use crate::class::{Class, class_of_byte, is_identifier_byte};
 use crate::ending::string_close;
@@ -108,10 +108,10 @@ fn comment(bytes: &[u8]) -> Result<(PieceKind, usize), LexFault>
     }
 }
 
-#[tactic(auto, unfolding(crate::specs::Scan::number_at))]
+#[tactic(auto, unfolding(crate::specs::Scan::scanned_number))]
 fn number(bytes: &[u8], len: usize) -> Result<(PieceKind, usize), LexFault>
     requires { len ≤ length bytes.now }
-    ensures { result ≡ number_at len bytes.now }
+    ensures { result ≡ scanned_number len bytes.now }
 {
     if is_number_text(&bytes[..len]) {
         Ok((PieceKind::Solid(TokenKind::Number), len))
@@ -120,10 +120,10 @@ fn number(bytes: &[u8], len: usize) -> Result<(PieceKind, usize), LexFault>
     }
 }
 
-#[tactic(auto, unfolding(crate::specs::Scan::string_at))]
+#[tactic(auto, unfolding(crate::specs::Scan::scanned_string))]
 fn string(quote: u8, bytes: &[u8]) -> Result<(PieceKind, usize), LexFault>
     requires { length bytes.now < 2 ^ 32 }
-    ensures { result ≡ string_at quote bytes.now }
+    ensures { result ≡ scanned_string quote bytes.now }
 {
     match string_close(quote, bytes) {
         Some(n) => Ok((PieceKind::Solid(TokenKind::Text), 1 + n)),
@@ -132,7 +132,7 @@ fn string(quote: u8, bytes: &[u8]) -> Result<(PieceKind, usize), LexFault>
 }
 
 #[tactic(auto, unfolding(crate::specs::Scan::piece_at))]
-fn scanned(bytes: &[u8]) -> Result<(PieceKind, usize), LexFault>
+fn scan_piece(bytes: &[u8]) -> Result<(PieceKind, usize), LexFault>
     requires { length bytes.now < 2 ^ 32 }
     ensures { result ≡ piece_at bytes.now }
 {
@@ -157,7 +157,7 @@ fn raw_piece(bytes: &[u8]) -> Result<(PieceKind, usize), LexFault>
     ensures fits { IfOk result (λ found. found.1 ≤ length bytes.now) }
     ensures quoted { IfOk result (λ found. found.0 ≡ PieceKind.Solid TokenKind.Text → 2 ≤ found.1) }
 {
-    scanned(bytes)
+    scan_piece(bytes)
 }
 
 /// Why no piece was read: none that is whole and allowed begins there, or want of memory.

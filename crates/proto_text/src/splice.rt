@@ -6,7 +6,7 @@ ghost use Rattle.proto_faults.specs.Texts.{text_limit};
 ghost use Rattle.proto_text.specs.declared.splice.SpliceFault.TheVariants.{NoMemory};
 ghost use Rattle.proto_text.specs.declared.splice.SpliceFault.TheVariants as SpliceFault;
 ghost use Rattle.proto_text.specs.Edits.{IsCut, AreShort, inverse_of, inverse_from};
-ghost use Rattle.proto_text.specs.Splicing.{edit_of, edits, IsPut, IsApplied, splice_number, splice_name};
+ghost use Rattle.proto_text.specs.Splicing.{edit_of, edits, IsTextPut, IsApplied, splice_number, splice_name};
 
 use proto_faults::MAX_LEN;
 use std::alloc::{AllocError, Global};
@@ -111,7 +111,7 @@ fn parts_at<'a>(rest: &'a [u8], from: usize, at: usize, old: &[u8]) -> Option<(&
 }
 
 fn all_put(alloc: Global, text: &[u8], splices: &[Splice]) -> Result<Option<Vec<u8>>, SpliceFault>
-    ensures ok { IfOk result (λ new. IsPut text.now (edits splices.now) new) }
+    ensures ok { IfOk result (λ new. IsTextPut text.now (edits splices.now) new) }
     ensures err { IfErr result (λ e. e ≡ SpliceFault.NoMemory) }
 {
     let mut new = Vec::new(alloc);
@@ -154,7 +154,7 @@ fn turn(splice: &mut Splice, from: u32, to: u32) -> (u32, u32)
 }
 
 // The edits that lead back.
-fn turned(mut splices: Vec<Splice>) -> Vec<Splice>
+fn inverse_splices(mut splices: Vec<Splice>) -> Vec<Splice>
     requires { AreShort 0 0 (edits splices.items) }
     ensures { edits result.items ≡ inverse_from 0 0 (edits splices.items) }
 {
@@ -241,7 +241,7 @@ pub fn invert(splices: Splices) -> Splices
 {
     let Splices { items } = splices;
     Splices {
-        items: turned(items),
+        items: inverse_splices(items),
     }
 }
 

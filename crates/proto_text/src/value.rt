@@ -5,7 +5,7 @@ ghost use Rattle.std.specs.String.{string_bytes};
 ghost use Rattle.proto_text.specs.Strings.{IsString, Means};
 ghost use Rattle.proto_text.specs.Values.{StandsFor, says, value_of};
 
-use crate::escape::{decoded, unit};
+use crate::escape::{decoded_bytes, unit};
 use proto_faults::NoMemory;
 use std::alloc::Global;
 
@@ -81,7 +81,7 @@ pub fn string_value(alloc: Global, text: &str) -> Result<String, NoMemory>
         Some(body) => body,
         None => unreachable!(),
     };
-    match decoded(alloc, body)? {
+    match decoded_bytes(alloc, body)? {
         Some(values) => match String::from_utf8(values) {
             Ok(value) => Ok(value),
             Err(_) => unreachable!(),

@@ -5,7 +5,7 @@ ghost use Rattle.std.specs.List.{list_all};
 ghost use Rattle.proto_text.specs.Classes.{class_of, is_identifier};
 ghost use Rattle.proto_text.specs.declared.class.Class.TheVariants.{Letter};
 ghost use Rattle.proto_text.specs.Pieces.{IsRun};
-ghost use Rattle.proto_text.specs.Words.{begins_word as begins, is_run};
+ghost use Rattle.proto_text.specs.Words.{may_begin_word as begins, is_run};
 
 use crate::class::{Class, class_of_byte, is_identifier_byte};
 

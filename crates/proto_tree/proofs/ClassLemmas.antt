@@ -3,7 +3,7 @@ use Rattle.std.proofs.Common.{◌≡◌, ℕ, zero, suc, ◌+◌, ◌<◌, ◌�
 use Rattle.proto_text.specs.declared.kind.PieceKind.{PieceKind}
 use Rattle.proto_text.specs.declared.kind.PieceKind.TheVariants.{Blank, LineComment, BlockComment, Solid}
 use Rattle.proto_text.specs.declared.lexer.Token.{Token}
-use Rattle.proto_text.proofs.Common.{Piece, IsLexeme, text_of, ArePieces, text_at, token_at, tokens_from, lexeme_at, AreTokens, not_empty}
+use Rattle.proto_text.proofs.Common.{Piece, IsLexeme, pieces_text, ArePieces, text_at, token_at, tokens_from, lexeme_at, AreTokens, not_empty}
 use Rattle.proto_tree.specs.Common.{Lexeme, class_by, classes, classed, place_at}
 
 abbrev pub class_at : List ℕ → ℕ → Token → Lexeme
@@ -50,11 +50,11 @@ solid : (kind : PieceKind) (bytes : List ℕ) → IsLexeme kind bytes → 1 ≤ 
 solid kind [] is = absurd (not_empty kind is)
 solid kind (b ∷ bytes) is = omega arith
 
-few_from : (at : ℕ) (ps : List Piece) (rest : List ℕ) → ArePieces ps rest → length (tokens_from at ps) ≤ length (text_of ps)
+few_from : (at : ℕ) (ps : List Piece) (rest : List ℕ) → ArePieces ps rest → length (tokens_from at ps) ≤ length (pieces_text ps)
 few_from at [] rest h = omega arith
 few_from at (p ∷ ps) rest h =
-    omega (arith, one_token p.kind at (length p.bytes), solid p.kind p.bytes h.0, few_from (at + length p.bytes) ps rest h.2, length-append (token_at p.kind at (length p.bytes)) (tokens_from (at + length p.bytes) ps), length-append p.bytes (text_of ps))
+    omega (arith, one_token p.kind at (length p.bytes), solid p.kind p.bytes h.0, few_from (at + length p.bytes) ps rest h.2, length-append (token_at p.kind at (length p.bytes)) (tokens_from (at + length p.bytes) ps), length-append p.bytes (pieces_text ps))
 
 pub few_tokens : (text : List ℕ) (tokens : List Token) → AreTokens text tokens → length tokens ≤ length text
 few_tokens text tokens are =
-    omega (arith, few_from 0 are.0 [] are.1.0, ap length are.2, ap length are.1.1, length-append (text_of are.0) [])
+    omega (arith, few_from 0 are.0 [] are.1.0, ap length are.2, ap length are.1.1, length-append (pieces_text are.0) [])

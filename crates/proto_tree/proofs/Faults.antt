@@ -1,6 +1,6 @@
 -- The first token that no tree has, and the one tree (for the crates above).
 use Rattle.std.proofs.Common.{◌≡◌, ℕ, zero, suc, ◌+◌, ◌-◌, ◌<◌, ◌≤◌, Bool, true, false, List, [], ◌∷◌, ◌++◌, length, take, drop, Some, None, refl, sym, ap, subst, ◌∙◌, ◌⊎◌, inl, inr, append_assoc, arith, length-append, take-append-drop, length-take, append-nil, take_all}
-use Rattle.proto_tree.specs.Common.{Class, Lexeme, Piece, Context, fits, is_brace, one, Fit, flat_piece, Tree, Spells, kind_of, allows, last_of, moved, Walk, piece_in, IsStuck, open_in, closers, IsGoodFront, IsPlace}
+use Rattle.proto_tree.specs.Common.{Class, Lexeme, Piece, Context, fits, is_brace, one, Fit, flat_piece, Tree, Spells, kind_of, allows, last_of, moved_contexts, Walk, piece_in, IsStuck, open_in, closers, IsGoodFront, IsLongestFront}
 use Rattle.proto_tree.specs.declared.class.Class.TheVariants as class
 use Rattle.proto_tree.specs.declared.class.Want.TheVariants as want
 use Rattle.proto_tree.specs.declared.piece.Piece.TheVariants as piece
@@ -119,9 +119,9 @@ no_longer (u ∷ us) (d ∷ from) c outer front rest (v ∷ vs) to k n w fit non
     let over : take k (front ++ rest) ++ closers n ≡ q.0 ++ (take (k - length q.0) (q.1 ++ rest) ++ closers n) =
     ap (λ (s : List Lexeme). take k s ++ closers n) split ∙ ap (λ (s : List Lexeme). s ++ closers n) (take_over q.0 (q.1 ++ rest) k (omega arith)) ∙ append_assoc q.0 (take (k - length q.0) (q.1 ++ rest)) (closers n) in
     let same = read_once d u v q.0 p.0 (take (k - length q.0) (q.1 ++ rest) ++ closers n) p.1 w.0 w'.0 q.3 p.3 (sym over ∙ p.2) in
-    let on : Walk (moved d u from) vs to = subst (λ x. Walk (moved d x from) vs to) (sym same.0) w'.1 in
+    let on : Walk (moved_contexts d u from) vs to = subst (λ x. Walk (moved_contexts d x from) vs to) (sym same.0) w'.1 in
     let fits_on = subst (λ s. Fit (flats vs) s) (sym same.1) p.4 in
-    no_longer us (moved d u from) c outer q.1 rest vs to (k - length q.0) n w.1 q.4 none on fits_on (omega arith) (omega (arith, le, ap length split, length-append q.0 (q.1 ++ rest)))
+    no_longer us (moved_contexts d u from) c outer q.1 rest vs to (k - length q.0) n w.1 q.4 none on fits_on (omega arith) (omega (arith, le, ap length split, length-append q.0 (q.1 ++ rest)))
 
 -- one list of pieces has the tokens
 pub same_pieces : (us vs : List Piece) (from to to' : List Context) (s : List Lexeme) → Walk from us to → Fit (flats us) s → Walk from vs to' → Fit (flats vs) s → (us ≡ vs) × (to ≡ to')
@@ -138,8 +138,8 @@ same_pieces (u ∷ us) (v ∷ vs) (c ∷ from) to to' s w fit w' fit' =
     let q = Fit-split (flat_piece u) (flats us) s fit in
     let p = Fit-split (flat_piece v) (flats vs) s fit' in
     let same = read_once c u v q.0 p.0 q.1 p.1 w.0 w'.0 q.3 p.3 (sym q.2 ∙ p.2) in
-    let on : Walk (moved c u from) vs to' = subst (λ x. Walk (moved c x from) vs to') (sym same.0) w'.1 in
-    let r = same_pieces us vs (moved c u from) to to' q.1 w.1 q.4 on (subst (λ t. Fit (flats vs) t) (sym same.1) p.4) in
+    let on : Walk (moved_contexts c u from) vs to' = subst (λ x. Walk (moved_contexts c x from) vs to') (sym same.0) w'.1 in
+    let r = same_pieces us vs (moved_contexts c u from) to to' q.1 w.1 q.4 on (subst (λ t. Fit (flats vs) t) (sym same.1) p.4) in
     let head : u ≡ v = same.0 in
     let tail : us ≡ vs = r.0 in
     (cc, r.1)
@@ -166,7 +166,7 @@ tree_of_walk us e s w fit =
     let r = walk_levels us context.Start [] e w in
     (r.0, record { well_formed = r.1; fits = subst (λ ms. Fit ms s) (ap flats r.2 ∙ flats-pieces r.0) fit })
 
-pub stuck_place : (s : List Lexeme) (k : ℕ) → IsStuck start s k → IsPlace s (length s - k)
+pub stuck_place : (s : List Lexeme) (k : ℕ) → IsStuck start s k → IsLongestFront s (length s - k)
 stuck_place s k h =
     let len : length s ≡ length h.front + k = ap length h.parts ∙ length-append h.front h.rest ∙ ap (λ n. length h.front + n) h.count in
     let at : length s - k ≡ length h.front = omega arith in
@@ -181,7 +181,7 @@ stuck_place s k h =
     let P : List Lexeme → Type 0 = λ f. (t : Tree) × Spells t (f ++ closers (open_in f)) in
     let Q : ℕ → Type 0 = λ n. (t : Tree) × Spells t (h.front ++ closers n) in
     let good : IsGoodFront s (length h.front) = subst P (sym cut) (subst Q (sym opens) tree) in
-    subst (λ n. IsPlace s n) (sym at) (record {
+    subst (λ n. IsLongestFront s n) (sym at) (record {
       within = omega arith;
       good = good;
       longest = λ m lt le g.

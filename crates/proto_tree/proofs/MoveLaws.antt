@@ -14,12 +14,12 @@ module _ (g : Move) where
   record IsMoved {A : Type 0} (flat : A → List Mark) (f : A → A) : Type 0 where
     law : (x : A) → flat (f x) ≡ map (shift g) (flat x)
 
-  pub map_append : (a b : List Mark) → map (shift g) (a ++ b) ≡ map (shift g) a ++ map (shift g) b
-  map_append [] b = refl
-  map_append (m ∷ a) b = ap (λ (ms : List Mark). shift g m ∷ ms) (map_append a b)
+  pub shift_append : (a b : List Mark) → map (shift g) (a ++ b) ≡ map (shift g) a ++ map (shift g) b
+  shift_append [] b = refl
+  shift_append (m ∷ a) b = ap (λ (ms : List Mark). shift g m ∷ ms) (shift_append a b)
 
   both : (a b u v : List Mark) → u ≡ map (shift g) a → v ≡ map (shift g) b → u ++ v ≡ map (shift g) (a ++ b)
-  both a b u v e f = ap (λ (ms : List Mark). ms ++ v) e ∙ ap (λ (ms : List Mark). map (shift g) a ++ ms) f ∙ sym (map_append a b)
+  both a b u v e f = ap (λ (ms : List Mark). ms ++ v) e ∙ ap (λ (ms : List Mark). map (shift g) a ++ ms) f ∙ sym (shift_append a b)
 
   then_moved : {A B : Type 0} {flat_p : A → List Mark} {flat_q : B → List Mark} {f : A → A} {h : B → B} → IsMoved flat_p f → IsMoved flat_q h → IsMoved (λ (x : A × B). flat_p x.0 ++ flat_q x.1) (λ x. (f x.0, h x.1))
   then_moved {flat_p = flat_p} {flat_q = flat_q} {f = f} {h = h} p q = record { law = λ x. both (flat_p x.0) (flat_q x.1) (flat_p (f x.0)) (flat_q (h x.1)) (p.law x.0) (q.law x.1) }

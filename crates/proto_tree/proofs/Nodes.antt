@@ -1,7 +1,7 @@
 -- Reading nodes one after another (for the crates above).
 use Rattle.std.proofs.Common.{◌≡◌, ℕ, ◌+◌, ◌≤◌, true, false, List, [], ◌∷◌, ◌++◌, length, Some, None, refl, sym, ap, subst, ◌∙◌, append_assoc, arith, length-append, map, append-nil}
 use Rattle.proto_tree.specs.declared.class.Class.TheVariants as class
-use Rattle.proto_tree.specs.Common.{Lexeme, Statement, Signature, Heading, Extending, Header, Piece, Context, Kind, Mark, one, Fit, flat_statement, flat_header, flat_piece, Tree, End, Leaf, Block, flat, IsWellFormed, kind_of, statement_kind, header_kind, allows, after, inside, last_of, joined, all_joined, moved, Walk, any_piece_in, piece_in, IsStuck, Field, trees, item_tree, member_tree, member_layer, message_tree, oneof_tree, enum_tree, extend_tree, IsRead, IsItem, IsClose, FaultOf, IsBody, IsMet, IsOuter, IsItemOf, IsItemBefore}
+use Rattle.proto_tree.specs.Common.{Lexeme, Statement, Signature, Heading, Extending, Header, Piece, Context, Kind, Mark, one, Fit, flat_statement, flat_header, flat_piece, Tree, End, Leaf, Block, flat, IsWellFormed, kind_of, statement_kind, header_kind, allows, after, inside, last_of, joined_trees, all_joined, moved_contexts, Walk, any_piece_in, piece_in, IsStuck, Field, trees, item_tree, member_tree, member_layer, message_tree, oneof_tree, enum_tree, extend_tree, IsRead, IsItem, IsClose, FaultOf, IsBody, IsMet, IsOuter, IsItemOf, IsItemBefore}
 use Rattle.proto_tree.specs.declared.piece.Header.TheVariants as header
 use Rattle.proto_tree.specs.declared.piece.Piece.TheVariants as piece
 use Rattle.proto_tree.specs.declared.context.Context.TheVariants as context
@@ -22,28 +22,28 @@ use Rattle.proto_tree.proofs.Places.{laws, walk_append}
 
 -- ---- trees one behind another
 
-joined-end : (t : Tree) → joined t End ≡ t
+joined-end : (t : Tree) → joined_trees t End ≡ t
 joined-end End = refl
 joined-end (Leaf s rest) = ap (λ t. Leaf s t) (joined-end rest)
 joined-end (Block h i within j rest) = ap (λ t. Block h i within j t) (joined-end rest)
 
-joined-joined : (t u v : Tree) → joined (joined t u) v ≡ joined t (joined u v)
+joined-joined : (t u v : Tree) → joined_trees (joined_trees t u) v ≡ joined_trees t (joined_trees u v)
 joined-joined End u v = refl
 joined-joined (Leaf s rest) u v = ap (λ t. Leaf s t) (joined-joined rest u v)
 joined-joined (Block h i within j rest) u v = ap (λ t. Block h i within j t) (joined-joined rest u v)
 
-all_joined-push : (ts : List Tree) (t : Tree) → all_joined (ts ++ t ∷ []) ≡ joined (all_joined ts) t
+all_joined-push : (ts : List Tree) (t : Tree) → all_joined (ts ++ t ∷ []) ≡ joined_trees (all_joined ts) t
 all_joined-push [] t = joined-end t
-all_joined-push (u ∷ ts) t = ap (λ v. joined u v) (all_joined-push ts t) ∙ sym (joined-joined u (all_joined ts) t)
+all_joined-push (u ∷ ts) t = ap (λ v. joined_trees u v) (all_joined-push ts t) ∙ sym (joined-joined u (all_joined ts) t)
 
 map-push : {A : Type 0} (view : A → Tree) (xs : List A) (x : A) → map view (xs ++ x ∷ []) ≡ map view xs ++ view x ∷ []
 map-push view [] x = refl
 map-push view (y ∷ xs) x = ap (λ (ts : List Tree). view y ∷ ts) (map-push view xs x)
 
-pub trees-push : {A : Type 0} (view : A → Tree) (xs : List A) (x : A) → trees view (xs ++ x ∷ []) ≡ joined (trees view xs) (view x)
+pub trees-push : {A : Type 0} (view : A → Tree) (xs : List A) (x : A) → trees view (xs ++ x ∷ []) ≡ joined_trees (trees view xs) (view x)
 trees-push view xs x = ap all_joined (map-push view xs x) ∙ all_joined-push (map view xs) (view x)
 
-pub flat-joined : (t u : Tree) → flat (joined t u) ≡ flat t ++ flat u
+pub flat-joined : (t u : Tree) → flat (joined_trees t u) ≡ flat t ++ flat u
 flat-joined End u = refl
 flat-joined (Leaf s rest) u = ap (λ ms. flat_statement s ++ ms) (flat-joined rest u) ∙ sym (append_assoc (flat_statement s) (flat rest) (flat u))
 flat-joined (Block h i within j rest) u =
@@ -52,17 +52,17 @@ flat-joined (Block h i within j rest) u =
     ∙ ap (λ ms. front ++ ms) (sym (append_assoc (flat within) (one class.Close j ++ flat rest) (flat u)))
     ∙ sym (append_assoc front (flat within ++ (one class.Close j ++ flat rest)) (flat u))
 
-pub joined-fine : (t u : Tree) (c : Context) → IsWellFormed c t → IsWellFormed (last_of c t) u → IsWellFormed c (joined t u)
+pub joined-fine : (t u : Tree) (c : Context) → IsWellFormed c t → IsWellFormed (last_of c t) u → IsWellFormed c (joined_trees t u)
 joined-fine End u c h k = k
 joined-fine (Leaf s rest) u c h k = (h.0, joined-fine rest u (after c (statement_kind s)) h.1 k)
 joined-fine (Block h i within j rest) u c w k = (w.0, w.1, joined-fine rest u (after c (header_kind h)) w.2 k)
 
-last-joined : (t u : Tree) (c : Context) → last_of c (joined t u) ≡ last_of (last_of c t) u
+last-joined : (t u : Tree) (c : Context) → last_of c (joined_trees t u) ≡ last_of (last_of c t) u
 last-joined End u c = refl
 last-joined (Leaf s rest) u c = last-joined rest u (after c (statement_kind s))
 last-joined (Block h i within j rest) u c = last-joined rest u (after c (header_kind h))
 
-pub read_on : {c d : Context} {tokens middle rest : List Lexeme} (t u : Tree) → IsRead c tokens t middle → last_of c t ≡ d → IsRead d middle u rest → IsRead c tokens (joined t u) rest
+pub read_on : {c d : Context} {tokens middle rest : List Lexeme} (t u : Tree) → IsRead c tokens t middle → last_of c t ≡ d → IsRead d middle u rest → IsRead c tokens (joined_trees t u) rest
 read_on {c = c} {rest = rest} t u a e b = record {
   text = a.text ++ b.text;
   parts = a.parts ∙ ap (λ (s : List Lexeme). a.text ++ s) b.parts ∙ sym (append_assoc a.text b.text rest);
@@ -78,8 +78,8 @@ read_none c tokens = record { text = []; parts = refl; fits = tt; well_formed = 
 walk_below : (us : List Piece) (from to below : List Context) → Walk from us to → Walk (from ++ below) us (to ++ below)
 walk_below [] from to below w = ap (λ (x : List Context). x ++ below) w
 walk_below (u ∷ us) [] to below w = absurd w
-walk_below (u ∷ us) (c ∷ from) to below w = (w.0, subst (λ x. Walk x us (to ++ below)) (moved_below u c from) (walk_below us (moved c u from) to below w.1)) where
-  moved_below : (u : Piece) (c : Context) (from : List Context) → moved c u from ++ below ≡ moved c u (from ++ below)
+walk_below (u ∷ us) (c ∷ from) to below w = (w.0, subst (λ x. Walk x us (to ++ below)) (moved_below u c from) (walk_below us (moved_contexts c u from) to below w.1)) where
+  moved_below : (u : Piece) (c : Context) (from : List Context) → moved_contexts c u from ++ below ≡ moved_contexts c u (from ++ below)
   moved_below (piece.Statement s) c from = refl
   moved_below (piece.Open h i) c from = refl
   moved_below (piece.Close i) c from = refl

@@ -2,7 +2,7 @@
 use Rattle.std.proofs.Common.{◌≡◌, ℕ, ◌+◌, ◌<◌, List, refl, sym, ap, ◌∙◌, ◌⊎◌, inl, inr, arith, Result, Ok, Err, IfOk, IfErr, IsErrAnd, MatchResult}
 use Rattle.std.proofs.lemmas.Bool.{cases_lt}
 use Rattle.proto_text.specs.declared.lexer.Token.{Token}
-use Rattle.proto_tree.specs.Common.{Lexeme, tree_of_file, Tree, IsPlace, IsShallow, IsTooDeep, OneTree, classed, Reads, place_at, IsFault, is_fault_or_memory, IsParsed}
+use Rattle.proto_tree.specs.Common.{Lexeme, tree_of_file, Tree, IsLongestFront, IsShallow, IsTooDeep, OneTree, classed, Reads, place_at, IsParseFault, is_fault_or_memory, IsParsed}
 use Rattle.proto_tree.specs.declared.tree.File.{File}
 use Rattle.proto_tree.specs.declared.parsing.ParseFault.{ParseFault}
 use Rattle.proto_tree.specs.declared.parsing.ParseFault.TheVariants as fault
@@ -10,7 +10,7 @@ use Rattle.proto_tree.proofs.Faults.{one_tree}
 
 -- ---- one place
 
-one_place : (s : List Lexeme) (j k : ℕ) → IsPlace s j → IsPlace s k → j ≡ k
+one_place : (s : List Lexeme) (j k : ℕ) → IsLongestFront s j → IsLongestFront s k → j ≡ k
 one_place s j k a b = elim (cases_lt j k) [
   | inl lt ↦ absurd (a.longest k lt b.within b.good)
   | inr le ↦ elim (cases_lt k j) [
@@ -36,12 +36,12 @@ shallow_deep s k a b = omega (arith, b.deep, b.within, a (k + 1) (omega (arith, 
 
 -- ---- a tree, or a fault
 
-pub no_fault : (text : List ℕ) (tokens : List Token) (t : Tree) (f : ParseFault) → Reads text tokens t → IsFault text tokens f → ⊥
+pub no_fault : (text : List ℕ) (tokens : List Token) (t : Tree) (f : ParseFault) → Reads text tokens t → IsParseFault text tokens f → ⊥
 no_fault text tokens t (fault.Syntax offset) r h = h.no_tree t r.spells
 no_fault text tokens t (fault.TooDeep offset) r h = shallow_deep (classed text tokens) h.at r.shallow h.place
 no_fault text tokens t fault.NoMemory r h = h
 
-pub one_fault : (text : List ℕ) (tokens : List Token) (f g : ParseFault) → IsFault text tokens f → IsFault text tokens g → f ≡ g
+pub one_fault : (text : List ℕ) (tokens : List Token) (f g : ParseFault) → IsParseFault text tokens f → IsParseFault text tokens g → f ≡ g
 one_fault text tokens (fault.Syntax i) (fault.Syntax j) a b =
     let same : i ≡ j = a.offset_is ∙ ap (place_at text tokens) (one_place (classed text tokens) a.at b.at a.place b.place) ∙ sym b.offset_is in
     ap (λ x. fault.Syntax x) same
@@ -56,7 +56,7 @@ one_fault text tokens (fault.TooDeep i) fault.NoMemory a b = absurd b
 
 -- ---- what parse answers
 
-fault_or_memory : (text : List ℕ) (tokens : List Token) (f : ParseFault) → is_fault_or_memory text tokens f → (f ≡ fault.NoMemory) ⊎ IsFault text tokens f
+fault_or_memory : (text : List ℕ) (tokens : List Token) (f : ParseFault) → is_fault_or_memory text tokens f → (f ≡ fault.NoMemory) ⊎ IsParseFault text tokens f
 fault_or_memory text tokens fault.NoMemory h = inl refl
 fault_or_memory text tokens (fault.Syntax offset) h = inr h
 fault_or_memory text tokens (fault.TooDeep offset) h = inr h
@@ -76,7 +76,7 @@ pub parsed_fault : (text : List ℕ) (tokens : List Token) (r : Result File Pars
 parsed_fault text tokens (Ok f) h = tt
 parsed_fault text tokens (Err e) h = h
 
-pub parsed_only_fault : (text : List ℕ) (tokens : List Token) (r : Result File ParseFault) → IsParsed text tokens r → (f : ParseFault) → IsFault text tokens f → IsErrAnd r (λ e. (e ≡ f) ⊎ (e ≡ fault.NoMemory))
+pub parsed_only_fault : (text : List ℕ) (tokens : List Token) (r : Result File ParseFault) → IsParsed text tokens r → (f : ParseFault) → IsParseFault text tokens f → IsErrAnd r (λ e. (e ≡ f) ⊎ (e ≡ fault.NoMemory))
 parsed_only_fault text tokens (Ok x) h f k = absurd (no_fault text tokens (tree_of_file x) f h.0 k)
 parsed_only_fault text tokens (Err e) h f k = elim (fault_or_memory text tokens e h) [
   | inl memory ↦ inr memory

@@ -1,6 +1,6 @@
 -- Pieces, and the readers that read exactly these.
 use Rattle.std.proofs.Common.{◌≡◌, ℕ, Bool, true, false, List, [], ◌∷◌, ◌++◌, Option, Some, None, refl, sym, ap, subst, ◌∙◌, ◌⊎◌, inl, inr, ◌||◌, is_some}
-use Rattle.proto_tree.specs.Common.{Class, Want, Lexeme, Field, Signed, Signature, Heading, Extending, Header, Piece, fits, is_brace, Mark, mark, one, Fit, flat_signature, flat_extending, flat_heading, flat_header, flat_piece, Reader, ◌then◌, made, token, starts, either, extend_at, heading_at, opened, stated, syntax_at, import_at, package_at, option_at, field_at, map_field_at, reserved_at, signed_at, extensions_at, value_at, signature_at, ending_at, method_piece, method_at, reference_at, extending_at, piece_at, enum_piece_at}
+use Rattle.proto_tree.specs.Common.{Class, Want, Lexeme, Field, Signed, Signature, Heading, Extending, Header, Piece, fits, is_brace, Mark, mark, one, Fit, flat_signature, flat_extending, flat_heading, flat_header, flat_piece, Reader, ◌then◌, made, token, starts, either, extend_at, heading_at, block_start, stated, syntax_at, import_at, package_at, option_at, field_at, map_field_at, reserved_at, signed_at, extensions_at, value_at, signature_at, ending_at, method_piece, method_at, reference_at, extending_at, inner_piece_at, enum_piece_at}
 use Rattle.proto_tree.specs.declared.class.Class.TheVariants as class
 use Rattle.proto_tree.specs.declared.class.Want.TheVariants as want
 use Rattle.proto_tree.specs.declared.tree.Syntax.{Syntax}
@@ -228,22 +228,22 @@ heading-exact c = renamed (λ x. flat_heading c x.0 ++ one class.Open x.1) (λ x
     (token_then (quiet (want.One c)) (token_then (quiet want.Name) (quiet (want.One class.Open))))
 
 opened_on : (c : Class) (make : Heading → Header) (find : Finds (λ (x : Heading × ℕ). piece.Open (make x.0) x.1)) → apart (fits (want.One c)) is_brace ≡ true → ((h : Heading) → flat_heading c h ≡ flat_header (make h)) → ((h : Heading) (i : ℕ) → is find (piece.Open (make h) i) ≡ true)
-    → IsOn (is find) (fits (want.One c)) (opened make c)
+    → IsOn (is find) (fits (want.One c)) (block_start make c)
 opened_on c make find e same finds = made_on (λ x. piece.Open (make x.0) x.1) find opened-exact (λ x. finds x.0 x.1)
     (λ x text fit. opening (flat_header (make x.0)) x.1 text (λ t h. heading_calm c e x.0 t (subst (λ ms. Fit ms t) (sym (same x.0)) h)) fit) where
       opened-exact : IsExact never true (fits (want.One c)) never (λ x. flat_piece (piece.Open (make x.0) x.1)) (heading_at c)
       opened-exact = let same_flat : (λ (x : Heading × ℕ). flat_heading c x.0 ++ one class.Open x.1) ≡ (λ x. flat_header (make x.0) ++ one class.Open x.1) = λ i x. same x.0 i ++ one class.Open x.1 in subst (λ f. IsExact never true (fits (want.One c)) never f (heading_at c)) same_flat (heading-exact c)
 
-message_on : IsOn (is find_message) (fits (want.One class.Message)) (opened header.Message class.Message)
+message_on : IsOn (is find_message) (fits (want.One class.Message)) (block_start header.Message class.Message)
 message_on = opened_on class.Message header.Message find_message refl (λ h. refl) (λ h i. refl)
 
-oneof_on : IsOn (is find_oneof) (fits (want.One class.Oneof)) (opened header.Oneof class.Oneof)
+oneof_on : IsOn (is find_oneof) (fits (want.One class.Oneof)) (block_start header.Oneof class.Oneof)
 oneof_on = opened_on class.Oneof header.Oneof find_oneof refl (λ h. refl) (λ h i. refl)
 
-enum_on : IsOn (is find_enum) (fits (want.One class.Enum)) (opened header.Enum class.Enum)
+enum_on : IsOn (is find_enum) (fits (want.One class.Enum)) (block_start header.Enum class.Enum)
 enum_on = opened_on class.Enum header.Enum find_enum refl (λ h. refl) (λ h i. refl)
 
-service_on : IsOn (is find_service) (fits (want.One class.Service)) (opened header.Service class.Service)
+service_on : IsOn (is find_service) (fits (want.One class.Service)) (block_start header.Service class.Service)
 service_on = opened_on class.Service header.Service find_service refl (λ h. refl) (λ h i. refl)
 
 empty_on : IsOn (is find_empty) (fits (want.One class.Semicolon)) (stated statement.Empty (token (want.One class.Semicolon)))
@@ -348,6 +348,6 @@ pub enum_piece_on : IsOn enum_pieces begins_enum_piece enum_piece_at
 unfolding enum_piece_at
 enum_piece_on = or_on (want.One class.Close) close_on (or_on (want.One class.Semicolon) empty_on (or_on (want.One class.Option) option_on (or_on (want.One class.Reserved) enum_reserved_on (value_on) refl refl) refl refl) refl refl) refl refl
 
-pub piece_on : IsOn elsewhere begins_elsewhere piece_at
-unfolding piece_at
+pub piece_on : IsOn elsewhere begins_elsewhere inner_piece_at
+unfolding inner_piece_at
 piece_on = or_on (want.One class.Close) close_on (or_on (want.One class.Semicolon) empty_on (or_on (want.One class.Message) message_on (or_on (want.One class.Oneof) oneof_on (or_on (want.One class.Enum) enum_on (or_on (want.One class.Service) service_on (or_on (want.One class.Syntax) syntax_on (or_on (want.One class.Import) import_on (or_on (want.One class.Package) package_on (or_on (want.One class.Option) option_on (or_on (want.One class.Map) map_field_on (or_on (want.One class.Reserved) reserved_on (or_on (want.One class.Extensions) extensions_on (or_on (want.One class.Rpc) method_on (or_on (want.One class.Extend) extend_on (field_on) refl refl) refl refl) refl refl) refl refl) refl refl) refl refl) refl refl) refl refl) refl refl) refl refl) refl refl) refl refl) refl refl) refl refl) refl refl

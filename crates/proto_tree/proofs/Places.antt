@@ -1,6 +1,6 @@
 -- Where a file goes wrong (for the crates above).
 use Rattle.std.proofs.Common.{◌≡◌, ℕ, zero, suc, ◌+◌, ◌-◌, ◌≤◌, Bool, true, false, cond, List, [], ◌∷◌, ◌++◌, length, Option, Some, None, refl, sym, ap, subst, ◌∙◌, append_assoc, arith}
-use Rattle.proto_tree.specs.Common.{Class, Lexeme, Piece, Context, Kind, fits, is_brace, Fit, flat_piece, kind_of, field_kind, statement_kind, header_kind, allows, after, moved, Walk, any_piece_in, piece_in, open_after, open_from, closers}
+use Rattle.proto_tree.specs.Common.{Class, Lexeme, Piece, Context, Kind, fits, is_brace, Fit, flat_piece, kind_of, field_kind, statement_kind, header_kind, allows, after, moved_contexts, Walk, any_piece_in, piece_in, open_after, open_from, closers}
 use Rattle.proto_tree.specs.declared.class.Class.TheVariants as class
 use Rattle.proto_tree.specs.declared.class.Want.TheVariants as want
 use Rattle.proto_tree.specs.declared.piece.Statement.TheVariants as statement
@@ -124,7 +124,7 @@ abbrev pub depth : List Context → ℕ
 depth [] = 0
 depth (c ∷ from) = length from
 
-piece_open : (u : Piece) (c : Context) (from : List Context) (t r : List Lexeme) → HasEnd u t → open_from (length from) (t ++ r) ≡ open_from (depth (moved c u from)) r
+piece_open : (u : Piece) (c : Context) (from : List Context) (t r : List Lexeme) → HasEnd u t → open_from (length from) (t ++ r) ≡ open_from (depth (moved_contexts c u from)) r
 piece_open (piece.Statement s) c from t r h = calm_open t r (length from) h
 piece_open (piece.Open h i) c from t r e =
     let step : open_from (length from) (e.front ++ (e.last ∷ r)) ≡ open_from (open_after (length from) e.last.class) r = calm_open e.front (e.last ∷ r) (length from) e.calm in
@@ -144,7 +144,7 @@ walk_open (u ∷ us) [] to s w fit = absurd w
 walk_open (u ∷ us) (c ∷ from) to s w fit =
     let p = Fit-split (flat_piece u) (flats us) s fit in
     let one = piece_open u c from p.0 p.1 ((laws c).end u w.0 p.0 p.3) in
-    ap (λ t. open_from (length from) t) p.2 ∙ one ∙ walk_open us (moved c u from) to p.1 w.1 p.4
+    ap (λ t. open_from (length from) t) p.2 ∙ one ∙ walk_open us (moved_contexts c u from) to p.1 w.1 p.4
 
 -- ---- every open block can be closed
 
@@ -157,7 +157,7 @@ nested_after : (c : Context) (k : Kind) (from : List Context) → IsNested (c �
 nested_after c k [] h = tt
 nested_after c k (d ∷ from) h = (ap (λ e. allows e kind.Close) (after_inner c k h.0) ∙ h.0, h.1)
 
-nested_moved : (u : Piece) (c : Context) (from : List Context) → IsNested (c ∷ from) → IsNested (moved c u from)
+nested_moved : (u : Piece) (c : Context) (from : List Context) → IsNested (c ∷ from) → IsNested (moved_contexts c u from)
 nested_moved (piece.Statement s) c from h = nested_after c (statement_kind s) from h
 nested_moved (piece.Open h i) c from n = (inside_inner h, nested_after c (header_kind h) from n)
 nested_moved (piece.Close i) c [] h = tt
@@ -166,7 +166,7 @@ nested_moved (piece.Close i) c (d ∷ from) h = h.1
 pub nested_walk : (us : List Piece) (from to : List Context) → IsNested from → Walk from us to → IsNested to
 nested_walk [] from to h w = subst (λ x. IsNested x) w h
 nested_walk (u ∷ us) [] to h w = absurd w
-nested_walk (u ∷ us) (c ∷ from) to h w = nested_walk us (moved c u from) to (nested_moved u c from h) w.1
+nested_walk (u ∷ us) (c ∷ from) to h w = nested_walk us (moved_contexts c u from) to (nested_moved u c from h) w.1
 
 abbrev pub closings : ℕ → List Piece
 closings zero = []
@@ -183,4 +183,4 @@ closings_walk (d ∷ from) c h = let r = closings_walk from d h.1 in (r.0, (h.0,
 pub walk_append : (us vs : List Piece) (from mid to : List Context) → Walk from us mid → Walk mid vs to → Walk from (us ++ vs) to
 walk_append [] vs from mid to w v = subst (λ x. Walk x vs to) (sym w) v
 walk_append (u ∷ us) vs [] mid to w v = absurd w
-walk_append (u ∷ us) vs (c ∷ from) mid to w v = (w.0, walk_append us vs (moved c u from) mid to w.1 v)
+walk_append (u ∷ us) vs (c ∷ from) mid to w v = (w.0, walk_append us vs (moved_contexts c u from) mid to w.1 v)

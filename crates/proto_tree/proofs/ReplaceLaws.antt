@@ -2,12 +2,12 @@
 use Rattle.std.proofs.Common.{◌≡◌, ℕ, suc, ◌+◌, ◌<◌, List, [], ◌∷◌, ◌++◌, length, map, refl, sym, ap, subst, ◌∙◌, arith, append_assoc, length-append}
 use Rattle.proto_text.specs.Tokens.{Lexeme}
 use Rattle.proto_tree.specs.declared.class.Class.TheVariants as class
-use Rattle.proto_tree.specs.Common.{Lexeme as Classed, Context, Mark, one, Fit, flat_statement, flat_header, Tree, End, Leaf, Block, flat, statement_kind, header_kind, after, inside, IsWellFormed, last_of, joined, class_by, classes, Move, shift, move_tree}
+use Rattle.proto_tree.specs.Common.{Lexeme as Classed, Context, Mark, one, Fit, flat_statement, flat_header, Tree, End, Leaf, Block, flat, statement_kind, header_kind, after, inside, IsWellFormed, last_of, joined_trees, class_by, classes, Move, shift, move_tree}
 use Rattle.proto_tree.specs.declared.context.Context.TheVariants as context
-use Rattle.proto_tree.specs.Replaced.{IsReplaced, Here, Later, Inside, Behind, before, StatementsAreReplaced}
+use Rattle.proto_tree.specs.Replaced.{ItemsAreReplaced, Here, Later, Inside, Behind, tokens_before, StatementsAreReplaced}
 use Rattle.proto_tree.proofs.Exact.{Fit-join}
 use Rattle.proto_tree.proofs.Nodes.{flat-joined, joined-fine}
-use Rattle.proto_tree.proofs.MoveLaws.{map_append, flat_moved, well_formed_moved}
+use Rattle.proto_tree.proofs.MoveLaws.{shift_append, flat_moved, well_formed_moved}
 
 -- ---- marks before and behind the place
 
@@ -21,7 +21,7 @@ record IsAround (g : Move) (a b t u : Tree) (n : ℕ) : Type 0 where
 pub regroup : (x y z w : List Mark) → x ++ (y ++ (z ++ w)) ≡ (x ++ y) ++ (z ++ w)
 regroup x y z w = sym (append_assoc x y (z ++ w))
 
-around : (g : Move) (a b : Tree) (c : Context) (t u : Tree) (r : IsReplaced g a b c t u) → IsAround g a b t u (before r)
+around : (g : Move) (a b : Tree) (c : Context) (t u : Tree) (r : ItemsAreReplaced g a b c t u) → IsAround g a b t u (tokens_before r)
 around g a b _ t u (Here c rest fine last) = record {
   front = [];
   back = flat rest;
@@ -50,7 +50,7 @@ around g a b _ t u (Inside c k i x y j rest r) =
       old = ap (λ (ms : List Mark). head ++ (ms ++ tail)) h.old ∙ ap (λ (ms : List Mark). head ++ ms) (append_assoc h.front (flat a ++ h.back) tail ∙ ap (λ (ms : List Mark). h.front ++ ms) (append_assoc (flat a) h.back tail)) ∙ regroup head h.front (flat a) (h.back ++ tail);
       new = ap (λ (ms : List Mark). head ++ (ms ++ (one class.Close (g j) ++ flat (move_tree g rest)))) h.new
           ∙ ap (λ (ms : List Mark). head ++ ((h.front ++ (flat b ++ map (shift g) h.back)) ++ ms)) moved
-          ∙ ap (λ (ms : List Mark). head ++ ms) (append_assoc h.front (flat b ++ map (shift g) h.back) (map (shift g) tail) ∙ ap (λ (ms : List Mark). h.front ++ ms) (append_assoc (flat b) (map (shift g) h.back) (map (shift g) tail) ∙ ap (λ (ms : List Mark). flat b ++ ms) (sym (map_append g h.back tail))))
+          ∙ ap (λ (ms : List Mark). head ++ ms) (append_assoc h.front (flat b ++ map (shift g) h.back) (map (shift g) tail) ∙ ap (λ (ms : List Mark). h.front ++ ms) (append_assoc (flat b) (map (shift g) h.back) (map (shift g) tail) ∙ ap (λ (ms : List Mark). flat b ++ ms) (sym (shift_append g h.back tail))))
           ∙ regroup head h.front (flat b) (map (shift g) (h.back ++ tail));
     }
 around g a b _ t u (Behind c k i within j x y r) =
@@ -67,12 +67,12 @@ around g a b _ t u (Behind c k i within j x y r) =
 
 -- ---- what stands where
 
-pub behind_fine : (a rest : Tree) (c : Context) → IsWellFormed c (joined a rest) → IsWellFormed (last_of c a) rest
+pub behind_fine : (a rest : Tree) (c : Context) → IsWellFormed c (joined_trees a rest) → IsWellFormed (last_of c a) rest
 behind_fine End rest c h = h
 behind_fine (Leaf s a) rest c h = behind_fine a rest (after c (statement_kind s)) h.1
 behind_fine (Block k i within j a) rest c h = behind_fine a rest (after c (header_kind k)) h.2
 
-replaced_fine : (g : Move) (a b : Tree) (c : Context) (t u : Tree) → IsReplaced g a b c t u → IsWellFormed c t → IsWellFormed c u
+replaced_fine : (g : Move) (a b : Tree) (c : Context) (t u : Tree) → ItemsAreReplaced g a b c t u → IsWellFormed c t → IsWellFormed c u
 replaced_fine g a b _ t u (Here c rest fine last) h =
     joined-fine b (move_tree g rest) c fine (subst (λ d. IsWellFormed d (move_tree g rest)) (sym last) (well_formed_moved g (last_of c a) rest (behind_fine a rest c h)))
 replaced_fine g a b _ t u (Later c s x y r) h = (h.0, replaced_fine g a b (after c (statement_kind s)) x y r h.1)

@@ -21,7 +21,7 @@ use Rattle.proto_tree.specs.declared.files.Unread.{Unread}
 use Rattle.proto_tree.specs.declared.files.Unread.TheVariants as unread
 use Rattle.proto_tree.specs.Flat.{one, Fit}
 use Rattle.proto_tree.specs.Tree.{Tree, End, Leaf, Block, flat, IsWellFormed, Spells, statement_kind, allows, inside, last_of}
-use Rattle.proto_tree.specs.Place.{IsPlace, IsShallow, IsTooDeep}
+use Rattle.proto_tree.specs.Place.{IsLongestFront, IsShallow, IsTooDeep}
 use Rattle.proto_tree.specs.Walk.{any_piece_in, IsStuck}
 
 -- a tree's tokens stand at the front
@@ -113,6 +113,6 @@ extended e i fields j = record {
 -- why a file has no tree, by the index of a token
 abbrev pub IsUnread : List Lexeme → Unread → Type 0
 IsUnread tokens (unread.Syntax k) =
-    IsShallow tokens × ((t : Tree) → Spells t tokens → ⊥) × IsPlace tokens k
+    IsShallow tokens × ((t : Tree) → Spells t tokens → ⊥) × IsLongestFront tokens k
 IsUnread tokens (unread.TooDeep k) = IsTooDeep tokens k
 IsUnread tokens unread.Memory = Unit {0}

@@ -70,8 +70,8 @@ abbrev pub name : ℕ → List Mark
 name i = only want.Name i
 
 -- any string
-abbrev pub text : ℕ → List Mark
-text i = only want.Text i
+abbrev pub text_mark : ℕ → List Mark
+text_mark i = only want.Text i
 
 -- the tokens are those of the marks: each is what is wanted, and has the index that the tree holds
 abbrev pub Fit : List Mark → List Lexeme → Type 0
@@ -135,7 +135,7 @@ flat_signed n = flat_option (one class.Minus) n.minus ++ one class.Number n.numb
 
 -- one or more strings, one behind another, which join to one text
 abbrev pub flat_joined : Joined → List Mark
-flat_joined t = text t.first ++ flat_all text t.rest
+flat_joined t = text_mark t.first ++ flat_all text_mark t.rest
 
 -- the value of an option: a word, a number that may have a `-`, or strings
 abbrev pub flat_constant : Constant → List Mark
@@ -174,7 +174,7 @@ abbrev pub flat_import : Import → List Mark
 flat_import i =
     one class.Import i.keyword
     ++ (flat_option (one class.Public) i.public
-    ++ (text i.path ++ one class.Semicolon i.semicolon))
+    ++ (text_mark i.path ++ one class.Semicolon i.semicolon))
 
 -- a package statement: `package`, words joined by dots, and `;`
 abbrev pub flat_package : Package → List Mark
@@ -227,7 +227,7 @@ flat_ranges flat r = flat_separated class.Comma (flat_range flat) r
 
 -- what is reserved: strings that say names, or ranges, with a comma between each two
 abbrev pub flat_reserved_list : {N : Type 0} → (N → List Mark) → ReservedList N → List Mark
-flat_reserved_list flat (reserved_list.Names names) = flat_separated class.Comma text names
+flat_reserved_list flat (reserved_list.Names names) = flat_separated class.Comma text_mark names
 flat_reserved_list flat (reserved_list.Ranges ranges) = flat_ranges flat ranges
 
 -- a `reserved` statement: `reserved`, names or ranges, and `;`

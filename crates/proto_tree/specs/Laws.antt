@@ -18,7 +18,7 @@ use Rattle.proto_tree.specs.Flat.{Mark, flat_reference, flat_statement, flat_hea
 use Rattle.proto_tree.specs.Tree.{Tree, End, Leaf, Block, flat, Spells}
 use Rattle.proto_tree.specs.Place.{IsShallow}
 use Rattle.proto_tree.specs.Words.{class_by, classes}
-use Rattle.proto_tree.specs.Reads.{Reads, IsFault}
+use Rattle.proto_tree.specs.Reads.{Reads, IsParseFault}
 use Rattle.proto_tree.specs.References.{dotted, first_of, word_token}
 
 -- ---- one tree, or one fault
@@ -33,13 +33,13 @@ OneTree =
 abbrev pub OneFault : Type 0
 OneFault =
     (text : Text) (tokens : List Token) (a b : ParseFault)
-    → IsFault text tokens a → IsFault text tokens b → a ≡ b
+    → IsParseFault text tokens a → IsParseFault text tokens b → a ≡ b
 
 -- A text of which a tree is read has no fault.
 abbrev pub NoFaultWithTree : Type 0
 NoFaultWithTree =
     (text : Text) (tokens : List Token) (t : Tree) (f : ParseFault)
-    → Reads text tokens t → IsFault text tokens f → ⊥
+    → Reads text tokens t → IsParseFault text tokens f → ⊥
 
 -- ---- other words in the place of words
 

@@ -30,7 +30,7 @@ abbrev pub IsGoodFront : List Lexeme → ℕ → Type 0
 IsGoodFront tokens k = (t : Tree) × Spells t (take k tokens ++ closers (open_in (take k tokens)))
 
 -- k is the longest good front
-pub record IsPlace (tokens : List Lexeme) (k : ℕ) : Type 0 where
+pub record IsLongestFront (tokens : List Lexeme) (k : ℕ) : Type 0 where
   pub within : k ≤ length tokens
   pub good : IsGoodFront tokens k
   pub longest : (m : ℕ) → k < m → m ≤ length tokens → IsGoodFront tokens m → ⊥

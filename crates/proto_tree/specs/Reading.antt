@@ -384,8 +384,8 @@ heading_at c = made (λ x. (record { keyword = x.0; name = x.1.0 }, x.1.1))
     (one_token c then token want.Name then one_token class.Open)
 
 -- reads the beginning of a block by its keyword: a keyword, a name and a brace
-abbrev pub opened : (Heading → Header) → Class → Reader Piece
-opened make c = made (λ x. piece.Open (make x.0) x.1) (heading_at c)
+abbrev pub block_start : (Heading → Header) → Class → Reader Piece
+block_start make c = made (λ x. piece.Open (make x.0) x.1) (heading_at c)
 
 -- `extend`, what it extends and a brace
 abbrev pub extend_at : Reader (Extending × ℕ)
@@ -428,13 +428,13 @@ enum_piece_at =
     (stated statement.Value value_at))))
 
 -- what may stand elsewhere
-unfoldable pub piece_at : Reader Piece
-piece_at =
+unfoldable pub inner_piece_at : Reader Piece
+inner_piece_at =
     on class.Close close_at (on class.Semicolon empty_at
-    (on class.Message (opened header.Message class.Message)
-    (on class.Oneof (opened header.Oneof class.Oneof)
-    (on class.Enum (opened header.Enum class.Enum)
-    (on class.Service (opened header.Service class.Service)
+    (on class.Message (block_start header.Message class.Message)
+    (on class.Oneof (block_start header.Oneof class.Oneof)
+    (on class.Enum (block_start header.Enum class.Enum)
+    (on class.Service (block_start header.Service class.Service)
     (on class.Syntax (stated statement.Syntax syntax_at)
     (on class.Import (stated statement.Import import_at)
     (on class.Package (stated statement.Package package_at)

@@ -10,7 +10,7 @@ use Rattle.proto_tree.specs.declared.parsing.ParseFault.TheVariants as fault
 use Rattle.proto_tree.specs.declared.tree.File.{File}
 use Rattle.proto_tree.specs.File.{tree_of_file}
 use Rattle.proto_tree.specs.Tree.{Tree, Spells}
-use Rattle.proto_tree.specs.Place.{IsPlace, IsShallow, IsTooDeep}
+use Rattle.proto_tree.specs.Place.{IsLongestFront, IsShallow, IsTooDeep}
 use Rattle.proto_tree.specs.Words.{classes}
 
 -- the tokens of a text as the grammar sees them
@@ -35,7 +35,7 @@ pub record IsSyntaxAt (text : Text) (tokens : List Token) (offset : ℕ) : Type 
   pub shallow : IsShallow (classed text tokens)
   pub no_tree : (t : Tree) → Spells t (classed text tokens) → ⊥
   pub at : ℕ
-  pub place : IsPlace (classed text tokens) at
+  pub place : IsLongestFront (classed text tokens) at
   pub offset_is : offset ≡ place_at text tokens at
 
 -- the brace at the offset is the first that is one too many
@@ -45,15 +45,15 @@ pub record IsTooDeepAt (text : Text) (tokens : List Token) (offset : ℕ) : Type
   pub offset_is : offset ≡ place_at text tokens at
 
 -- what is wrong with a file, and where; want of memory is no fault of the file
-abbrev pub IsFault : Text → List Token → ParseFault → Type 0
-IsFault text tokens (fault.Syntax offset) = IsSyntaxAt text tokens offset
-IsFault text tokens (fault.TooDeep offset) = IsTooDeepAt text tokens offset
-IsFault text tokens fault.NoMemory = ⊥
+abbrev pub IsParseFault : Text → List Token → ParseFault → Type 0
+IsParseFault text tokens (fault.Syntax offset) = IsSyntaxAt text tokens offset
+IsParseFault text tokens (fault.TooDeep offset) = IsTooDeepAt text tokens offset
+IsParseFault text tokens fault.NoMemory = ⊥
 
 -- the same, or want of memory
 abbrev pub is_fault_or_memory : Text → List Token → ParseFault → Type 0
 is_fault_or_memory text tokens fault.NoMemory = Unit {0}
-is_fault_or_memory text tokens f = IsFault text tokens f
+is_fault_or_memory text tokens f = IsParseFault text tokens f
 
 -- what reading the tokens of a text answers
 abbrev pub IsParsed : Text → List Token → Result File ParseFault → Type 0

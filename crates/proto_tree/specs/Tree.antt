@@ -173,12 +173,12 @@ pub record Spells (tree : Tree) (tokens : List Lexeme) : Type 0 where
   pub fits : Fit (flat tree) tokens
 
 -- one tree behind another
-abbrev pub joined : Tree → Tree → Tree
-joined End u = u
-joined (Leaf s rest) u = Leaf s (joined rest u)
-joined (Block h i within j rest) u = Block h i within j (joined rest u)
+abbrev pub joined_trees : Tree → Tree → Tree
+joined_trees End u = u
+joined_trees (Leaf s rest) u = Leaf s (joined_trees rest u)
+joined_trees (Block h i within j rest) u = Block h i within j (joined_trees rest u)
 
 -- trees, one behind another
 abbrev pub all_joined : List Tree → Tree
 all_joined [] = End
-all_joined (t ∷ ts) = joined t (all_joined ts)
+all_joined (t ∷ ts) = joined_trees t (all_joined ts)

@@ -63,7 +63,7 @@ fn ending(rest: &[Lexeme]) -> Result<(Ending, &[Lexeme]), Stop>
     Ok((Ending::Open(at), rest))
 }
 
-fn ended(signature: Signature, ending: Ending) -> Piece
+fn method_piece(signature: Signature, ending: Ending) -> Piece
     ensures { result ≡ method_piece signature ending }
 {
     match ending {
@@ -80,5 +80,5 @@ pub fn method(alloc: Global, rest: &[Lexeme]) -> Result<(Piece, &[Lexeme]), Stop
 {
     let (signature, rest) = signature(alloc, rest)?;
     let (ending, rest) = ending(rest)?;
-    Ok((ended(signature, ending), rest))
+    Ok((method_piece(signature, ending), rest))
 }

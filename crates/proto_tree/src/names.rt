@@ -3,29 +3,29 @@
 ghost use Rattle.proto_tree.specs.Reading.{Gives, dotted_at, named_at, package_name_at, reference_at, type_at};
 
 use crate::class::{Class, Lexeme, Want};
-use crate::reading::{Stop, first, separated, starts};
+use crate::reading::{Stop, first, separated_items, starts};
 use crate::tree::{Dotted, FieldType, Reference};
 use std::alloc::Global;
 
 /// Words joined by dots.
-pub fn dotted(alloc: Global, rest: &[Lexeme]) -> Result<(Dotted, &[Lexeme]), Stop>
+pub fn dotted_words(alloc: Global, rest: &[Lexeme]) -> Result<(Dotted, &[Lexeme]), Stop>
     ensures { Gives (λ x. (x.0, x.1.now)) result (dotted_at rest.now) }
 {
-    separated(alloc, rest, Class::Dot, Want::Word, Want::Word)
+    separated_items(alloc, rest, Class::Dot, Want::Word, Want::Word)
 }
 
 /// The words that name a package.
 pub fn package_name(alloc: Global, rest: &[Lexeme]) -> Result<(Dotted, &[Lexeme]), Stop>
     ensures { Gives (λ x. (x.0, x.1.now)) result (package_name_at rest.now) }
 {
-    separated(alloc, rest, Class::Dot, Want::Name, Want::Name)
+    separated_items(alloc, rest, Class::Dot, Want::Name, Want::Name)
 }
 
 /// Words joined by dots, the first of which is not a listed one.
-fn named(alloc: Global, rest: &[Lexeme]) -> Result<(Dotted, &[Lexeme]), Stop>
+fn unlisted_name(alloc: Global, rest: &[Lexeme]) -> Result<(Dotted, &[Lexeme]), Stop>
     ensures { Gives (λ x. (x.0, x.1.now)) result (named_at rest.now) }
 {
-    separated(alloc, rest, Class::Dot, Want::One(Class::Name), Want::Word)
+    separated_items(alloc, rest, Class::Dot, Want::One(Class::Name), Want::Word)
 }
 
 /// A reference, with a dot before it or without.
@@ -35,7 +35,7 @@ pub fn reference(alloc: Global, rest: &[Lexeme]) -> Result<(Reference, &[Lexeme]
 {
     if starts(rest, Want::One(Class::Dot)) {
         let (dot, rest) = first(rest, Want::One(Class::Dot));
-        let (words, rest) = dotted(alloc, rest)?;
+        let (words, rest) = dotted_words(alloc, rest)?;
         return Ok((
             Reference {
                 dot: Some(dot),
@@ -44,7 +44,7 @@ pub fn reference(alloc: Global, rest: &[Lexeme]) -> Result<(Reference, &[Lexeme]
             rest,
         ));
     }
-    let (words, rest) = named(alloc, rest)?;
+    let (words, rest) = unlisted_name(alloc, rest)?;
     Ok((Reference { dot: None, words }, rest))
 }
 

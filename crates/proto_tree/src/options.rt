@@ -6,13 +6,13 @@ ghost use Rattle.proto_tree.specs.Reading.{Gives, starts, stated, token, many, s
 use crate::class::{Class, Lexeme, Want};
 use crate::list::Sequence;
 use crate::piece::{Piece, Statement};
-use crate::reading::{Listed, Stop, first, one, option, separated, starts, take, three};
+use crate::reading::{Listed, Stop, first, one, option, separated_items, starts, take, three};
 use crate::tree::{Constant, Joined, Option_, Setting, Settings, Signed};
 use std::alloc::Global;
 
 /// A number, with a `-` before it where there is one.
 #[tactic(auto, unfolding(crate::specs::Reading::signed_at))]
-pub fn signed(rest: &[Lexeme]) -> Result<(Signed, &[Lexeme]), Stop>
+pub fn signed_number(rest: &[Lexeme]) -> Result<(Signed, &[Lexeme]), Stop>
     ensures { Gives (λ x. (x.0, x.1.now)) result (signed_at rest.now) }
 {
     let (minus, rest) = option(rest, Want::One(Class::Minus));
@@ -37,7 +37,7 @@ fn more_texts(alloc: Global, tokens: &[Lexeme]) -> Result<(Sequence<u32>, &[Lexe
 }
 
 #[tactic(auto, unfolding(crate::specs::Reading::joined_at))]
-fn joined(alloc: Global, rest: &[Lexeme]) -> Result<(Joined, &[Lexeme]), Stop>
+fn joined_texts(alloc: Global, rest: &[Lexeme]) -> Result<(Joined, &[Lexeme]), Stop>
     requires { starts Want.Text rest.now ≡ true }
     ensures { Gives (λ x. (x.0, x.1.now)) result (joined_at rest.now) }
 {
@@ -56,10 +56,10 @@ fn constant(alloc: Global, rest: &[Lexeme]) -> Result<(Constant, &[Lexeme]), Sto
         return Ok((Constant::Word(word), rest));
     }
     if starts(rest, Want::Text) {
-        let (text, rest) = joined(alloc, rest)?;
+        let (text, rest) = joined_texts(alloc, rest)?;
         return Ok((Constant::Text(text), rest));
     }
-    let (number, rest) = signed(rest)?;
+    let (number, rest) = signed_number(rest)?;
     Ok((Constant::Number(number), rest))
 }
 
@@ -100,7 +100,7 @@ pub fn settings(alloc: Global, rest: &[Lexeme]) -> Result<(Option<Settings>, &[L
     }
     let (open, rest) = first(rest, Want::One(Class::LeftBracket));
     let name = Want::OptionName;
-    let (list, rest) = separated(alloc, rest, Class::Comma, name, name)?;
+    let (list, rest) = separated_items(alloc, rest, Class::Comma, name, name)?;
     let (close, rest) = one(rest, Class::RightBracket)?;
     Ok((Some(Settings { open, list, close }), rest))
 }

@@ -4,7 +4,7 @@ ghost use Rattle.std.specs.Prelude.{◌≡◌, ◌⊎◌, IfOk, IfErr, IsErrAnd,
 ghost use Rattle.proto_text.specs.Tokens.{AreTokens};
 ghost use Rattle.proto_tree.specs.declared.parsing.ParseFault.TheVariants.{NoMemory};
 ghost use Rattle.proto_tree.specs.File.{tree_of_file};
-ghost use Rattle.proto_tree.specs.Reads.{Reads, IsFault, IsParsed, is_fault_or_memory, fault_offset, fault_number, fault_name};
+ghost use Rattle.proto_tree.specs.Reads.{Reads, IsParseFault, IsParsed, is_fault_or_memory, fault_offset, fault_number, fault_name};
 ghost use Rattle.proto_tree.specs.Tree.{Tree};
 
 use crate::classing::{lexemes, place};
@@ -102,7 +102,7 @@ pub fn parse(alloc: Global, source: &Source, tokens: &[Token]) -> Result<File, P
     // Where there is none, or too many braces are open, which fault it is, and where.
     ensures fault { IfErr result (is_fault_or_memory source.now tokens.now) }
     // There is no other fault.
-    ensures only_fault { (f : ParseFault) → IsFault source.now tokens.now f
+    ensures only_fault { (f : ParseFault) → IsParseFault source.now tokens.now f
         → IsErrAnd result (λ e. (e ≡ f) ⊎ (e ≡ NoMemory)) }
 {
     read(alloc, source, tokens)

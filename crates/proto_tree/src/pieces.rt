@@ -1,7 +1,7 @@
 //! Reading a piece: a statement, or what begins or ends a block.
 
 ghost use Rattle.std.specs.Prelude.{◌≡◌, true};
-ghost use Rattle.proto_tree.specs.Reading.{Gives, starts, stated, one_token, reserved_at, header_of, opened, extending_at, close_at, empty_at, enum_piece_at, piece_at};
+ghost use Rattle.proto_tree.specs.Reading.{Gives, starts, stated, one_token, reserved_at, header_of, block_start, extending_at, close_at, empty_at, enum_piece_at, inner_piece_at};
 ghost use Rattle.proto_tree.specs.Walk.{any_piece_in};
 
 use crate::class::{Class, Lexeme, Want};
@@ -10,7 +10,7 @@ use crate::methods::method;
 use crate::names::reference;
 use crate::options::option_statement;
 use crate::piece::{Extending, Header, Heading, Piece, Statement};
-use crate::ranges::{extensions, reserved};
+use crate::ranges::{extensions, reserved_statement};
 use crate::reading::{Stop, first, one, starts, three};
 use crate::statements::{field, import, map_field, package, syntax, value};
 use std::alloc::Global;
@@ -29,7 +29,7 @@ fn header_of(class: Class, heading: Heading) -> Header
 
 /// A keyword, a name and a brace.
 fn opening(rest: &[Lexeme], class: Class) -> Result<(Piece, &[Lexeme]), Stop>
-    ensures { Gives (λ x. (x.0, x.1.now)) result (opened (header_of class) class rest.now) }
+    ensures { Gives (λ x. (x.0, x.1.now)) result (block_start (header_of class) class rest.now) }
 {
     let open = Want::One(Class::Open);
     let ((keyword, name, open), rest) = three(rest, Want::One(class), Want::Name, open)?;
@@ -67,7 +67,7 @@ fn enum_piece(alloc: Global, rest: &[Lexeme]) -> Result<(Piece, &[Lexeme]), Stop
         return option_statement(alloc, rest);
     }
     if starts(rest, Want::One(Class::Reserved)) {
-        let (reserved, rest) = reserved(alloc, rest)?;
+        let (reserved, rest) = reserved_statement(alloc, rest)?;
         return Ok((Piece::Statement(Statement::EnumReserved(reserved)), rest));
     }
     value(alloc, rest)
@@ -78,7 +78,7 @@ fn reserved_piece(alloc: Global, rest: &[Lexeme]) -> Result<(Piece, &[Lexeme]), 
     ensures { Gives (λ x. (x.0, x.1.now)) result
         (stated Statement.Reserved (reserved_at (one_token Class.Number)) rest.now) }
 {
-    let (reserved, rest) = reserved(alloc, rest)?;
+    let (reserved, rest) = reserved_statement(alloc, rest)?;
     Ok((Piece::Statement(Statement::Reserved(reserved)), rest))
 }
 
@@ -95,9 +95,9 @@ fn extending(alloc: Global, rest: &[Lexeme]) -> Result<(Piece, &[Lexeme]), Stop>
     Ok((Piece::Open(Header::Extend(extending), open), rest))
 }
 
-#[tactic(auto, unfolding(crate::specs::Reading::piece_at))]
+#[tactic(auto, unfolding(crate::specs::Reading::inner_piece_at))]
 fn piece(alloc: Global, rest: &[Lexeme]) -> Result<(Piece, &[Lexeme]), Stop>
-    ensures { Gives (λ x. (x.0, x.1.now)) result (piece_at rest.now) }
+    ensures { Gives (λ x. (x.0, x.1.now)) result (inner_piece_at rest.now) }
 {
     match rest {
         [first, ..] => match first.class {

@@ -4,9 +4,9 @@ ghost use Rattle.std.specs.Prelude.{◌≡◌, true};
 ghost use Rattle.proto_tree.specs.Reading.{Gives, starts, stated, maybe, range_end_at, up_to_at, range_at, ranges_at, reserved_list_at, reserved_at, extensions_at};
 
 use crate::class::{Class, Lexeme, Want};
-use crate::options::signed;
+use crate::options::signed_number;
 use crate::piece::{Piece, Statement};
-use crate::reading::{Listed, Stop, first, one, separated, starts};
+use crate::reading::{Listed, Stop, first, one, separated_items, starts};
 use crate::tree::{Extensions, Range, RangeEnd, Reserved, ReservedList, Separated, Signed, UpTo};
 use std::alloc::Global;
 
@@ -39,7 +39,7 @@ impl Numeral for Signed {
     ghost number_at = { signed_at };
 
     fn number(rest: &[Lexeme]) -> Result<(Self, &[Lexeme]), Stop> {
-        signed(rest)
+        signed_number(rest)
     }
 }
 
@@ -94,7 +94,7 @@ fn ranges<N: Numeral>(
     ensures { Gives (λ x. (x.0, x.1.now)) result (ranges_at N.number_at rest.now) }
 {
     let number = Want::One(Class::Number);
-    separated(alloc, rest, Class::Comma, number, number)
+    separated_items(alloc, rest, Class::Comma, number, number)
 }
 
 #[tactic(auto, unfolding(crate::specs::Reading::reserved_list_at))]
@@ -106,7 +106,7 @@ fn reserved_list<N: Numeral>(
         (reserved_list_at N.number_at rest.now) }
 {
     if starts(rest, Want::Text) {
-        let (names, rest) = separated(alloc, rest, Class::Comma, Want::Text, Want::Text)?;
+        let (names, rest) = separated_items(alloc, rest, Class::Comma, Want::Text, Want::Text)?;
         return Ok((ReservedList::Names(names), rest));
     }
     let (ranges, rest) = ranges(alloc, rest)?;
@@ -115,7 +115,7 @@ fn reserved_list<N: Numeral>(
 
 /// `reserved 1, 3 to max;` or `reserved "a", "b";`
 #[tactic(auto, unfolding(crate::specs::Reading::reserved_at))]
-pub fn reserved<N: Numeral>(
+pub fn reserved_statement<N: Numeral>(
     alloc: Global,
     rest: &[Lexeme],
 ) -> Result<(Reserved<N>, &[Lexeme]), Stop>

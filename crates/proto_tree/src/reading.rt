@@ -152,7 +152,7 @@ fn more_items<T: Listed>(
 
 /// A list with separators, whose first item may begin with something else.
 #[tactic(auto, unfolding(crate::specs::Reading::from_at))]
-pub fn separated<T: Listed>(
+pub fn separated_items<T: Listed>(
     alloc: Global,
     rest: &[Lexeme],
     separator: Class,

@@ -78,7 +78,7 @@ struct NumberAndSettings<N: Drop> {
     semicolon: u32,
 }
 
-fn numbered<N: Numeral>(
+fn number_and_settings<N: Numeral>(
     alloc: Global,
     rest: &[Lexeme],
     name: Want,
@@ -116,7 +116,7 @@ pub fn field(alloc: Global, rest: &[Lexeme]) -> Result<(Piece, &[Lexeme]), Stop>
 {
     let (label, rest) = option(rest, Want::Label);
     let (kind, rest) = field_type(alloc, rest)?;
-    let (numbered, rest) = numbered::<u32>(alloc, rest, Want::Name)?;
+    let (numbered, rest) = number_and_settings::<u32>(alloc, rest, Want::Name)?;
     let field = Field {
         label,
         kind,
@@ -142,7 +142,7 @@ pub fn map_field(alloc: Global, rest: &[Lexeme]) -> Result<(Piece, &[Lexeme]), S
     let ((open, key, comma), rest) = three(rest, less, scalar, comma)?;
     let (value, rest) = field_type(alloc, rest)?;
     let (close, rest) = one(rest, Class::Greater)?;
-    let (numbered, rest) = numbered::<u32>(alloc, rest, Want::Name)?;
+    let (numbered, rest) = number_and_settings::<u32>(alloc, rest, Want::Name)?;
     let field = MapField {
         keyword,
         open,
@@ -164,7 +164,7 @@ pub fn map_field(alloc: Global, rest: &[Lexeme]) -> Result<(Piece, &[Lexeme]), S
 pub fn value(alloc: Global, rest: &[Lexeme]) -> Result<(Piece, &[Lexeme]), Stop>
     ensures { Gives (λ x. (x.0, x.1.now)) result (stated Statement.Value value_at rest.now) }
 {
-    let (numbered, rest) = numbered::<Signed>(alloc, rest, Want::ValueName)?;
+    let (numbered, rest) = number_and_settings::<Signed>(alloc, rest, Want::ValueName)?;
     let value = Value {
         name: numbered.name,
         equals: numbered.equals,

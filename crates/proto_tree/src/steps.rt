@@ -5,7 +5,7 @@ ghost use Rattle.proto_text.specs.Tokens.{AreTokens};
 ghost use Rattle.proto_tree.specs.declared.parsing.ParseFault.{ParseFault};
 ghost use Rattle.proto_tree.specs.declared.parsing.ParseFault.TheVariants.{NoMemory};
 ghost use Rattle.proto_tree.specs.File.{tree_of_file};
-ghost use Rattle.proto_tree.specs.Reads.{IsFault, Reads, is_fault_or_memory};
+ghost use Rattle.proto_tree.specs.Reads.{IsParseFault, Reads, is_fault_or_memory};
 ghost use Rattle.proto_tree.specs.Tree.{Tree};
 
 use crate::parsing::{ParseFault, parse};
@@ -63,7 +63,7 @@ pub fn parse_counted(
     // Where there is none, or too many braces are open, which fault it is, and where.
     ensures fault { IfErr result (is_fault_or_memory source.now tokens.now) }
     // There is no other fault.
-    ensures only_fault { (f : ParseFault) → IsFault source.now tokens.now f
+    ensures only_fault { (f : ParseFault) → IsParseFault source.now tokens.now f
         → IsErrAnd result (λ e. (e ≡ f) ⊎ (e ≡ NoMemory)) }
     ensures counted { steps.new ≡ steps.old + 1 }
 {

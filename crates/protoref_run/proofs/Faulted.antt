@@ -3,7 +3,7 @@ use Rattle.std.proofs.Common.{◌≡◌, ℕ, ◌<◌, Bool, true, false, cond, 
 use Rattle.proto_files.proofs.Common.{FaultAt, IsLeastFault, FileOf, file_at, ReadFaults, ReadOf}
 use Rattle.std.proofs.lemmas.List.Sorted.{Contains-permutation, IsPermutation-sym}
 use Rattle.proto_meaning.specs.Faults.{Fault}
-use Rattle.proto_imports.proofs.Common.{StandsAt, LinkFaults, of_import, of_name, of_reference, import_found, name_found, reference_found}
+use Rattle.proto_imports.proofs.Common.{FaultStandsAt, LinkFaults, of_import, of_name, of_reference, import_found, name_found, reference_found}
 use Rattle.proto_desc.proofs.Common.{CheckFaults, of_flaw, FileFaults, of_read, of_link, of_check, WorkspaceFaults, of_path, of_files}
 use Rattle.proto_records.specs.Known.{Over}
 use Rattle.proto_store.proofs.Common.{Held, IsListed, bytes_at, equal_itself}
@@ -36,7 +36,7 @@ read_is_of_file : (files : List FileOf) (x : FaultAt) → ReadFaults files x →
 read_is_of_file files x (inl (f, inside, same, said)) = (f, inside, same)
 read_is_of_file files x (inr (f, inside, same, said)) = (f, inside, same)
 
-stands_in : (files : List FileOf) (reads : List ReadOf) (f : Fault) (x : FaultAt) → StandsAt files reads f x → f.place.file < length files → IsOfFile files x
+stands_in : (files : List FileOf) (reads : List ReadOf) (f : Fault) (x : FaultAt) → FaultStandsAt files reads f x → f.place.file < length files → IsOfFile files x
 stands_in files reads f x stands inside = (file_at files f.place.file, placed files f.place.file inside, stands.path)
 
 link_is_of_file : (files : List FileOf) (x : FaultAt) → LinkFaults files x → IsOfFile files x

@@ -7,7 +7,7 @@ use Rattle.proto_records.specs.Known.{Over}
 use Rattle.proto_desc.proofs.Common.{AreDescribed, IsSortedOf, WorkspaceFaults}
 use Rattle.proto_files.proofs.Common.{FaultAt, HasNoFault, IsLeastFault, ReadOf, AreRead, FileOf}
 use Rattle.proto_rules.specs.declared.rule_set.RuleSet.{RuleSet}
-use Rattle.proto_output.proofs.Common.{status_of, text_of, IsLineOver}
+use Rattle.proto_output.proofs.Common.{status_of, printed_text, IsLineOver}
 use Rattle.proto_output.specs.declared.answer.Answer.{Answer}
 use Rattle.proto_output.specs.declared.run_fault.RunFault.{RunFault}
 use Rattle.proto_output.specs.declared.run_fault.RunFault.TheVariants as ends
@@ -30,12 +30,12 @@ compiles None given w h sorted clean = tt
 compiles (Some held) given w h sorted clean =
     (subst (λ (z : List FileOf). IsSortedOf z w) h sorted, subst (λ (z : List FileOf). HasNoFault (WorkspaceFaults z)) h clean)
 
-told : (held : Option Held) (fault : FaultAt) (a : Answer) → Over held (λ now. IsLeastFault (WorkspaceFaults now.files) fault) → IsLineOver held fault (text_of a) → status_of a ≡ Problem → TellsFault held a
+told : (held : Option Held) (fault : FaultAt) (a : Answer) → Over held (λ now. IsLeastFault (WorkspaceFaults now.files) fault) → IsLineOver held fault (printed_text a) → status_of a ≡ Problem → TellsFault held a
 told None fault a least line s = (s, tt)
 told (Some held) fault a least line s = (s, (fault, least, line))
 
 pub tells_fault : (held : Option Held) (fault : FaultAt) (r : Result Answer RunFault) → Over held (λ now. IsLeastFault (WorkspaceFaults now.files) fault)
-    → IfOk r (λ a. IsLineOver held fault (text_of a)) → IfOk r (λ a. status_of a ≡ Problem) → IfOk r (TellsFault held)
+    → IfOk r (λ a. IsLineOver held fault (printed_text a)) → IfOk r (λ a. status_of a ≡ Problem) → IfOk r (TellsFault held)
 tells_fault held fault (Ok a) least line s = told held fault a least line s
 tells_fault held fault (Err x) least line s = tt
 
@@ -44,11 +44,11 @@ tells_fault held fault (Err x) least line s = tt
 -- over files that compile
 pub described_prints : (before after : Option Held) (w : List FileOf) (ds : List FileDesc) (r : Result Answer RunFault) → Compiles before w → after ≡ before
     → AreDescribed w ds → (reads : List ReadOf) × AreRead w reads
-    → IfOk r (λ a. text_of a ≡ json_text ds ++ codes "\n") → IfOk r (λ a. status_of a ≡ Done) → IfErr r (λ e. e ≡ ends.NoMemory) → Answers asked.Compile before after r
+    → IfOk r (λ a. printed_text a ≡ json_text ds ++ codes "\n") → IfOk r (λ a. status_of a ≡ Done) → IfErr r (λ e. e ≡ ends.NoMemory) → Answers asked.Compile before after r
 described_prints None after w ds (Ok a) opens same d e t s m = (same, tt)
 described_prints (Some held) after w ds (Ok a) opens same d e t s m = (
   same,
-  subst (λ (z : Status). PrintsCompiled held.files (text_of a) z) (sym s)
+  subst (λ (z : Status). PrintsCompiled held.files (printed_text a) z) (sym s)
       (record {
         sorted = w;
         reads = e.0;
@@ -65,7 +65,7 @@ described_prints before after w ds (Err ends.Output) opens same d e t s m = cc
 -- over others
 faulty_compiles : (before after : Option Held) (a : Answer) → TellsFault before a → after ≡ before → Answers asked.Compile before after (Ok a)
 faulty_compiles None after a tells same = (same, tt)
-faulty_compiles (Some held) after a tells same = (same, subst (λ (z : Status). PrintsCompiled held.files (text_of a) z) (sym tells.0) tells.1)
+faulty_compiles (Some held) after a tells same = (same, subst (λ (z : Status). PrintsCompiled held.files (printed_text a) z) (sym tells.0) tells.1)
 
 pub ends_uncompiled : (before after : Option Held) (x : RunFault) → (x ≡ ends.Output → ⊥) → after ≡ before → Answers asked.Compile before after (Err x)
 ends_uncompiled before after ends.Store plain same = same
@@ -79,7 +79,7 @@ uncompiled before after (Err x) tells plain same = ends_uncompiled before after 
 -- ---- lint
 
 pub linted_prints : (before after : Option Held) (w : List FileOf) (rules : RuleSet) (r : Result Answer RunFault) → Compiles before w → after ≡ before
-    → IfOk r (λ a. IsLintOf w rules.chosen (text_of a) (status_of a)) → IfErr r (λ e. e ≡ ends.NoMemory) → Answers (asked.Lint rules) before after r
+    → IfOk r (λ a. IsLintOf w rules.chosen (printed_text a) (status_of a)) → IfErr r (λ e. e ≡ ends.NoMemory) → Answers (asked.Lint rules) before after r
 linted_prints None after w rules (Ok a) opens same l m = (same, tt)
 linted_prints (Some held) after w rules (Ok a) opens same l m = (same, of_findings w opens.0 opens.1 l)
 linted_prints before after w rules (Err ends.Store) opens same l m = same

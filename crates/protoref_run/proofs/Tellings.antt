@@ -7,7 +7,7 @@ use Rattle.proto_entries.specs.declared.refusal.Refusal.TheVariants as refusal
 use Rattle.proto_files.proofs.Common.{FaultAt, IsLeastFault, FileOf}
 use Rattle.proto_journal.specs.Common.{CommitOutcome, IsUnready, UndoOutcome}
 use Rattle.proto_records.proofs.Common.{IsReady, Over, IsJournal, RecordOf}
-use Rattle.proto_output.proofs.Common.{status_of, text_of, faulty_line, IsLineOver}
+use Rattle.proto_output.proofs.Common.{status_of, printed_text, faulty_line, IsLineOver}
 use Rattle.proto_output.specs.declared.answer.Answer.{Answer}
 use Rattle.proto_output.specs.declared.run_fault.RunFault.{RunFault}
 use Rattle.proto_output.specs.declared.run_fault.RunFault.TheVariants as ends
@@ -17,7 +17,7 @@ use Rattle.proto_records.specs.declared.fault.JournalFault.{JournalFault}
 use Rattle.proto_records.specs.declared.fault.JournalFault.TheVariants as fault
 use Rattle.proto_desc.specs.Whole.{WorkspaceFaults}
 use Rattle.proto_store.specs.Stores.{Held, HoldsFiles, HoldsJournal}
-use Rattle.protoref_run.specs.Common.{AnswersEdit, AnswersUndo, Begins, IsEditCut, IsUndoingCut, MayBegin, of_journal, of_files, of_change, CountsAlike, IsFaultTold, IsNoRefusal, IsTold, Tells, TellsOf}
+use Rattle.protoref_run.specs.Common.{AnswersEdit, AnswersUndo, Begins, IsEditCut, IsUndoingCut, MayBegin, of_journal, of_files, of_change, CountsAlike, IsFaultTold, IsNoRefusal, TellsOutcome, Tells, TellsOf}
 use Rattle.protoref_run.specs.Logs.{AnswersLog, PrintsLog, TellsLog}
 use Rattle.protoref_run.specs.declared.beginning.Beginning.TheVariants as beginning
 
@@ -34,8 +34,8 @@ told_alone l m f (Ok a) plain told = told
 told_alone l m f (Err e) plain told = told
 
 -- a fault that has a line
-pub line_told : (files : List FileOf) (f : JournalFault) (a : Answer) → (f ≡ fault.Store → ⊥) → (f ≡ fault.NoMemory → ⊥) → IsNoRefusal f → text_of a ≡ faulty_line f
-    → status_of a ≡ Problem → IsTold files (Err f) (Ok a)
+pub line_told : (files : List FileOf) (f : JournalFault) (a : Answer) → (f ≡ fault.Store → ⊥) → (f ≡ fault.NoMemory → ⊥) → IsNoRefusal f → printed_text a ≡ faulty_line f
+    → status_of a ≡ Problem → TellsOutcome files (Err f) (Ok a)
 line_told files fault.Store a store memory plain t s = absurd (store refl)
 line_told files fault.NoMemory a store memory plain t s = absurd (memory refl)
 line_told files (fault.Refused x) a store memory plain t s = absurd plain
@@ -46,7 +46,7 @@ no_refusal (fault.Refused x) none = none x refl
 no_refusal f none = tt
 
 -- memory runs out for its line
-pub memory_told : (files : List FileOf) (f : JournalFault) → (f ≡ fault.Store → ⊥) → IsTold files (Err f) (Err ends.NoMemory)
+pub memory_told : (files : List FileOf) (f : JournalFault) → (f ≡ fault.Store → ⊥) → TellsOutcome files (Err f) (Err ends.NoMemory)
 memory_told files fault.Store store = absurd (store refl)
 memory_told files f store = refl
 
@@ -64,7 +64,7 @@ ready_is_plain held (fault.Refused x) h = absurd h
 ready_is_plain held f h = tt
 
 -- the output is not written yet
-pub told_unwritten : (files : List FileOf) (o : Result (List ChangeOf) JournalFault) → IsTold files o (Err ends.Output) → ⊥
+pub told_unwritten : (files : List FileOf) (o : Result (List ChangeOf) JournalFault) → TellsOutcome files o (Err ends.Output) → ⊥
 told_unwritten files (Ok entry) told = told
 told_unwritten files (Err fault.Store) told = cc
 told_unwritten files (Err f) told = cc
@@ -72,53 +72,53 @@ told_unwritten files (Err f) told = cc
 -- ---- a change over files
 
 -- after a refusal the workspace has the files from before it
-commit_over : (e : Asked) (from to : List FileOf) (old new : Option Held) (o : Result (List ChangeOf) JournalFault) (r : Result Answer RunFault) → CommitOutcome e from to old new o → IsTold to o r → IsTold from o r
+commit_over : (e : Asked) (from to : List FileOf) (old new : Option Held) (o : Result (List ChangeOf) JournalFault) (r : Result Answer RunFault) → CommitOutcome e from to old new o → TellsOutcome to o r → TellsOutcome from o r
 commit_over e from to old new (Ok entry) (Ok a) h told = told
 commit_over e from to old new (Ok entry) (Err x) h told = told
 commit_over e from to old new (Err fault.NothingToUndo) r h told = absurd h
-commit_over e from to old new (Err fault.Store) r h told = subst (λ l. IsTold l (Err fault.Store) r) h.0 told
-commit_over e from to old new (Err fault.NoMemory) r h told = subst (λ l. IsTold l (Err fault.NoMemory) r) h.workspace told
-commit_over e from to old new (Err fault.BadJournal) r h told = subst (λ l. IsTold l (Err fault.BadJournal) r) h.0.workspace told
-commit_over e from to old new (Err fault.OpenEntry) r h told = subst (λ l. IsTold l (Err fault.OpenEntry) r) h.0.workspace told
-commit_over e from to old new (Err fault.JournalFull) r h told = subst (λ l. IsTold l (Err fault.JournalFull) r) h.0.workspace told
+commit_over e from to old new (Err fault.Store) r h told = subst (λ l. TellsOutcome l (Err fault.Store) r) h.0 told
+commit_over e from to old new (Err fault.NoMemory) r h told = subst (λ l. TellsOutcome l (Err fault.NoMemory) r) h.workspace told
+commit_over e from to old new (Err fault.BadJournal) r h told = subst (λ l. TellsOutcome l (Err fault.BadJournal) r) h.0.workspace told
+commit_over e from to old new (Err fault.OpenEntry) r h told = subst (λ l. TellsOutcome l (Err fault.OpenEntry) r) h.0.workspace told
+commit_over e from to old new (Err fault.JournalFull) r h told = subst (λ l. TellsOutcome l (Err fault.JournalFull) r) h.0.workspace told
 commit_over e from to old new (Err (fault.Refused refusal.NoMemory)) r h told = absurd h
-commit_over e from to old new (Err (fault.Refused x)) r h told = subst (λ l. IsTold l (Err (fault.Refused x)) r) h.0.workspace told
+commit_over e from to old new (Err (fault.Refused x)) r h told = subst (λ l. TellsOutcome l (Err (fault.Refused x)) r) h.0.workspace told
 
-undo_over : (from to : List FileOf) (old new : Option Held) (o : Result (List ChangeOf) JournalFault) (r : Result Answer RunFault) → UndoOutcome from to old new o → IsTold to o r → IsTold from o r
+undo_over : (from to : List FileOf) (old new : Option Held) (o : Result (List ChangeOf) JournalFault) (r : Result Answer RunFault) → UndoOutcome from to old new o → TellsOutcome to o r → TellsOutcome from o r
 undo_over from to old new (Ok entry) (Ok a) h told = told
 undo_over from to old new (Ok entry) (Err x) h told = told
 undo_over from to old new (Err fault.JournalFull) r h told = absurd h
-undo_over from to old new (Err fault.Store) r h told = subst (λ l. IsTold l (Err fault.Store) r) h.0 told
-undo_over from to old new (Err fault.NoMemory) r h told = subst (λ l. IsTold l (Err fault.NoMemory) r) h.workspace told
-undo_over from to old new (Err fault.BadJournal) r h told = subst (λ l. IsTold l (Err fault.BadJournal) r) h.0.workspace told
-undo_over from to old new (Err fault.OpenEntry) r h told = subst (λ l. IsTold l (Err fault.OpenEntry) r) h.0.workspace told
-undo_over from to old new (Err fault.NothingToUndo) r h told = subst (λ l. IsTold l (Err fault.NothingToUndo) r) h.0.workspace told
-undo_over from to old new (Err (fault.Refused refusal.Stale)) r h told = subst (λ l. IsTold l (Err (fault.Refused refusal.Stale)) r) h.0.workspace told
+undo_over from to old new (Err fault.Store) r h told = subst (λ l. TellsOutcome l (Err fault.Store) r) h.0 told
+undo_over from to old new (Err fault.NoMemory) r h told = subst (λ l. TellsOutcome l (Err fault.NoMemory) r) h.workspace told
+undo_over from to old new (Err fault.BadJournal) r h told = subst (λ l. TellsOutcome l (Err fault.BadJournal) r) h.0.workspace told
+undo_over from to old new (Err fault.OpenEntry) r h told = subst (λ l. TellsOutcome l (Err fault.OpenEntry) r) h.0.workspace told
+undo_over from to old new (Err fault.NothingToUndo) r h told = subst (λ l. TellsOutcome l (Err fault.NothingToUndo) r) h.0.workspace told
+undo_over from to old new (Err (fault.Refused refusal.Stale)) r h told = subst (λ l. TellsOutcome l (Err (fault.Refused refusal.Stale)) r) h.0.workspace told
 undo_over from to old new (Err (fault.Refused x)) r h told = absurd h
 
 -- what is told over the files that are read off the workspace afterwards
 pub commit_told : (e : Asked) (from to seen : List FileOf) (old new : Option Held) (o : Result (List ChangeOf) JournalFault) (r : Result Answer RunFault)
-    → CommitOutcome e from to old new o → seen ≡ to → IsTold seen o r → TellsOf (CommitOutcome e) from old new r
-commit_told e from to seen old new o r h same told = (to, o, h, commit_over e from to old new o r h (subst (λ l. IsTold l o r) same told))
+    → CommitOutcome e from to old new o → seen ≡ to → TellsOutcome seen o r → TellsOf (CommitOutcome e) from old new r
+commit_told e from to seen old new o r h same told = (to, o, h, commit_over e from to old new o r h (subst (λ l. TellsOutcome l o r) same told))
 
 pub undo_told : (from to seen : List FileOf) (old new : Option Held) (o : Result (List ChangeOf) JournalFault) (r : Result Answer RunFault)
-    → UndoOutcome from to old new o → seen ≡ to → IsTold seen o r → TellsOf UndoOutcome from old new r
-undo_told from to seen old new o r h same told = (to, o, h, undo_over from to old new o r h (subst (λ l. IsTold l o r) same told))
+    → UndoOutcome from to old new o → seen ≡ to → TellsOutcome seen o r → TellsOf UndoOutcome from old new r
+undo_told from to seen old new o r h same told = (to, o, h, undo_over from to old new o r h (subst (λ l. TellsOutcome l o r) same told))
 
 -- ---- answers
 
-told_tells : (files : List FileOf) (o : Result (List ChangeOf) JournalFault) (a : Answer) → IsTold files o (Ok a) → Tells files o (text_of a) (status_of a)
+told_tells : (files : List FileOf) (o : Result (List ChangeOf) JournalFault) (a : Answer) → TellsOutcome files o (Ok a) → Tells files o (printed_text a) (status_of a)
 told_tells files (Ok entry) a told = told
 told_tells files (Err f) a told = told
 
 commit_cut : (e : Asked) (files to : List FileOf) (before after : Option Held) (o : Result (List ChangeOf) JournalFault) → MayBegin files before
-    → CommitOutcome e files to before after o → IsTold files o (Err ends.Store) → IsEditCut e before after
+    → CommitOutcome e files to before after o → TellsOutcome files o (Err ends.Store) → IsEditCut e before after
 commit_cut e files to before after (Ok entry) may h told = absurd told
 commit_cut e files to before after (Err fault.Store) may h told = inr (files, may, h.1)
 commit_cut e files to before after (Err f) may h told = let no : ⊥ = cc in absurd no
 
 commit_stays : (e : Asked) (files to : List FileOf) (before after : Option Held) (o : Result (List ChangeOf) JournalFault)
-    → CommitOutcome e files to before after o → IsTold files o (Err ends.NoMemory) → after ≡ before
+    → CommitOutcome e files to before after o → TellsOutcome files o (Err ends.NoMemory) → after ≡ before
 commit_stays e files to before after (Ok entry) h told = absurd told
 commit_stays e files to before after (Err fault.NothingToUndo) h told = absurd h
 commit_stays e files to before after (Err fault.Store) h told = let no : ⊥ = cc in absurd no
@@ -137,13 +137,13 @@ edit_answers e files before after (Err ends.NoMemory) may (to, o, h, told) = com
 edit_answers e files before after (Err ends.Output) may (to, o, h, told) = told_unwritten files o told
 
 undoing_cut : (files to : List FileOf) (before after : Option Held) (o : Result (List ChangeOf) JournalFault) → MayBegin files before
-    → UndoOutcome files to before after o → IsTold files o (Err ends.Store) → IsUndoingCut before after
+    → UndoOutcome files to before after o → TellsOutcome files o (Err ends.Store) → IsUndoingCut before after
 undoing_cut files to before after (Ok entry) may h told = absurd told
 undoing_cut files to before after (Err fault.Store) may h told = inr (files, may, h.1)
 undoing_cut files to before after (Err f) may h told = let no : ⊥ = cc in absurd no
 
 undo_stays : (files to : List FileOf) (before after : Option Held) (o : Result (List ChangeOf) JournalFault)
-    → UndoOutcome files to before after o → IsTold files o (Err ends.NoMemory) → after ≡ before
+    → UndoOutcome files to before after o → TellsOutcome files o (Err ends.NoMemory) → after ≡ before
 undo_stays files to before after (Ok entry) h told = absurd told
 undo_stays files to before after (Err fault.JournalFull) h told = absurd h
 undo_stays files to before after (Err fault.Store) h told = let no : ⊥ = cc in absurd no
@@ -164,10 +164,10 @@ undo_answers files before after (Err ends.Output) may (to, o, h, told) = told_un
 -- ---- before a change
 
 -- a fault of the journal, and one of the files
-pub not_ready : (held : Option Held) (f : JournalFault) (a : Answer) → IsUnready held f → (IsNoRefusal f → IsTold [] (Err f) (Ok a)) → Begins held (beginning.Never a)
+pub not_ready : (held : Option Held) (f : JournalFault) (a : Answer) → IsUnready held f → (IsNoRefusal f → TellsOutcome [] (Err f) (Ok a)) → Begins held (beginning.Never a)
 not_ready held f a why told = inl (record { fault = f; why = why; told = told (ready_is_plain held f why) })
 
-pub has_fault : (held : Option Held) (x : FaultAt) (a : Answer) → Over held IsReady → Over held (λ now. IsLeastFault (WorkspaceFaults now.files) x) → IsLineOver held x (text_of a)
+pub has_fault : (held : Option Held) (x : FaultAt) (a : Answer) → Over held IsReady → Over held (λ now. IsLeastFault (WorkspaceFaults now.files) x) → IsLineOver held x (printed_text a)
     → status_of a ≡ Problem → Begins held (beginning.Never a)
 has_fault held x a ready least line problem = inr (record { fault = x; ready = ready; least = least; line = line; ends = problem })
 
@@ -198,8 +198,8 @@ ends_undone before after ends.Output plain same = plain refl
 
 -- what is told of bytes that are no journal
 pub log_tells : (journal : List ℕ) (f : JournalFault) (r : Result Answer RunFault) → (f ≡ fault.BadJournal) ⊎ (f ≡ fault.NoMemory) → (f ≡ fault.BadJournal → (records : List RecordOf) → IsJournal journal records → ⊥)
-    → (IsNoRefusal f → IsTold [] (Err f) r) → TellsLog journal r
-log_tells journal fault.BadJournal (Ok a) only bad told = let t = told tt in subst (λ (s : Status). PrintsLog journal (text_of a) s) (sym t.1) (bad refl, t.0)
+    → (IsNoRefusal f → TellsOutcome [] (Err f) r) → TellsLog journal r
+log_tells journal fault.BadJournal (Ok a) only bad told = let t = told tt in subst (λ (s : Status). PrintsLog journal (printed_text a) s) (sym t.1) (bad refl, t.0)
 log_tells journal fault.BadJournal (Err e) only bad told = told tt
 log_tells journal fault.NoMemory (Ok a) only bad told = absurd (told tt)
 log_tells journal fault.NoMemory (Err e) only bad told = told tt
@@ -208,7 +208,7 @@ log_tells journal f r (inr same) bad told = let no : ⊥ = cc in absurd no
 
 pub log_answers : (before after : Option Held) (journal : List ℕ) (r : Result Answer RunFault) → HoldsJournal before journal → after ≡ before → TellsLog journal r → AnswersLog before after r
 log_answers None after journal (Ok a) held same told = (same, tt)
-log_answers (Some h) after journal (Ok a) held same told = (same, subst (λ (l : List ℕ). PrintsLog l (text_of a) (status_of a)) held told)
+log_answers (Some h) after journal (Ok a) held same told = (same, subst (λ (l : List ℕ). PrintsLog l (printed_text a) (status_of a)) held told)
 log_answers before after journal (Err ends.Store) held same told = same
 log_answers before after journal (Err ends.NoMemory) held same told = same
 log_answers before after journal (Err ends.Output) held same told = cc

@@ -10,7 +10,7 @@ use Rattle.proto_records.specs.ReadJournals.{IsReady}
 use Rattle.proto_records.specs.Known.{Over}
 use Rattle.proto_journal.specs.Loads.{IsUnready, LoadOutcome}
 use Rattle.proto_journal.specs.Undoing.{IsUndoCut, UndoOutcome}
-use Rattle.proto_output.specs.Answers.{IsAnswer, status_of, text_of}
+use Rattle.proto_output.specs.Answers.{IsAnswer, status_of, printed_text}
 use Rattle.proto_output.specs.FaultLines.{IsLineOver}
 use Rattle.proto_output.specs.declared.answer.Answer.{Answer}
 use Rattle.proto_output.specs.declared.run_fault.RunFault.{RunFault}
@@ -94,5 +94,5 @@ AnswersUndo before after result =
 abbrev pub Begins : Option Held → Beginning → Type 0
 Begins before (beginning.Over files) = MayBegin files before
 Begins before (beginning.Never answer) =
-    IsNotReady before (text_of answer) (status_of answer)
-    ⊎ HasFault before (text_of answer) (status_of answer)
+    IsNotReady before (printed_text answer) (status_of answer)
+    ⊎ HasFault before (printed_text answer) (status_of answer)

@@ -36,17 +36,17 @@ Answered Migrate before after text status = PrintsMigration before after text st
 
 -- where a store call failed: the store is as before, or as an edit,
 -- an undo, a recovery or a move of the journal that was cut leaves it
-abbrev pub IsCut : Command → Option Held → Option Held → Type 0
-IsCut (Edit edit) before after = IsEditCut (asked edit) before after
-IsCut Undo before after = IsUndoingCut before after
-IsCut Recover before after = IsRecoveryCut before after
-IsCut Migrate before after = IsMigrationCut before after
-IsCut _ before after = after ≡ before
+abbrev pub IsCutCommand : Command → Option Held → Option Held → Type 0
+IsCutCommand (Edit edit) before after = IsEditCut (asked edit) before after
+IsCutCommand Undo before after = IsUndoingCut before after
+IsCutCommand Recover before after = IsRecoveryCut before after
+IsCutCommand Migrate before after = IsMigrationCut before after
+IsCutCommand _ before after = after ≡ before
 
 -- the answer of a command before it is written, and the store then and now
 abbrev pub Answers : Command → Option Held → Option Held → Result Answer RunFault → Type 0
 Answers command before after result =
-    IsAnswer (Answered command before after) (IsCut command before after) before after result
+    IsAnswer (Answered command before after) (IsCutCommand command before after) before after result
 
 -- The store then and now, and what was written: the whole text where the command ends, a beginning
 -- of it where the output failed, and else nothing.
@@ -57,5 +57,5 @@ Ran command before after old new (Ok status) =
 Ran command before after old new (Err Output) =
     (text : Text) × (status : Status) × Answered command before after text status
     × AppendsBeginning old new text
-Ran command before after old new (Err Store) = IsCut command before after × Keeps old new
+Ran command before after old new (Err Store) = IsCutCommand command before after × Keeps old new
 Ran command before after old new (Err NoMemory) = (after ≡ before) × Keeps old new

@@ -2,7 +2,7 @@
 use Rattle.std.specs.Prelude.{◌≡◌, List, Option, Result, Ok, Err}
 use Rattle.proto_faults.specs.Texts.{Text}
 use Rattle.proto_records.specs.Known.{Over}
-use Rattle.proto_output.specs.Answers.{IsAnswer, status_of, text_of}
+use Rattle.proto_output.specs.Answers.{IsAnswer, status_of, printed_text}
 use Rattle.proto_output.specs.EditLines.{faulty_line}
 use Rattle.proto_output.specs.LogLines.{log_lines}
 use Rattle.proto_output.specs.declared.answer.Answer.{Answer}
@@ -25,7 +25,7 @@ PrintsLog journal text Problem =
 
 -- the answer over the bytes of a journal; only memory may be wanting
 abbrev pub TellsLog : Text → Result Answer RunFault → Type 0
-TellsLog journal (Ok answer) = PrintsLog journal (text_of answer) (status_of answer)
+TellsLog journal (Ok answer) = PrintsLog journal (printed_text answer) (status_of answer)
 TellsLog journal (Err e) = e ≡ ends.NoMemory
 
 -- the log of a store, which stays as it is

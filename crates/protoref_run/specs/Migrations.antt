@@ -12,12 +12,12 @@ use Rattle.proto_records.specs.declared.fault.JournalFault.{JournalFault}
 use Rattle.proto_records.specs.Known.{OverBoth}
 use Rattle.proto_records.specs.Migration.{IsMigrated, MigrateOutcome}
 use Rattle.proto_store.specs.Stores.{Held}
-use Rattle.protoref_run.specs.Told.{TellsFault}
+use Rattle.protoref_run.specs.Told.{TellsJournalFault}
 
 -- it is told whether a journal was moved, and a fault by its line; no move is refused
 abbrev pub TellsMigration : Result Bool JournalFault → Text → Status → Type 0
 TellsMigration (Ok migrated) text status = (text ≡ migration_line migrated) × (status ≡ Done)
-TellsMigration (Err f) text status = TellsFault plain_refused_line f text status
+TellsMigration (Err f) text status = TellsJournalFault plain_refused_line f text status
 
 -- the move has an outcome, which is told
 abbrev pub PrintsMigration : Option Held → Option Held → Text → Status → Type 0

@@ -7,7 +7,7 @@ use Rattle.proto_files.specs.FilesRead.{ReadOf, AreRead}
 use Rattle.proto_files.specs.GivenFiles.{FileOf}
 use Rattle.proto_records.specs.Known.{Over}
 use Rattle.proto_json.specs.DescriptorText.{json_text}
-use Rattle.proto_output.specs.Answers.{status_of, text_of}
+use Rattle.proto_output.specs.Answers.{status_of, printed_text}
 use Rattle.proto_output.specs.FaultLines.{IsLine}
 use Rattle.proto_output.specs.declared.answer.Answer.{Answer}
 use Rattle.proto_output.specs.declared.status.Status.{Status}
@@ -42,4 +42,5 @@ Compiles before files =
 -- the answer is the line of the least fault of what a store holds, and a problem
 abbrev pub TellsFault : Option Held → Answer → Type 0
 TellsFault before answer =
-    (status_of answer ≡ Problem) × Over before (λ held. IsFaultText held.files (text_of answer))
+    (status_of answer ≡ Problem) × Over before
+    (λ held. IsFaultText held.files (printed_text answer))

@@ -10,13 +10,13 @@ use Rattle.proto_output.specs.declared.status.Status.TheVariants.{Done}
 use Rattle.proto_records.specs.declared.fault.JournalFault.{JournalFault}
 use Rattle.proto_records.specs.Recovery.{IsRecoveryCut, RecoverOutcome}
 use Rattle.proto_store.specs.Stores.{Held}
-use Rattle.protoref_run.specs.Told.{TellsFault}
+use Rattle.protoref_run.specs.Told.{TellsJournalFault}
 
 -- It is told whether a store was recovered, and a fault by its line. A refusal has no place: no
 -- files are read as schemas.
 abbrev pub TellsRecovery : Result Bool JournalFault → Text → Status → Type 0
 TellsRecovery (Ok recovered) text status = (text ≡ recovery_line recovered) × (status ≡ Done)
-TellsRecovery (Err f) text status = TellsFault plain_refused_line f text status
+TellsRecovery (Err f) text status = TellsJournalFault plain_refused_line f text status
 
 -- recovery has an outcome, which is told
 abbrev pub PrintsRecovery : Option Held → Option Held → Text → Status → Type 0

@@ -3,7 +3,7 @@
 ghost use Rattle.std.specs.Prelude.{◌≡◌, ◌++◌, IfErr, IfOk, codes};
 ghost use Rattle.proto_json.specs.DescriptorText.{json_text};
 ghost use Rattle.proto_descriptors.specs.Views.{files_desc};
-ghost use Rattle.proto_output.specs.Answers.{status_of, text_of};
+ghost use Rattle.proto_output.specs.Answers.{status_of, printed_text};
 ghost use Rattle.protoref_run.specs.Linted.{IsLintOf};
 
 use proto_desc::{CheckedSchema, Descriptors, to_json};
@@ -13,9 +13,12 @@ use proto_output::{Answer, RunFault, Status, lines_of_findings};
 use std::alloc::Global;
 
 // The answer of their descriptors.
-pub(crate) fn described(alloc: Global, descriptors: &Descriptors) -> Result<Answer, RunFault>
+pub(crate) fn descriptors_answer(
+    alloc: Global,
+    descriptors: &Descriptors,
+) -> Result<Answer, RunFault>
     ensures text { IfOk result (λ answer.
-        text_of answer ≡ json_text (files_desc descriptors.now) ++ codes "\n") }
+        printed_text answer ≡ json_text (files_desc descriptors.now) ++ codes "\n") }
     ensures status { IfOk result (λ answer. status_of answer ≡ Status.Done) }
     ensures err { IfErr result (λ e. e ≡ RunFault.NoMemory) }
 {
@@ -26,13 +29,13 @@ pub(crate) fn described(alloc: Global, descriptors: &Descriptors) -> Result<Answ
 
 // The lines of what the rules find, in the order of
 // path, offset, rule and name, and whether there is one.
-pub(crate) fn linted(
+pub(crate) fn findings_answer(
     alloc: Global,
     schema: &CheckedSchema,
     rules: &RuleSet,
 ) -> Result<Answer, RunFault>
     ensures linted { IfOk result (λ answer. IsLintOf schema.now rules.now.chosen
-        (text_of answer) (status_of answer)) }
+        (printed_text answer) (status_of answer)) }
     ensures err { IfErr result (λ e. e ≡ RunFault.NoMemory) }
 {
     let files = schema.files();

@@ -8,7 +8,7 @@ ghost use Rattle.protoref_run.specs.Changes.{Begins};
 
 use crate::telling::journal_answer;
 use proto_journal::{LoadFault, Store, Workspace, load, ready};
-use proto_output::{Answer, RunFault, reported};
+use proto_output::{Answer, RunFault, fault_answer};
 use std::alloc::Global;
 
 // The workspace over which a change may begin, or the answer that tells why none may.
@@ -26,7 +26,7 @@ pub(crate) fn begin<S: Store>(alloc: Global, store: &mut S) -> Result<Beginning,
     ensures count { CountsStore (S.failure_count store.old) (S.failure_count store.new) result }
 {
     match ready(alloc, store) {
-        Ok(()) => loaded(alloc, store),
+        Ok(()) => load_beginning(alloc, store),
         Err(fault) => {
             let answer = journal_answer(alloc, &fault)?;
             Ok(Beginning::Never(answer))
@@ -35,7 +35,7 @@ pub(crate) fn begin<S: Store>(alloc: Global, store: &mut S) -> Result<Beginning,
 }
 
 // The same of a store whose journal lets a change begin.
-fn loaded<S: Store>(alloc: Global, store: &mut S) -> Result<Beginning, RunFault>
+fn load_beginning<S: Store>(alloc: Global, store: &mut S) -> Result<Beginning, RunFault>
     requires room { S.failure_count store.old < 2 ^ 64 - 1 }
     requires ready { Over (S.holds store.old) IsReady }
     ensures begins { IfOk result (Begins (S.holds store.old)) }
@@ -46,7 +46,7 @@ fn loaded<S: Store>(alloc: Global, store: &mut S) -> Result<Beginning, RunFault>
     match load(alloc, store) {
         Ok(workspace) => Ok(Beginning::Over(workspace)),
         Err(LoadFault::Schema(fault)) => {
-            let answer = reported(alloc, store, &fault)?;
+            let answer = fault_answer(alloc, store, &fault)?;
             Ok(Beginning::Never(answer))
         }
         Err(LoadFault::Store) => Err(RunFault::Store),

@@ -27,13 +27,13 @@ pub fn edit_answer<S: Store>(alloc: Global, edit: Edit, store: &mut S) -> Result
 {
     let beginning = begin(alloc, store)?;
     match beginning {
-        Beginning::Over(workspace) => committed(alloc, edit, store, workspace),
+        Beginning::Over(workspace) => answer_of_commit(alloc, edit, store, workspace),
         Beginning::Never(answer) => Ok(answer),
     }
 }
 
 // The answer of an edit of the store's files.
-fn committed<S: Store>(
+fn answer_of_commit<S: Store>(
     alloc: Global,
     edit: Edit,
     store: &mut S,
@@ -63,13 +63,13 @@ pub fn undo_answer<S: Store>(alloc: Global, store: &mut S) -> Result<Answer, Run
 {
     let beginning = begin(alloc, store)?;
     match beginning {
-        Beginning::Over(workspace) => undone(alloc, store, workspace),
+        Beginning::Over(workspace) => answer_of_undo(alloc, store, workspace),
         Beginning::Never(answer) => Ok(answer),
     }
 }
 
 // The answer of an undo over the store's files.
-fn undone<S: Store>(
+fn answer_of_undo<S: Store>(
     alloc: Global,
     store: &mut S,
     mut workspace: Workspace,

@@ -11,12 +11,12 @@ ghost use Rattle.protoref_run.specs.Printed.{Compiles, TellsFault};
 use proto_desc::{CheckedSchema, Schema};
 use proto_faults::Fault;
 use proto_journal::{LoadFault, sound_files};
-use proto_output::{Answer, RunFault, reported};
+use proto_output::{Answer, RunFault, fault_answer};
 use proto_store::Store;
 use std::alloc::Global;
 
 // The schemas of a store. Where the paths alone have a fault, no file is read.
-pub(crate) fn opened<S: Store>(alloc: Global, store: &mut S) -> Result<Schema, LoadFault>
+pub(crate) fn open_schema<S: Store>(alloc: Global, store: &mut S) -> Result<Schema, LoadFault>
     requires { S.failure_count store.old < 2 ^ 64 - 1 }
     ensures compiles { IfOk result (Compiles (S.holds store.old)) }
     ensures fault { IfErr result (IsLoadFault (S.holds store.old)) }
@@ -32,7 +32,10 @@ pub(crate) fn opened<S: Store>(alloc: Global, store: &mut S) -> Result<Schema, L
 
 // The same without descriptors. One function for both would be generic over which schemas are
 // opened, by a trait whose clauses are those of two types: longer than the two.
-pub(crate) fn checked<S: Store>(alloc: Global, store: &mut S) -> Result<CheckedSchema, LoadFault>
+pub(crate) fn open_checked<S: Store>(
+    alloc: Global,
+    store: &mut S,
+) -> Result<CheckedSchema, LoadFault>
     requires { S.failure_count store.old < 2 ^ 64 - 1 }
     ensures compiles { IfOk result (Compiles (S.holds store.old)) }
     ensures fault { IfErr result (IsLoadFault (S.holds store.old)) }
@@ -60,5 +63,5 @@ pub(crate) fn faulty<S: Store>(
     ensures same { S.holds store.new ≡ S.holds store.old }
     ensures count { CountsStore (S.failure_count store.old) (S.failure_count store.new) result }
 {
-    reported(alloc, store, fault)
+    fault_answer(alloc, store, fault)
 }

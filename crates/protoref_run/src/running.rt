@@ -4,13 +4,13 @@ ghost use Rattle.std.specs.Prelude.{◌-◌, ◌^◌, ◌<◌};
 ghost use Rattle.proto_output.specs.Ends.{CountsStore};
 ghost use Rattle.protoref_run.specs.Commands.{Answers, Ran};
 
-use crate::answer::{described, linted};
+use crate::answer::{descriptors_answer, findings_answer};
 use crate::changing::{edit_answer, undo_answer};
 use crate::command::Command;
 use crate::kept::Kept;
 use crate::logging::log_answer;
 use crate::migrating::migrate_answer;
-use crate::opening::{checked, faulty, opened};
+use crate::opening::{faulty, open_checked, open_schema};
 use crate::recovering::recover_answer;
 use proto_journal::LoadFault;
 use proto_lint::RuleSet;
@@ -91,9 +91,9 @@ fn compile_answer<S: Store>(
     ensures outcome { Answers Command.Compile (S.holds store.old) (S.holds store.new) result }
     ensures count { CountsStore (S.failure_count store.old) (S.failure_count store.new) result }
 {
-    match opened(alloc, store) {
+    match open_schema(alloc, store) {
         Ok(schema) => {
-            let answer = described(alloc, schema.descriptors());
+            let answer = descriptors_answer(alloc, schema.descriptors());
             kept.keep(schema);
             answer
         }
@@ -114,9 +114,9 @@ fn lint_answer<S: Store>(
     ensures outcome { Answers (Command.Lint rules) (S.holds store.old) (S.holds store.new) result }
     ensures count { CountsStore (S.failure_count store.old) (S.failure_count store.new) result }
 {
-    match checked(alloc, store) {
+    match open_checked(alloc, store) {
         Ok(schema) => {
-            let answer = linted(alloc, &schema, &rules);
+            let answer = findings_answer(alloc, &schema, &rules);
             kept.keep_checked(schema);
             answer
         }

@@ -1,7 +1,7 @@
 //! What is told of the outcome of a change.
 
 ghost use Rattle.std.specs.Prelude.{[], Err, IsErrOf};
-ghost use Rattle.protoref_run.specs.Told.{CountsAlike, IsNoRefusal, IsTold};
+ghost use Rattle.protoref_run.specs.Told.{CountsAlike, IsNoRefusal, TellsOutcome};
 
 use proto_files::Files;
 use proto_journal::{Entry, JournalFault};
@@ -14,7 +14,7 @@ pub(crate) fn outcome_answer(
     files: &Files,
     outcome: Result<Entry, JournalFault>,
 ) -> Result<Answer, RunFault>
-    ensures told { IsTold files.now outcome result }
+    ensures told { TellsOutcome files.now outcome result }
     ensures count { CountsAlike outcome result }
 {
     match outcome {
@@ -24,7 +24,7 @@ pub(crate) fn outcome_answer(
 }
 
 fn fault_answer(alloc: Global, files: &Files, fault: &JournalFault) -> Result<Answer, RunFault>
-    ensures told { IsTold files.now (Err fault.now) result }
+    ensures told { TellsOutcome files.now (Err fault.now) result }
     ensures count { CountsAlike (Err fault.now) result }
 {
     match fault {
@@ -38,7 +38,7 @@ fn fault_answer(alloc: Global, files: &Files, fault: &JournalFault) -> Result<An
 
 // The answer that tells of a fault of the journal alone.
 pub(crate) fn journal_answer(alloc: Global, fault: &JournalFault) -> Result<Answer, RunFault>
-    ensures told { IsNoRefusal fault.now → IsTold [] (Err fault.now) result }
+    ensures told { IsNoRefusal fault.now → TellsOutcome [] (Err fault.now) result }
     ensures unwritten { IsErrOf result RunFault.Output → ⊥ }
     ensures count { CountsAlike (Err fault.now) result }
 {

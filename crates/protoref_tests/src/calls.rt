@@ -15,7 +15,7 @@ pub(crate) fn add<R: AllocGlobal + Abort>(rt: &R, given: &mut Given, path: &str,
 }
 
 /// Files, each its path, which ends with `.proto`, a space and its text, joined by ` | `.
-pub(crate) fn given<R: AllocGlobal + Abort>(rt: &R, files: &str) -> Given {
+pub(crate) fn given_files<R: AllocGlobal + Abort>(rt: &R, files: &str) -> Given {
     let mut given = Vec::new(rt.alloc());
     for file in files.split(" | ") {
         match file.split_once(".proto ") {

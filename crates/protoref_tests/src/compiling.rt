@@ -1,6 +1,6 @@
 //! What `compile` prints, and where a run stops.
 
-use crate::calls::{WIDE, expect, expect_end, given};
+use crate::calls::{WIDE, expect, expect_end, given_files};
 use protoref_run::{Command, MemoryStore, RunFault, Status, StoreFault, fault_line};
 
 const ROW: &str = "a.proto syntax = \"proto3\"; message A { string b_c = 1; }";
@@ -82,7 +82,7 @@ fn prints_descriptors_and_faults(rt: HostRuntime) {
     for (rows, status) in &[(COMPILED, Status::Done), (FAULTS, Status::Problem)] {
         for (files, text) in *rows {
             let end = (Ok(*status), *text, text.len());
-            expect(&rt, given(&rt, files), Command::Compile, WIDE, end);
+            expect(&rt, given_files(&rt, files), Command::Compile, WIDE, end);
         }
     }
 }
@@ -101,7 +101,7 @@ const FAILED: &[(&str, u64, &str, Status)] = &[
 fn stops_where_the_store_fails(rt: HostRuntime) {
     for &(files, call, text, status) in FAILED {
         let journal = Vec::new(rt.alloc());
-        let made = MemoryStore::new(rt.alloc(), given(&rt, files), journal);
+        let made = MemoryStore::new(rt.alloc(), given_files(&rt, files), journal);
         let mut store = made.expect(&rt, "memory");
         assert!(rt; call > 0);
         store.fail_at(call, false);
@@ -117,7 +117,7 @@ fn writes_what_the_output_takes_at_once(rt: HostRuntime) {
     for &at_once in &[1, 7, 4096] {
         let room = (at_once, ROW_JSON.len(), false);
         let end = (Ok(Status::Done), ROW_JSON, ROW_JSON.len());
-        expect(&rt, given(&rt, ROW), Command::Compile, room, end);
+        expect(&rt, given_files(&rt, ROW), Command::Compile, room, end);
     }
 }
 

@@ -1,6 +1,6 @@
 //! The limit of a file. `tools/largest_inputs` has that of a journal.
 
-use crate::stores::{CHANGED, OLD, RENAME, joined};
+use crate::stores::{CHANGED, OLD, RENAME, joined_text};
 use crate::turns::Turn::{Done, Holds, Problem};
 use crate::turns::expect_turns;
 
@@ -8,7 +8,7 @@ use crate::turns::expect_turns;
 #[test]
 fn keeps_the_limit_of_a_file(rt: HostRuntime) {
     let spaces = " ".repeat(rt.alloc(), 1_048_528).expect(&rt, "memory");
-    let files = joined(&rt, OLD, spaces.as_str());
+    let files = joined_text(&rt, OLD, spaces.as_str());
     assert!(rt; files.len() == "a.proto ".len() + 1_048_576);
     let turns = [
         Problem("rename A.b_c d_ef", "refused: 16 TooLarge\n"),

@@ -2,7 +2,7 @@
 
 use crate::stores::{
     CHANGED, FIRST_LINE, FIRST_OPEN, LINE, NEW, NO_JOURNAL, NULL_LINE, OLD, OPEN_LINE, RENAME,
-    STALE, joined,
+    STALE, joined_text,
 };
 use crate::turns::Turn::{Done, Holds, Problem};
 use crate::turns::{expect_kept, expect_turns};
@@ -108,7 +108,7 @@ const MIXED: &[(&str, &str)] = &[
 #[test]
 fn are_of_one_version(rt: HostRuntime) {
     for (first, second) in MIXED {
-        let journal = joined(&rt, first, second);
+        let journal = joined_text(&rt, first, second);
         for asked in [RENAME, "undo", "log", "recover", "migrate"] {
             expect_kept(&rt, NEW, journal.as_str(), asked, NO_JOURNAL);
         }

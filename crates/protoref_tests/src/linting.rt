@@ -1,6 +1,6 @@
 //! What `lint` prints.
 
-use crate::calls::{WIDE, expect, given};
+use crate::calls::{WIDE, expect, given_files};
 use crate::lint_rows;
 use crate::lint_rows::Row;
 use protoref_run::{Command, Rule, RuleSet, Status};
@@ -31,7 +31,7 @@ fn expect_rows<R: AllocGlobal + Abort>(rt: &R, rows: &[Row]) {
         };
         let command = Command::Lint(rules_named(rt, names));
         let end = (Ok(status), *text, text.len());
-        expect(rt, given(rt, files), command, WIDE, end);
+        expect(rt, given_files(rt, files), command, WIDE, end);
     }
 }
 

@@ -1,6 +1,6 @@
 //! Torn stores whose files were changed by other hands, and journals that are none.
 
-use crate::stores::{FIRST_LINE, FIRST_OPEN, LINE, NO_JOURNAL, OPEN_LINE, STALE, joined};
+use crate::stores::{FIRST_LINE, FIRST_OPEN, LINE, NO_JOURNAL, OPEN_LINE, STALE, joined_text};
 use crate::three_files::{FIRST_OPEN as FIRST_OF_THREE, OPEN};
 use crate::turns::Turn::{Done, Holds};
 use crate::turns::{expect_kept, expect_turns};
@@ -78,7 +78,7 @@ const DAMAGED: &[(&str, &str)] = &[
 #[test]
 fn are_not_recovered_from_a_journal_that_is_none(rt: HostRuntime) {
     for (first, second) in DAMAGED {
-        let journal = joined(&rt, first, second);
+        let journal = joined_text(&rt, first, second);
         let files = "a.proto syntax = \"proto3\"; message M {}";
         expect_kept(&rt, files, journal.as_str(), "recover", NO_JOURNAL);
     }

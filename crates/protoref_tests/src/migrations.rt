@@ -2,7 +2,7 @@
 
 use crate::stores::{
     CHANGED, FIRST_LINE, FIRST_OPEN, LINE, NEW, NO_JOURNAL, NULL_LINE, OLD, OPEN_LINE, RENAME,
-    joined,
+    joined_text,
 };
 use crate::turns::Turn::{Cut, Done, HalfTold, Holds};
 use crate::turns::{Turn, expect_kept, expect_turns};
@@ -39,7 +39,7 @@ fn are_logged_moved_and_undone(rt: HostRuntime) {
 // An edit writes the whole journal in the second version, and its undo leaves it there.
 #[test]
 fn are_moved_by_an_edit(rt: HostRuntime) {
-    let both = joined(&rt, NULL_LINE, LINE);
+    let both = joined_text(&rt, NULL_LINE, LINE);
     let turns = [
         Done(RENAME, CHANGED),
         Holds(NEW, both.as_str()),
@@ -73,7 +73,7 @@ fn are_refused_where_they_are_none_or_open(rt: HostRuntime) {
     expect_kept(&rt, OLD, "\n", "migrate", NO_JOURNAL);
     let open = "journal: 3 OpenEntry\n";
     expect_kept(&rt, OLD, FIRST_OPEN, "migrate", open);
-    let journal = joined(&rt, FIRST_LINE, FIRST_OPEN);
+    let journal = joined_text(&rt, FIRST_LINE, FIRST_OPEN);
     expect_kept(&rt, OLD, journal.as_str(), "migrate", open);
 }
 

@@ -2,7 +2,8 @@
 
 use crate::stores::{FIRST_LINE, LINE, NULL_LINE};
 use crate::three_files::{
-    ALL_CHANGED, FIRST_OPEN, M_TO_N, NOTHING, OPEN, Step, expect_at, first_step, recovered, step,
+    ALL_CHANGED, FIRST_OPEN, M_TO_N, NOTHING, OPEN, Step, expect_at, first_step, recovered_step,
+    step,
 };
 use crate::turns::Turn::{At, Cut, Done, Problem};
 use std::process::Abort;
@@ -77,7 +78,7 @@ fn expect_each_failure<R: AllocGlobal + Abort>(rt: &R, torn: Step, older: &str) 
     for call in 1..7 + u64::from(a) + u64::from(b) + u64::from(c) {
         for &lands in &[false, true] {
             let writes = call.saturating_sub(6) + u64::from(call > 5 && lands);
-            let after = (recovered(torn, writes), older);
+            let after = (recovered_step(torn, writes), older);
             expect_way_back(rt, (torn, older), after, "recover", (call, lands));
         }
     }

@@ -1,6 +1,6 @@
 //! Stores with a journal, and what is asked of the program.
 
-use crate::calls::given;
+use crate::calls::given_files;
 use protoref_run::{Command, Edit, MemoryStore, RuleSet};
 use std::process::Abort;
 
@@ -68,7 +68,7 @@ pub(crate) fn command_of<R: AllocGlobal + Abort>(rt: &R, asked: &str) -> Command
 }
 
 /// Two texts, one behind the other.
-pub(crate) fn joined<R: AllocGlobal + Abort>(rt: &R, first: &str, second: &str) -> String {
+pub(crate) fn joined_text<R: AllocGlobal + Abort>(rt: &R, first: &str, second: &str) -> String {
     let mut text = String::from_str(rt.alloc(), first).expect(rt, "memory");
     text.push_str(second).expect(rt, "memory");
     text
@@ -77,5 +77,5 @@ pub(crate) fn joined<R: AllocGlobal + Abort>(rt: &R, first: &str, second: &str) 
 /// A store of these files and this journal.
 pub(crate) fn store_of<R: AllocGlobal + Abort>(rt: &R, files: &str, journal: &str) -> MemoryStore {
     let journal = journal.as_bytes().to_vec(rt.alloc()).expect(rt, "memory");
-    MemoryStore::new(rt.alloc(), given(rt, files), journal).expect(rt, "memory")
+    MemoryStore::new(rt.alloc(), given_files(rt, files), journal).expect(rt, "memory")
 }

@@ -1,6 +1,6 @@
 //! Three files that one rename changes, and the steps of that rename, of its undo and of its recovery.
 
-use crate::stores::joined;
+use crate::stores::joined_text;
 use crate::turns::{Turn, expect_turns};
 use std::process::Abort;
 
@@ -63,7 +63,7 @@ pub(crate) fn first_step(writes: u64) -> Step {
 }
 
 /// After so many writes of a recovery: each file with the new name put back, then the entry taken off.
-pub(crate) fn recovered(([a, b, c], last): Step, writes: u64) -> Step {
+pub(crate) fn recovered_step(([a, b, c], last): Step, writes: u64) -> Step {
     let after_a = u64::from(a);
     let after_b = after_a + u64::from(b);
     let after_c = after_b + u64::from(c);
@@ -87,6 +87,6 @@ pub(crate) fn files_at<R: AllocGlobal + Abort>(rt: &R, ([a, b, c], _): Step) -> 
 
 /// The turns hold over a store at this step, with these older entries.
 pub(crate) fn expect_at<R: AllocGlobal + Abort>(rt: &R, step: Step, older: &str, turns: &[Turn]) {
-    let (files, journal) = (files_at(rt, step), joined(rt, older, step.1));
+    let (files, journal) = (files_at(rt, step), joined_text(rt, older, step.1));
     expect_turns(rt, files.as_str(), journal.as_str(), turns);
 }

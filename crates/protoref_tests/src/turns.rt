@@ -1,7 +1,7 @@
 //! What comes one behind the other over a store.
 
-use crate::calls::{End, expect_end, given};
-use crate::stores::{command_of, joined, store_of};
+use crate::calls::{End, expect_end, given_files};
+use crate::stores::{command_of, joined_text, store_of};
 use crate::three_files::{Step, files_at};
 use protoref_run::{MemoryStore, RunFault, Status, Store, all_files};
 use std::process::Abort;
@@ -65,7 +65,7 @@ fn expect_turn<R: AllocGlobal + Abort>(rt: &R, store: &mut MemoryStore, turn: &T
         }
         Turn::Holds(files, journal) => return expect_holds(rt, store, files, journal),
         Turn::At(step, older) => {
-            let (files, journal) = (files_at(rt, step), joined(rt, older, step.1));
+            let (files, journal) = (files_at(rt, step), joined_text(rt, older, step.1));
             return expect_holds(rt, store, files.as_str(), journal.as_str());
         }
     };
@@ -98,5 +98,5 @@ fn expect_holds<R: AllocGlobal + Abort>(
     assert!(rt; bytes.as_slice() == journal.as_bytes(), "not {journal}");
     assert!(rt; store.failures() < u64::MAX);
     let held = all_files(rt.alloc(), store).expect(rt, "files");
-    assert!(rt; held == given(rt, files), "not {files}");
+    assert!(rt; held == given_files(rt, files), "not {files}");
 }

@@ -13,7 +13,7 @@ use Rattle.clap.proofs.FaultLemmas.{stopped_fault}
 use Rattle.clap.proofs.WalkLemmas.{both, walk_stopped}
 use Rattle.clap.proofs.SimpleLemmas.{is_false}
 use Rattle.clap.proofs.OnLiterals.{clap_on_literals}
-use Rattle.protoref_words.specs.Common.{Asked, Command, asked, asked_by, asks_help, bad_line, command_named, commands, help, name_of, taken, compile, lint, rename, delete_field, add_import, drop_import, undo, log, recover, begins_dashed, is_dashed, mark, marked, asked_of, program, migrate}
+use Rattle.protoref_words.specs.Common.{AskedCommand, Command, asked_by_line, asked_by_command, asks_help, bad_line, command_named, commands, help, command_name, taken, compile, lint, rename, delete_field, add_import, drop_import, undo, log, recover, begins_dashed, is_dashed, marked_first, words_marked, asked_of, program, migrate}
 
 pub simple : is_simple_and_free program ≡ true
 unfolding clap_on_literals
@@ -34,7 +34,7 @@ are_refusals [] = false
 are_refusals (k ∷ ks) = list_all is_refusal (k ∷ ks)
 
 -- how a parse ends, and what the words asked for
-pub data Ends (kinds : Kinds) (found : Option (Text × List Row)) (a : Asked) : Type 0 where
+pub data Ends (kinds : Kinds) (found : Option (Text × List Row)) (a : AskedCommand) : Type 0 where
   read : kinds ≡ [] → asked_of found ≡ a → Ends kinds found a
   helped : kinds ≡ kind.DisplayHelp ∷ [] → a ≡ help → Ends kinds found a
   refused : are_refusals kinds ≡ true → a ≡ bad_line → Ends kinds found a
@@ -97,35 +97,35 @@ module _ (b : App) (word name : Text) (s : Shape) (w : Walk) (bs : List Text)
 
 -- a command of the program as it is built
 abbrev pub leaf : Command → Shape
-leaf c = unwrap_or (find (λ s. answers_to (name_of c) (label_of s)) (built program).subs) help_shape
+leaf c = unwrap_or (find (λ s. answers_to (command_name c) (label_of s)) (built program).subs) help_shape
 
 -- the faults of the words behind a command
 abbrev pub below : Command → List Text → Kinds
 below c bs = level_fault (leaf c) [] nothing_held bs false []
 
 abbrev pub found : Command → List Text → Option (Text × List Row)
-found c bs = Some (name_of c, rows_after (leaf c).rules [] bs)
+found c bs = Some (command_name c, rows_after (leaf c).rules [] bs)
 
 -- the walk that meets a command
 abbrev entering : Walk
 entering = walk_from nothing_held
 
 record AtCommand (c : Command) (n : Text) (bs : List Text) : Type 0 where
-  pub fault : fault_of program (n ∷ name_of c ∷ bs) ≡ below c bs
-  pub found : subcommand_of program (n ∷ name_of c ∷ bs) ≡ found c bs
+  pub fault : fault_of program (n ∷ command_name c ∷ bs) ≡ below c bs
+  pub found : subcommand_of program (n ∷ command_name c ∷ bs) ≡ found c bs
 
 at_command : (c : Command) (n : Text) (bs : List Text) → AtCommand c n bs
 unfolding clap_on_literals
-at_command compile n bs = record { fault = faults (built program) (name_of compile) (name_of compile) (leaf compile) entering bs refl refl refl refl refl refl; found = enters (built program) (name_of compile) (name_of compile) (leaf compile) entering bs refl refl }
-at_command lint n bs = record { fault = faults (built program) (name_of lint) (name_of lint) (leaf lint) entering bs refl refl refl refl refl refl; found = enters (built program) (name_of lint) (name_of lint) (leaf lint) entering bs refl refl }
-at_command rename n bs = record { fault = faults (built program) (name_of rename) (name_of rename) (leaf rename) entering bs refl refl refl refl refl refl; found = enters (built program) (name_of rename) (name_of rename) (leaf rename) entering bs refl refl }
-at_command delete_field n bs = record { fault = faults (built program) (name_of delete_field) (name_of delete_field) (leaf delete_field) entering bs refl refl refl refl refl refl; found = enters (built program) (name_of delete_field) (name_of delete_field) (leaf delete_field) entering bs refl refl }
-at_command add_import n bs = record { fault = faults (built program) (name_of add_import) (name_of add_import) (leaf add_import) entering bs refl refl refl refl refl refl; found = enters (built program) (name_of add_import) (name_of add_import) (leaf add_import) entering bs refl refl }
-at_command drop_import n bs = record { fault = faults (built program) (name_of drop_import) (name_of drop_import) (leaf drop_import) entering bs refl refl refl refl refl refl; found = enters (built program) (name_of drop_import) (name_of drop_import) (leaf drop_import) entering bs refl refl }
-at_command undo n bs = record { fault = faults (built program) (name_of undo) (name_of undo) (leaf undo) entering bs refl refl refl refl refl refl; found = enters (built program) (name_of undo) (name_of undo) (leaf undo) entering bs refl refl }
-at_command log n bs = record { fault = faults (built program) (name_of log) (name_of log) (leaf log) entering bs refl refl refl refl refl refl; found = enters (built program) (name_of log) (name_of log) (leaf log) entering bs refl refl }
-at_command recover n bs = record { fault = faults (built program) (name_of recover) (name_of recover) (leaf recover) entering bs refl refl refl refl refl refl; found = enters (built program) (name_of recover) (name_of recover) (leaf recover) entering bs refl refl }
-at_command migrate n bs = record { fault = faults (built program) (name_of migrate) (name_of migrate) (leaf migrate) entering bs refl refl refl refl refl refl; found = enters (built program) (name_of migrate) (name_of migrate) (leaf migrate) entering bs refl refl }
+at_command compile n bs = record { fault = faults (built program) (command_name compile) (command_name compile) (leaf compile) entering bs refl refl refl refl refl refl; found = enters (built program) (command_name compile) (command_name compile) (leaf compile) entering bs refl refl }
+at_command lint n bs = record { fault = faults (built program) (command_name lint) (command_name lint) (leaf lint) entering bs refl refl refl refl refl refl; found = enters (built program) (command_name lint) (command_name lint) (leaf lint) entering bs refl refl }
+at_command rename n bs = record { fault = faults (built program) (command_name rename) (command_name rename) (leaf rename) entering bs refl refl refl refl refl refl; found = enters (built program) (command_name rename) (command_name rename) (leaf rename) entering bs refl refl }
+at_command delete_field n bs = record { fault = faults (built program) (command_name delete_field) (command_name delete_field) (leaf delete_field) entering bs refl refl refl refl refl refl; found = enters (built program) (command_name delete_field) (command_name delete_field) (leaf delete_field) entering bs refl refl }
+at_command add_import n bs = record { fault = faults (built program) (command_name add_import) (command_name add_import) (leaf add_import) entering bs refl refl refl refl refl refl; found = enters (built program) (command_name add_import) (command_name add_import) (leaf add_import) entering bs refl refl }
+at_command drop_import n bs = record { fault = faults (built program) (command_name drop_import) (command_name drop_import) (leaf drop_import) entering bs refl refl refl refl refl refl; found = enters (built program) (command_name drop_import) (command_name drop_import) (leaf drop_import) entering bs refl refl }
+at_command undo n bs = record { fault = faults (built program) (command_name undo) (command_name undo) (leaf undo) entering bs refl refl refl refl refl refl; found = enters (built program) (command_name undo) (command_name undo) (leaf undo) entering bs refl refl }
+at_command log n bs = record { fault = faults (built program) (command_name log) (command_name log) (leaf log) entering bs refl refl refl refl refl refl; found = enters (built program) (command_name log) (command_name log) (leaf log) entering bs refl refl }
+at_command recover n bs = record { fault = faults (built program) (command_name recover) (command_name recover) (leaf recover) entering bs refl refl refl refl refl refl; found = enters (built program) (command_name recover) (command_name recover) (leaf recover) entering bs refl refl }
+at_command migrate n bs = record { fault = faults (built program) (command_name migrate) (command_name migrate) (leaf migrate) entering bs refl refl refl refl refl refl; found = enters (built program) (command_name migrate) (command_name migrate) (leaf migrate) entering bs refl refl }
 
 -- ---- the words behind a command
 
@@ -279,7 +279,7 @@ lint_passes t y ys few =
 
 lint_reads : (t y : Text) (ys : List Text) → asked_of (found lint (codes "--" ∷ t ∷ y ∷ ys)) ≡ taken lint (t ∷ y ∷ ys)
 unfolding clap_on_literals
-lint_reads t y ys = ap (λ (e : Walk). asked_of (Some (name_of lint, finished lint_rules e.held))) (listed t (y ∷ []) ys)
+lint_reads t y ys = ap (λ (e : Walk). asked_of (Some (command_name lint, finished lint_rules e.held))) (listed t (y ∷ []) ys)
 
 lint_texts : (t : Text) (ts : List Text) → length ts ≤ usize_max → Texts lint (t ∷ ts)
 unfolding clap_on_literals
@@ -300,28 +300,28 @@ texts migrate t ts few = migrate_texts t ts
 
 -- ---- the words behind a command
 
--- the words behind a command, as `marked` leaves them
+-- the words behind a command, as `words_marked` leaves them
 abbrev marked_behind : List Text → List Text
 marked_behind [] = []
-marked_behind (word ∷ words) = mark word ++ words
+marked_behind (word ∷ words) = marked_first word ++ words
 
-marked_is : (n w : Text) (ts : List Text) → marked (n ∷ w ∷ ts) ≡ n ∷ w ∷ marked_behind ts
+marked_is : (n w : Text) (ts : List Text) → words_marked (n ∷ w ∷ ts) ≡ n ∷ w ∷ marked_behind ts
 marked_is n w [] = refl
 marked_is n w (t ∷ ts) = refl
 
-ends_as : (k l : Kinds) (f g : Option (Text × List Row)) (a b : Asked) → k ≡ l → f ≡ g → a ≡ b → Ends l g b → Ends k f a
+ends_as : (k l : Kinds) (f g : Option (Text × List Row)) (a b : AskedCommand) → k ≡ l → f ≡ g → a ≡ b → Ends l g b → Ends k f a
 ends_as k l f g a b e1 e2 e3 (read x y) = read (e1 ∙ x) (ap asked_of e2 ∙ y ∙ sym e3)
 ends_as k l f g a b e1 e2 e3 (helped x y) = helped (e1 ∙ x) (e3 ∙ y)
 ends_as k l f g a b e1 e2 e3 (refused x y) = refused (ap are_refusals e1 ∙ x) (e3 ∙ y)
 
-abbrev pub EndsAt : List Text → Asked → Type 0
+abbrev pub EndsAt : List Text → AskedCommand → Type 0
 EndsAt ws a = Ends (fault_of program ws) (subcommand_of program ws) a
 
 -- where the words are, and what they ask for, is as
-ends_at : (vs ws : List Text) (a b : Asked) → vs ≡ ws → a ≡ b → EndsAt ws b → EndsAt vs a
+ends_at : (vs ws : List Text) (a b : AskedCommand) → vs ≡ ws → a ≡ b → EndsAt ws b → EndsAt vs a
 ends_at vs ws a b e1 e2 h = ends_as _ _ _ _ a b (ap (fault_of program) e1) (ap (subcommand_of program) e1) e2 h
 
-at : (c : Command) (n : Text) (bs : List Text) (a : Asked) → Ends (below c bs) (found c bs) a → EndsAt (n ∷ name_of c ∷ bs) a
+at : (c : Command) (n : Text) (bs : List Text) (a : AskedCommand) → Ends (below c bs) (found c bs) a → EndsAt (n ∷ command_name c ∷ bs) a
 at c n bs a h = let met = at_command c n bs in ends_as _ _ _ _ a a met.fault met.found refl h
 
 none_taken : (c : Command) → taken c [] ≡ bad_line
@@ -346,25 +346,25 @@ help_words w e = elim (either (bytes_eq w (codes "-h")) (bytes_eq w (codes "--he
   | inr l ↦ inr ((bytes_eq-Decides w (codes "--help")).0 l)
 ]
 
-behind : (c : Command) (n : Text) (ts : List Text) → length ts ≤ usize_max → EndsAt (n ∷ name_of c ∷ marked_behind ts) (asked_by c ts)
+behind : (c : Command) (n : Text) (ts : List Text) → length ts ≤ usize_max → EndsAt (n ∷ command_name c ∷ marked_behind ts) (asked_by_command c ts)
 behind c n [] few = at c n [] (taken c []) (refused (ap are_refusals (missing c)) (none_taken c))
 behind c n (t ∷ ts) few = go (asks_help t) refl
   where
-    go : (b : Bool) → asks_help t ≡ b → EndsAt (n ∷ name_of c ∷ (mark t ++ ts)) (asked_by c (t ∷ ts))
-    go false e = ends_at _ (n ∷ name_of c ∷ codes "--" ∷ t ∷ ts) _ (taken c (t ∷ ts))
-        (ap (λ b. n ∷ name_of c ∷ (cond b (t ∷ []) (codes "--" ∷ t ∷ []) ++ ts)) e)
+    go : (b : Bool) → asks_help t ≡ b → EndsAt (n ∷ command_name c ∷ (marked_first t ++ ts)) (asked_by_command c (t ∷ ts))
+    go false e = ends_at _ (n ∷ command_name c ∷ codes "--" ∷ t ∷ ts) _ (taken c (t ∷ ts))
+        (ap (λ b. n ∷ command_name c ∷ (cond b (t ∷ []) (codes "--" ∷ t ∷ []) ++ ts)) e)
         (ap (λ b. cond b help (taken c (t ∷ ts))) e)
         (at c n (codes "--" ∷ t ∷ ts) (taken c (t ∷ ts)) (texts c t ts (omega arith)))
     go true e = elim (help_words t e) [
-      | inl s ↦ ends_at _ (n ∷ name_of c ∷ codes "-h" ∷ ts) _ help (ap (λ x. n ∷ name_of c ∷ (mark x ++ ts)) s) (ap (λ b. cond b help (taken c (t ∷ ts))) e)
+      | inl s ↦ ends_at _ (n ∷ command_name c ∷ codes "-h" ∷ ts) _ help (ap (λ x. n ∷ command_name c ∷ (marked_first x ++ ts)) s) (ap (λ b. cond b help (taken c (t ∷ ts))) e)
           (at c n (codes "-h" ∷ ts) help (helped (short_help c ts) refl))
-      | inr l ↦ ends_at _ (n ∷ name_of c ∷ codes "--help" ∷ ts) _ help (ap (λ x. n ∷ name_of c ∷ (mark x ++ ts)) l) (ap (λ b. cond b help (taken c (t ∷ ts))) e)
+      | inr l ↦ ends_at _ (n ∷ command_name c ∷ codes "--help" ∷ ts) _ help (ap (λ x. n ∷ command_name c ∷ (marked_first x ++ ts)) l) (ap (λ b. cond b help (taken c (t ∷ ts))) e)
           (at c n (codes "--help" ∷ ts) help (helped (long_help c ts) refl))
     ]
 
 -- ---- whole lines
 
-asked_at : (c : Command) (ts : List Text) → asked (name_of c ∷ ts) ≡ asked_by c ts
+asked_at : (c : Command) (ts : List Text) → asked_by_line (command_name c ∷ ts) ≡ asked_by_command c ts
 asked_at compile ts = refl
 asked_at lint ts = refl
 asked_at rename ts = refl
@@ -376,23 +376,23 @@ asked_at log ts = refl
 asked_at recover ts = refl
 asked_at migrate ts = refl
 
-named : (cs : List Command) (w : Text) (c : Command) → find (λ x. bytes_eq (name_of x) w) cs ≡ Some c → bytes_eq (name_of c) w ≡ true
+named : (cs : List Command) (w : Text) (c : Command) → find (λ x. bytes_eq (command_name x) w) cs ≡ Some c → bytes_eq (command_name c) w ≡ true
 named [] w c e = cc
-named (x ∷ cs) w c e = go (bytes_eq (name_of x) w) refl e (named cs w c)
+named (x ∷ cs) w c e = go (bytes_eq (command_name x) w) refl e (named cs w c)
   where
-    go : (b : Bool) → bytes_eq (name_of x) w ≡ b → cond b (Some x) (find (λ y. bytes_eq (name_of y) w) cs) ≡ Some c
-        → (find (λ y. bytes_eq (name_of y) w) cs ≡ Some c → bytes_eq (name_of c) w ≡ true) → bytes_eq (name_of c) w ≡ true
-    go true t h rest = let same : x ≡ c = cc in subst (λ y. bytes_eq (name_of y) w ≡ true) same t
+    go : (b : Bool) → bytes_eq (command_name x) w ≡ b → cond b (Some x) (find (λ y. bytes_eq (command_name y) w) cs) ≡ Some c
+        → (find (λ y. bytes_eq (command_name y) w) cs ≡ Some c → bytes_eq (command_name c) w ≡ true) → bytes_eq (command_name c) w ≡ true
+    go true t h rest = let same : x ≡ c = cc in subst (λ y. bytes_eq (command_name y) w ≡ true) same t
     go false t h rest = rest h
 
 abbrev label : Command → Text × List Text
-label c = (name_of c, [])
+label c = (command_name c, [])
 
-unnamed : (cs : List Command) (w : Text) → find (λ x. bytes_eq (name_of x) w) cs ≡ None → find (answers_to w) (map label cs) ≡ None
+unnamed : (cs : List Command) (w : Text) → find (λ x. bytes_eq (command_name x) w) cs ≡ None → find (answers_to w) (map label cs) ≡ None
 unnamed [] w e = refl
-unnamed (x ∷ cs) w e = go (bytes_eq (name_of x) w) e (unnamed cs w)
+unnamed (x ∷ cs) w e = go (bytes_eq (command_name x) w) e (unnamed cs w)
   where
-    go : (b : Bool) → cond b (Some x) (find (λ y. bytes_eq (name_of y) w) cs) ≡ None → (find (λ y. bytes_eq (name_of y) w) cs ≡ None → find (answers_to w) (map label cs) ≡ None)
+    go : (b : Bool) → cond b (Some x) (find (λ y. bytes_eq (command_name y) w) cs) ≡ None → (find (λ y. bytes_eq (command_name y) w) cs ≡ None → find (answers_to w) (map label cs) ≡ None)
         → cond (b || false) (Some (label x)) (find (answers_to w) (map label cs)) ≡ None
     go true h rest = cc
     go false h rest = rest h
@@ -433,21 +433,21 @@ right : (a b : Bool) → (a && not b) ≡ false → b ≡ false → a ≡ false
 right true b e f = cc
 right false b e f = refl
 
-whole : (n w : Text) (ts : List Text) → length ts ≤ usize_max → is_dashed w ≡ false → EndsAt (marked (n ∷ w ∷ ts)) (asked (w ∷ ts))
+whole : (n w : Text) (ts : List Text) → length ts ≤ usize_max → is_dashed w ≡ false → EndsAt (words_marked (n ∷ w ∷ ts)) (asked_by_line (w ∷ ts))
 whole n w ts few plain = go (asks_help w) refl
   where
-    first_is : (v : Text) → w ≡ v → marked (n ∷ w ∷ ts) ≡ n ∷ v ∷ marked_behind ts
+    first_is : (v : Text) → w ≡ v → words_marked (n ∷ w ∷ ts) ≡ n ∷ v ∷ marked_behind ts
     first_is v e = marked_is n w ts ∙ ap (λ x. n ∷ x ∷ marked_behind ts) e
 
-    by_command : (o : Option Command) → command_named w ≡ o → asks_help w ≡ false → EndsAt (marked (n ∷ w ∷ ts)) (asked (w ∷ ts))
+    by_command : (o : Option Command) → command_named w ≡ o → asks_help w ≡ false → EndsAt (words_marked (n ∷ w ∷ ts)) (asked_by_line (w ∷ ts))
     by_command None none e =
         let kinds = ap (fault_of program) (marked_is n w ts) ∙ stray n w (marked_behind ts) (right _ _ plain e) none in
         refused (ap are_refusals kinds) (rw (e, none) refl)
     by_command (Some c) is e =
-        let same : w ≡ name_of c = sym ((bytes_eq-Decides (name_of c) w).0 (named commands w c is)) in
-        ends_at _ (n ∷ name_of c ∷ marked_behind ts) _ (asked_by c ts) (first_is (name_of c) same) (ap (λ x. asked (x ∷ ts)) same ∙ asked_at c ts) (behind c n ts few)
+        let same : w ≡ command_name c = sym ((bytes_eq-Decides (command_name c) w).0 (named commands w c is)) in
+        ends_at _ (n ∷ command_name c ∷ marked_behind ts) _ (asked_by_command c ts) (first_is (command_name c) same) (ap (λ x. asked_by_line (x ∷ ts)) same ∙ asked_at c ts) (behind c n ts few)
 
-    go : (b : Bool) → asks_help w ≡ b → EndsAt (marked (n ∷ w ∷ ts)) (asked (w ∷ ts))
+    go : (b : Bool) → asks_help w ≡ b → EndsAt (words_marked (n ∷ w ∷ ts)) (asked_by_line (w ∷ ts))
     go false e = by_command (command_named w) refl e
     go true e = elim (help_words w e) [
       | inl s ↦ helped (ap (fault_of program) (first_is (codes "-h") s) ∙ top_short n (marked_behind ts)) (rw e refl)
@@ -455,13 +455,13 @@ whole n w ts few plain = go (asks_help w) refl
     ]
 
 -- each line but one whose first word begins with `-` and asks for no help
-pub line : (ws : List Text) → length ws ≤ usize_max → begins_dashed ws ≡ false → EndsAt (marked ws) (asked (drop 1 ws))
+pub line : (ws : List Text) → length ws ≤ usize_max → begins_dashed ws ≡ false → EndsAt (words_marked ws) (asked_by_line (drop 1 ws))
 unfolding clap_on_literals
 line [] few plain = refused refl refl
 line (n ∷ []) few plain = refused refl refl
 line (n ∷ w ∷ ts) few plain = whole n w ts (omega arith) plain
 
-pub dashed : (ws : List Text) → begins_dashed ws ≡ true → asked (drop 1 ws) ≡ bad_line
+pub dashed : (ws : List Text) → begins_dashed ws ≡ true → asked_by_line (drop 1 ws) ≡ bad_line
 dashed [] e = cc
 dashed (n ∷ []) e = cc
 dashed (n ∷ [] ∷ ts) e = cc

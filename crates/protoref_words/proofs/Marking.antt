@@ -1,16 +1,16 @@
 -- The words as they are handed to `clap`, one by one.
 use Rattle.std.proofs.Common.{◌≡◌, ◌∙◌, ℕ, zero, suc, ◌+◌, ◌<◌, ◌==◌, true, false, List, [], ◌∷◌, ◌++◌, map, take, length, slice_index_or, Result, Ok, Err, String, string_bytes, refl, sym, ap, ap₂, subst, arith, IsErrAnd, MatchResult, append_assoc, length-take-le}
 use Rattle.proto_faults.proofs.Common.{Global, length-map, map-append, take_more, Text}
-use Rattle.protoref_words.specs.Common.{begins_dashed, is_bad_at, mark, marked, marks, IsFaultOf, WordsFault}
+use Rattle.protoref_words.specs.Common.{begins_dashed, is_bad_at, marked_first, words_marked, marks_for_word, IsWordsFaultOf, WordsFault}
 use Rattle.protoref_words.specs.declared.request.WordsFault.TheVariants as fault
 
-marked_more : (xs : List Text) (w : Text) → marked (xs ++ w ∷ []) ≡ marked xs ++ marks (length xs) w
+marked_more : (xs : List Text) (w : Text) → words_marked (xs ++ w ∷ []) ≡ words_marked xs ++ marks_for_word (length xs) w
 marked_more [] w = refl
 marked_more (a ∷ []) w = refl
-marked_more (a ∷ b ∷ []) w = ap (λ m. a ∷ b ∷ m) (Rattle.std.proofs.Common.append-nil (mark w))
+marked_more (a ∷ b ∷ []) w = ap (λ m. a ∷ b ∷ m) (Rattle.std.proofs.Common.append-nil (marked_first w))
 marked_more (a ∷ b ∷ c ∷ xs) w =
     let three : (length (a ∷ b ∷ c ∷ xs) == 2) ≡ false = grind arith in
-    rw three (ap (λ m. a ∷ b ∷ m) (sym (append_assoc (mark c) xs (w ∷ []))))
+    rw three (ap (λ m. a ∷ b ∷ m) (sym (append_assoc (marked_first c) xs (w ∷ []))))
 
 begins_more : (xs : List Text) (w : Text) → begins_dashed xs ≡ false → is_bad_at (length xs) w ≡ false → begins_dashed (xs ++ w ∷ []) ≡ false
 begins_more [] w plain e = refl
@@ -41,10 +41,10 @@ bytes_more ws i w lt is =
 count : (ws : Words) (i : ℕ) → i < length ws → length (bytes (take i ws)) ≡ i
 count ws i lt = length-map (take i ws) string_bytes ∙ length-take-le i ws (omega arith)
 
-pub handed_more : (ws : Words) (i : ℕ) (w : String Global) (before after : List Text) → i < length ws → w ≡ slice_index_or ws i w → before ≡ marked (bytes (take i ws))
-    → after ≡ before ++ marks i (string_bytes w) → after ≡ marked (bytes (take (i + 1) ws))
+pub handed_more : (ws : Words) (i : ℕ) (w : String Global) (before after : List Text) → i < length ws → w ≡ slice_index_or ws i w → before ≡ words_marked (bytes (take i ws))
+    → after ≡ before ++ marks_for_word i (string_bytes w) → after ≡ words_marked (bytes (take (i + 1) ws))
 handed_more ws i w before after lt is old new =
-    new ∙ ap₂ (λ b n. b ++ marks n (string_bytes w)) old (sym (count ws i lt)) ∙ sym (marked_more (bytes (take i ws)) (string_bytes w)) ∙ ap marked (sym (bytes_more ws i w lt is))
+    new ∙ ap₂ (λ b n. b ++ marks_for_word n (string_bytes w)) old (sym (count ws i lt)) ∙ sym (marked_more (bytes (take i ws)) (string_bytes w)) ∙ ap words_marked (sym (bytes_more ws i w lt is))
 
 pub plain_more : (ws : Words) (i : ℕ) (w : String Global) → i < length ws → w ≡ slice_index_or ws i w → begins_dashed (bytes (take i ws)) ≡ false
     → is_bad_at i (string_bytes w) ≡ false → begins_dashed (bytes (take (i + 1) ws)) ≡ false
@@ -62,7 +62,7 @@ bad_word ws i w lt is e =
 
 -- the fault of one word is that of all
 pub fault_here : {T : Type 0} (P : T → Type 0) (ws : Words) (i : ℕ) (w : String Global) (f : WordsFault) (r : Result T WordsFault) → i < length ws → w ≡ slice_index_or ws i w
-    → IsErrAnd r (λ e. e ≡ f) → IsFaultOf (is_bad_at i (string_bytes w)) f → MatchResult r P (IsFaultOf (begins_dashed (bytes ws)))
+    → IsErrAnd r (λ e. e ≡ f) → IsWordsFaultOf (is_bad_at i (string_bytes w)) f → MatchResult r P (IsWordsFaultOf (begins_dashed (bytes ws)))
 fault_here P ws i w f (Ok x) lt is same bad = absurd same
-fault_here P ws i w fault.BadCommandLine (Err g) lt is same bad = subst (IsFaultOf (begins_dashed (bytes ws))) (sym same) (bad_word ws i w lt is bad)
-fault_here P ws i w fault.NoMemory (Err g) lt is same bad = subst (IsFaultOf (begins_dashed (bytes ws))) (sym same) tt
+fault_here P ws i w fault.BadCommandLine (Err g) lt is same bad = subst (IsWordsFaultOf (begins_dashed (bytes ws))) (sym same) (bad_word ws i w lt is bad)
+fault_here P ws i w fault.NoMemory (Err g) lt is same bad = subst (IsWordsFaultOf (begins_dashed (bytes ws))) (sym same) tt

@@ -22,17 +22,17 @@ pub data Command : Type 0 where
   migrate : Command
 
 -- the word that names a command
-abbrev pub name_of : Command → Text
-name_of compile = codes "compile"
-name_of lint = codes "lint"
-name_of rename = codes "rename"
-name_of delete_field = codes "delete-field"
-name_of add_import = codes "add-import"
-name_of drop_import = codes "drop-import"
-name_of undo = codes "undo"
-name_of log = codes "log"
-name_of recover = codes "recover"
-name_of migrate = codes "migrate"
+abbrev pub command_name : Command → Text
+command_name compile = codes "compile"
+command_name lint = codes "lint"
+command_name rename = codes "rename"
+command_name delete_field = codes "delete-field"
+command_name add_import = codes "add-import"
+command_name drop_import = codes "drop-import"
+command_name undo = codes "undo"
+command_name log = codes "log"
+command_name recover = codes "recover"
+command_name migrate = codes "migrate"
 
 -- all commands of the program
 abbrev pub commands : List Command
@@ -50,7 +50,7 @@ commands = compile
 
 -- the command that a word names; none, where it is the name of none
 abbrev pub command_named : Text → Option Command
-command_named word = find (λ command. bytes_eq (name_of command) word) commands
+command_named word = find (λ command. bytes_eq (command_name command) word) commands
 
 -- a word asks for help: it is `-h` or `--help`
 abbrev pub asks_help : Text → Bool
@@ -92,35 +92,35 @@ abbrev pub names_rule : Text → Bool
 names_rule word = list_any (λ r. bytes_eq word (identifier r)) rules
 
 -- what a command line asks for, with the texts that its words are; `bad_line` asks for nothing
-pub data Asked : Type 0 where
+pub data AskedCommand : Type 0 where
   -- a text of help
-  help : Asked
+  help : AskedCommand
   -- the descriptors of the schemas in the folder ROOT
-  compile_of : Path → Asked
+  compile_of : Path → AskedCommand
   -- what lint finds in the schemas in ROOT by the rules with these identifiers
-  lint_of : Path → List Text → Asked
+  lint_of : Path → List Text → AskedCommand
   -- in ROOT, the symbol with the full name NAME gets the simple name TO
-  rename_of : Path → Text → Text → Asked
+  rename_of : Path → Text → Text → AskedCommand
   -- in ROOT, the field with the full name NAME is deleted
-  delete_field_of : Path → Text → Asked
+  delete_field_of : Path → Text → AskedCommand
   -- in ROOT, the schema FILE imports PATH from now on
-  add_import_of : Path → Path → Path → Asked
+  add_import_of : Path → Path → Path → AskedCommand
   -- in ROOT, the schema FILE imports PATH no longer
-  drop_import_of : Path → Path → Path → Asked
+  drop_import_of : Path → Path → Path → AskedCommand
   -- the last entry of the journal of ROOT is undone
-  undo_of : Path → Asked
+  undo_of : Path → AskedCommand
   -- the entries of the journal of ROOT
-  log_of : Path → Asked
+  log_of : Path → AskedCommand
   -- ROOT is brought back to before the open entry of its journal
-  recover_of : Path → Asked
+  recover_of : Path → AskedCommand
   -- the journal of ROOT goes over to the second version
-  migrate_of : Path → Asked
+  migrate_of : Path → AskedCommand
   -- nothing, since the line is a bad one
-  bad_line : Asked
+  bad_line : AskedCommand
 
 -- what a command asks for with these texts behind it: it takes them in this order, and neither
 -- more nor fewer, but for `lint`, which takes any number of identifiers of rules
-abbrev pub taken : Command → List Text → Asked
+abbrev pub taken : Command → List Text → AskedCommand
 taken compile (root ∷ []) = compile_of root
 taken lint (root ∷ names) = if list_all names_rule names then lint_of root names else bad_line
 taken rename (root ∷ name ∷ to ∷ []) = rename_of root name to
@@ -135,13 +135,14 @@ taken _ _ = bad_line
 
 -- what a command asks for with these words behind it: help, where the first asks for it; else each
 -- word is a text as it stands, whatever it begins with
-abbrev pub asked_by : Command → List Text → Asked
-asked_by command [] = taken command []
-asked_by command (word ∷ words) = if asks_help word then help else taken command (word ∷ words)
+abbrev pub asked_by_command : Command → List Text → AskedCommand
+asked_by_command command [] = taken command []
+asked_by_command command (word ∷ words) =
+    if asks_help word then help else taken command (word ∷ words)
 
 -- what the words of a command line ask for: help, where the first asks for it; else what the
 -- command asks for that the first names
-abbrev pub asked : List Text → Asked
-asked [] = bad_line
-asked (word ∷ words) = if asks_help word then help
-    else option_map_or (λ command. asked_by command words) (command_named word) bad_line
+abbrev pub asked_by_line : List Text → AskedCommand
+asked_by_line [] = bad_line
+asked_by_line (word ∷ words) = if asks_help word then help
+    else option_map_or (λ command. asked_by_command command words) (command_named word) bad_line

@@ -18,16 +18,16 @@ begins_dashed (name ∷ word ∷ words) = is_dashed word
 begins_dashed _ = false
 
 -- a word that stands first behind a command, with `--` before it unless it asks for help
-abbrev pub mark : Text → List Text
-mark word = if asks_help word then word ∷ [] else codes "--" ∷ word ∷ []
+abbrev pub marked_first : Text → List Text
+marked_first word = if asks_help word then word ∷ [] else codes "--" ∷ word ∷ []
 
 -- what stands for the word with this index, counted from the program's name as 0
-abbrev pub marks : ℕ → Text → List Text
-marks index word = if index == 2 then mark word else word ∷ []
+abbrev pub marks_for_word : ℕ → Text → List Text
+marks_for_word index word = if index == 2 then marked_first word else word ∷ []
 
 -- the words that are handed for these, of which the first is the program's name
-abbrev pub marked : List Text → List Text
-marked [] = []
-marked (name ∷ []) = name ∷ []
-marked (name ∷ command ∷ []) = name ∷ command ∷ []
-marked (name ∷ command ∷ word ∷ words) = name ∷ command ∷ mark word ++ words
+abbrev pub words_marked : List Text → List Text
+words_marked [] = []
+words_marked (name ∷ []) = name ∷ []
+words_marked (name ∷ command ∷ []) = name ∷ command ∷ []
+words_marked (name ∷ command ∷ word ∷ words) = name ∷ command ∷ marked_first word ++ words

@@ -5,34 +5,34 @@ use Rattle.clap.specs.Walk.{Rule}
 use Rattle.clap.specs.Simple.{App, Shape, new_rule, new_shape}
 use Rattle.clap.specs.declared.builder.action.ArgAction.TheVariants.{Set, Append}
 use Rattle.proto_faults.specs.Texts.{Text}
-use Rattle.protoref_words.specs.CommandLines.{Command, compile, lint, rename, delete_field, add_import, drop_import, undo, log, recover, migrate, commands, name_of}
+use Rattle.protoref_words.specs.CommandLines.{Command, compile, lint, rename, delete_field, add_import, drop_import, undo, log, recover, migrate, commands, command_name}
 use Rattle.protoref_words.specs.declared.commands.Argument.{Argument}
 use Rattle.protoref_words.specs.declared.commands.Argument.TheVariants.{One, Many}
 use Rattle.protoref_words.specs.declared.commands.Words.{Words}
 
 -- an argument that is one word, which has to stand there
-abbrev pub one : Text → Rule
-one id = record (new_rule id) { action = Some Set; required = true }
+abbrev pub single_word : Text → Rule
+single_word id = record (new_rule id) { action = Some Set; required = true }
 
 -- an argument of any number of words
-abbrev pub many : Text → Rule
-many id = record (new_rule id) {
+abbrev pub many_words : Text → Rule
+many_words id = record (new_rule id) {
   action = Some Append;
   range = Some (record { start_inclusive = 0; end_inclusive = usize_max });
 }
 
 -- the folder of the schemas, which each command takes first
 abbrev pub root : Rule
-root = one (codes "ROOT")
+root = single_word (codes "ROOT")
 
 -- the arguments of a command, in their order
 abbrev pub arguments_of : Command → List Rule
 arguments_of compile = root ∷ []
-arguments_of lint = root ∷ many (codes "RULE") ∷ []
-arguments_of rename = root ∷ one (codes "NAME") ∷ one (codes "TO") ∷ []
-arguments_of delete_field = root ∷ one (codes "NAME") ∷ []
-arguments_of add_import = root ∷ one (codes "FILE") ∷ one (codes "PATH") ∷ []
-arguments_of drop_import = root ∷ one (codes "FILE") ∷ one (codes "PATH") ∷ []
+arguments_of lint = root ∷ many_words (codes "RULE") ∷ []
+arguments_of rename = root ∷ single_word (codes "NAME") ∷ single_word (codes "TO") ∷ []
+arguments_of delete_field = root ∷ single_word (codes "NAME") ∷ []
+arguments_of add_import = root ∷ single_word (codes "FILE") ∷ single_word (codes "PATH") ∷ []
+arguments_of drop_import = root ∷ single_word (codes "FILE") ∷ single_word (codes "PATH") ∷ []
 arguments_of undo = root ∷ []
 arguments_of log = root ∷ []
 arguments_of recover = root ∷ []
@@ -44,7 +44,7 @@ shape_with name rules = record (new_shape name) { rules = rules }
 
 -- a command of the program, with its name and its arguments
 abbrev pub shape_of_command : Command → Shape
-shape_of_command command = shape_with (name_of command) (arguments_of command)
+shape_of_command command = shape_with (command_name command) (arguments_of command)
 
 -- the program with no command: one has to stand there, and none is called `help`
 abbrev pub bare : Shape
@@ -61,8 +61,8 @@ program = record { top = record bare { is_leaf = false }; subs = map shape_of_co
 
 -- the argument that a row of the table stands for; its help is left out
 abbrev pub rule_of_row : Argument → Rule
-rule_of_row (One id help) = one id.now
-rule_of_row (Many id help) = many id.now
+rule_of_row (One id help) = single_word id.now
+rule_of_row (Many id help) = many_words id.now
 
 -- the command that an entry of the table stands for; its help is left out
 abbrev pub shape_of_words : Words → Shape

@@ -9,7 +9,7 @@ use Rattle.proto_faults.specs.Texts.{Text}
 use Rattle.proto_rules.specs.Rules.{identifier, is_chosen}
 use Rattle.proto_rules.specs.declared.rule.Rule.{Rule}
 use Rattle.proto_rules.specs.declared.rule_set.RuleSet.{RuleSet}
-use Rattle.protoref_words.specs.CommandLines.{Asked, names_rule, help, compile_of, lint_of, rename_of, delete_field_of, add_import_of, drop_import_of, undo_of, log_of, recover_of, migrate_of, bad_line}
+use Rattle.protoref_words.specs.CommandLines.{AskedCommand, names_rule, help, compile_of, lint_of, rename_of, delete_field_of, add_import_of, drop_import_of, undo_of, log_of, recover_of, migrate_of, bad_line}
 use Rattle.protoref_words.specs.declared.request.Request.{Request}
 use Rattle.protoref_words.specs.declared.request.Request.TheVariants as request
 use Rattle.protoref_words.specs.declared.request.WordsFault.{WordsFault}
@@ -29,7 +29,7 @@ abbrev pub IsSetOf : List Text → RuleSet → Type 0
 IsSetOf names set = (rule : Rule) → is_chosen set.chosen rule ≡ ask_for names rule
 
 -- a request is what is asked for, text by text; what stands in a help is not said
-abbrev pub IsRequest : Asked → Request → Type 0
+abbrev pub IsRequest : AskedCommand → Request → Type 0
 IsRequest asked (request.Help text) = asked ≡ help
 IsRequest asked (request.Compile root) = asked ≡ compile_of (string_bytes root)
 IsRequest asked (request.Lint root set) =
@@ -49,7 +49,7 @@ IsRequest asked (request.Migrate root) = asked ≡ migrate_of (string_bytes root
 
 -- the answer to what is asked for: that request; a bad command line exactly where nothing is asked
 -- for; or want of memory, which may come at any words
-abbrev pub IsAnswerTo : Asked → Result Request WordsFault → Type 0
+abbrev pub IsAnswerTo : AskedCommand → Result Request WordsFault → Type 0
 IsAnswerTo asked (Ok request) = IsRequest asked request
 IsAnswerTo asked (Err fault.BadCommandLine) = asked ≡ bad_line
 IsAnswerTo asked (Err fault.NoMemory) = Unit {0}
@@ -57,9 +57,9 @@ IsAnswerTo asked (Err fault.NoMemory) = Unit {0}
 -- ---- the parts of an answer
 
 -- a fault is want of memory, or a bad command line where it is one
-abbrev pub IsFaultOf : Bool → WordsFault → Type 0
-IsFaultOf is_bad fault.BadCommandLine = is_bad ≡ true
-IsFaultOf is_bad fault.NoMemory = Unit {0}
+abbrev pub IsWordsFaultOf : Bool → WordsFault → Type 0
+IsWordsFaultOf is_bad fault.BadCommandLine = is_bad ≡ true
+IsWordsFaultOf is_bad fault.NoMemory = Unit {0}
 
 -- the answer where `clap` has an error of this kind: help alone is asked for
 abbrev pub IsHelpOf : ErrorKind → Result Request WordsFault → Type 0

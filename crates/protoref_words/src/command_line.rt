@@ -7,10 +7,10 @@ ghost use Rattle.clap.specs.Walk.{all_of, first_of, rows_of, texts};
 ghost use Rattle.clap.specs.Words.{found_of, subcommand_rows_of};
 ghost use Rattle.proto_rules.specs.Rules.{is_chosen};
 ghost use Rattle.proto_rules.specs.declared.rule.Rule.{Rule};
-ghost use Rattle.protoref_words.specs.CommandLines.{asked, asks_help, names_rule, taken, lint, rename, delete_field, add_import, drop_import};
-ghost use Rattle.protoref_words.specs.Marked.{begins_dashed, is_bad_at, marked, marks};
-ghost use Rattle.protoref_words.specs.Matched.{asked_in, asked_of, with_one, with_root, with_two};
-ghost use Rattle.protoref_words.specs.Requests.{IsAnswerTo, IsFaultOf, IsHelpOf, IsSetFor, IsTextOf, name_rule};
+ghost use Rattle.protoref_words.specs.CommandLines.{asked_by_line, asks_help, names_rule, taken, lint, rename, delete_field, add_import, drop_import};
+ghost use Rattle.protoref_words.specs.Marked.{begins_dashed, is_bad_at, words_marked, marks_for_word};
+ghost use Rattle.protoref_words.specs.Matched.{asked_by_matches, asked_of, with_one, with_root, with_two};
+ghost use Rattle.protoref_words.specs.Requests.{IsAnswerTo, IsWordsFaultOf, IsHelpOf, IsSetFor, IsTextOf, name_rule};
 
 use crate::commands::program;
 use crate::request::{Request, WordsFault};
@@ -24,7 +24,7 @@ use std::alloc::Global;
 /// `BadCommandLine` comes where the words are none of the program's, or name a rule that there is
 /// not; `NoMemory` where memory runs out.
 pub fn read_words(alloc: Global, words: &[String]) -> Result<Request, WordsFault>
-    ensures { IsAnswerTo (asked (drop 1 (map string_bytes words.now))) result }
+    ensures { IsAnswerTo (asked_by_line (drop 1 (map string_bytes words.now))) result }
 {
     let words = marked_words(alloc, words)?;
     let program = program(alloc)?;
@@ -48,10 +48,10 @@ fn help_of(alloc: Global, error: &Error) -> Result<Request, WordsFault>
 // The words for `clap`, with `--` before those that are texts.
 fn marked_words<'a>(alloc: Global, words: &'a [String]) -> Result<Vec<&'a str>, WordsFault>
     ensures { MatchResult result
-        (λ v. (texts v.items ≡ marked (map string_bytes words.now))
+        (λ v. (texts v.items ≡ words_marked (map string_bytes words.now))
         × (begins_dashed (map string_bytes words.now) ≡ false)
         × (length words.now ≤ usize.MAX))
-        (IsFaultOf (begins_dashed (map string_bytes words.now))) }
+        (IsWordsFaultOf (begins_dashed (map string_bytes words.now))) }
 {
     let mut marked = Vec::new(alloc);
     for (index, word) in words.iter().enumerate() {
@@ -63,9 +63,10 @@ fn marked_words<'a>(alloc: Global, words: &'a [String]) -> Result<Vec<&'a str>, 
 // Adds the word with this index, and `--` before it where the texts begin.
 fn put_marked<'a>(marked: &mut Vec<&'a str>, index: usize, word: &'a str) -> Result<(), WordsFault>
     ensures { MatchResult result
-        (λ _. (texts marked.new.items ≡ texts marked.old.items ++ marks index word.entry.now)
+        (λ _. (texts marked.new.items ≡ texts marked.old.items
+        ++ marks_for_word index word.entry.now)
         × (is_bad_at index word.entry.now ≡ false))
-        (IsFaultOf (is_bad_at index word.entry.now)) }
+        (IsWordsFaultOf (is_bad_at index word.entry.now)) }
 {
     if index == 1 && word.starts_with('-') && !asks_help(word) {
         return Err(WordsFault::BadCommandLine);
@@ -94,7 +95,7 @@ fn request_of(alloc: Global, matches: &ArgMatches<'_>) -> Result<Request, WordsF
 
 // What the command with this name and these matches asks for.
 fn request_in(alloc: Global, command: &str, matches: &ArgMatches<'_>) -> Result<Request, WordsFault>
-    ensures { IsAnswerTo (asked_in command.now (rows_of (found_of matches.now))) result }
+    ensures { IsAnswerTo (asked_by_matches command.now (rows_of (found_of matches.now))) result }
 {
     let root = text_of(alloc, matches, "ROOT")?;
     request_with(alloc, command, matches, root)

@@ -191,7 +191,7 @@ pub(crate) fn is_second_journal<R: AllocGlobal + Abort>(rt: &R, bytes: &[u8]) ->
 }
 
 /// One text behind another.
-pub(crate) fn joined<R: AllocGlobal + Abort>(rt: &R, first: &str, second: &str) -> String {
+pub(crate) fn joined_text<R: AllocGlobal + Abort>(rt: &R, first: &str, second: &str) -> String {
     let mut text = String::from_str(rt.alloc(), first).expect(rt, "memory");
     text.push_str(second).expect(rt, "memory");
     text

@@ -133,7 +133,7 @@ const PAIRS: &[(&str, &str, bool)] = &[
 #[test]
 fn several_lines(rt: HostRuntime) {
     for (first, second, is_read) in PAIRS {
-        let journal = joined(&rt, first, second);
+        let journal = joined_text(&rt, first, second);
         let is_so = is_first_journal(&rt, journal.as_bytes()) == *is_read;
         expect(&rt, is_so, journal.as_str());
     }
@@ -142,7 +142,7 @@ fn several_lines(rt: HostRuntime) {
 #[test]
 fn several_lines_of_the_second_version(rt: HostRuntime) {
     for (first, second, is_read) in SECOND_PAIRS {
-        let journal = joined(&rt, first, second);
+        let journal = joined_text(&rt, first, second);
         let is_so = is_second_journal(&rt, journal.as_bytes()) == *is_read;
         expect(&rt, is_so, journal.as_str());
     }
@@ -150,7 +150,7 @@ fn several_lines_of_the_second_version(rt: HostRuntime) {
 
 // The last line of a journal, which is open or is not, and what stands before it.
 fn expect_last<R: AllocGlobal + Abort>(rt: &R, front: &str, last: &str, open: bool) {
-    let journal = joined(rt, front, last);
+    let journal = joined_text(rt, front, last);
     let records = read_records(rt.alloc(), journal.as_bytes()).expect(rt, "a journal");
     assert!(rt; last_is_open(records.as_slice()) == open);
     assert!(rt; without_last(journal.as_bytes()) == front.as_bytes());
@@ -169,10 +169,10 @@ fn the_last_record(rt: HostRuntime) {
 
 #[test]
 fn one_record_more(rt: HostRuntime) {
-    let both = joined(&rt, LINE, OPEN_LINE);
+    let both = joined_text(&rt, LINE, OPEN_LINE);
     expect_longer(&rt, LINE, State::Open, both.as_str()).expect(&rt, "memory");
     expect_longer(&rt, "", State::Done, LINE).expect(&rt, "memory");
-    let second = joined(&rt, NULL_LINE, OPEN_SECOND_LINE);
+    let second = joined_text(&rt, NULL_LINE, OPEN_SECOND_LINE);
     expect_longer_second(&rt, NULL_LINE, State::Open, second.as_str()).expect(&rt, "memory");
     expect_longer_second(&rt, "", State::Done, SECOND_LINE).expect(&rt, "memory");
 }

@@ -6,7 +6,7 @@ use proto_records::{Record, State, entry_text};
 use std::process::Abort;
 
 // The line of one splice, of which no edit is known.
-fn written<R: AllocGlobal + Abort>(rt: &R, new: &str, after: u32) -> String {
+fn written_line<R: AllocGlobal + Abort>(rt: &R, new: &str, after: u32) -> String {
     let entry = entry_of(rt, new, after).expect(rt, "memory");
     let noted = Record::new(State::Done, entry, None).expect(rt, "a record");
     entry_text(rt.alloc(), &noted).expect(rt, "memory")
@@ -14,7 +14,7 @@ fn written<R: AllocGlobal + Abort>(rt: &R, new: &str, after: u32) -> String {
 
 #[test]
 fn a_rename_is_written(rt: HostRuntime) {
-    assert!(rt; written(&rt, "d_e", 48).as_str() == NULL_LINE);
+    assert!(rt; written_line(&rt, "d_e", 48).as_str() == NULL_LINE);
     let entry = entry_of(&rt, "d_e", 48).expect(&rt, "memory");
     let edit = edit_of(&rt).expect(&rt, "memory");
     let noted = Record::new(State::Done, entry, Some(edit)).expect(&rt, "a record");
@@ -27,7 +27,8 @@ fn expect_written<R: AllocGlobal + Abort>(rt: &R, new: &str, after: u32, part: &
     let line = format!(in rt.alloc();
         "{{\"edit\":null,\"files\":[{{\"after\":{after},\"before\":48,\"path\":\"a.proto\",\"splices\":[{{\"at\":38,\"new\":\"{part}\",\"old\":\"b_c\"}}]}}],\"state\":\"done\",\"version\":2}}\n"
     ).expect(rt, "memory");
-    let is_so = written(rt, new, after).as_str() == line.as_str() && is_record(rt, line.as_str());
+    let is_so = written_line(rt, new, after).as_str() == line.as_str()
+        && is_record(rt, line.as_str());
     expect(rt, is_so, part);
 }
 
@@ -53,7 +54,7 @@ fn texts_are_escaped(rt: HostRuntime) {
 }
 
 // The line with a text in place of its first.
-fn replaced<R: AllocGlobal + Abort>(rt: &R, line: &str, from: &str, to: &str) -> String {
+fn line_with<R: AllocGlobal + Abort>(rt: &R, line: &str, from: &str, to: &str) -> String {
     let (front, back) = line.split_once(from).expect(rt, "a part of the line");
     format!(in rt.alloc(); "{front}{to}{back}").expect(rt, "memory")
 }
@@ -61,7 +62,7 @@ fn replaced<R: AllocGlobal + Abort>(rt: &R, line: &str, from: &str, to: &str) ->
 // Whether the lines are read that have the second text of a row in place of the first: that of the first version.
 fn expect_first<R: AllocGlobal + Abort>(rt: &R, rows: &[(&str, &str)], is_read: bool) {
     for (from, to) in rows {
-        let line = replaced(rt, LINE, from, to);
+        let line = line_with(rt, LINE, from, to);
         expect(rt, is_first_record(rt, line.as_str()) == is_read, to);
     }
 }
@@ -69,7 +70,7 @@ fn expect_first<R: AllocGlobal + Abort>(rt: &R, rows: &[(&str, &str)], is_read: 
 // The same of the second version.
 fn expect_second<R: AllocGlobal + Abort>(rt: &R, rows: &[(&str, &str)], is_read: bool) {
     for (from, to) in rows {
-        let line = replaced(rt, SECOND_LINE, from, to);
+        let line = line_with(rt, SECOND_LINE, from, to);
         expect(rt, is_record(rt, line.as_str()) == is_read, to);
     }
 }
@@ -395,7 +396,7 @@ const NO_EDITS: &[&str] = &[
 // The line of the second version with another edit.
 fn with_edit<R: AllocGlobal + Abort>(rt: &R, edit: &str) -> String {
     let to = format!(in rt.alloc(); "\"edit\":{edit},").expect(rt, "memory");
-    replaced(rt, SECOND_LINE, EDIT, to.as_str())
+    line_with(rt, SECOND_LINE, EDIT, to.as_str())
 }
 
 #[test]

@@ -9,7 +9,10 @@ use std::process::Abort;
 const FILES: &[(&str, &str)] = &[("a.proto", "A")];
 
 // What the move answers over a store.
-fn moved<R: AllocGlobal + Abort>(rt: &R, store: &mut MemoryStore) -> Result<bool, JournalFault> {
+fn migrate_store<R: AllocGlobal + Abort>(
+    rt: &R,
+    store: &mut MemoryStore,
+) -> Result<bool, JournalFault> {
     assert!(rt; store.failures() < u64::MAX);
     migrate(rt.alloc(), store)
 }
@@ -22,7 +25,7 @@ fn store<R: AllocGlobal + Abort>(rt: &R, journal: &str) -> MemoryStore {
 // Sees what is answered over this journal, and that the store has the other then.
 fn expect_moved<R: AllocGlobal + Abort>(rt: &R, journal: &str, answer: bool, then: &str) {
     let mut store = store(rt, journal);
-    let is = moved(rt, &mut store).expect(rt, "an answer");
+    let is = migrate_store(rt, &mut store).expect(rt, "an answer");
     expect(
         rt,
         is == answer && is_held(rt, &mut store, FILES, then),
@@ -33,7 +36,7 @@ fn expect_moved<R: AllocGlobal + Abort>(rt: &R, journal: &str, answer: bool, the
 // Sees that the move over this journal is refused, and that the store stays.
 fn expect_refused<R: AllocGlobal + Abort>(rt: &R, journal: &str, number: u32, name: &str) {
     let mut store = store(rt, journal);
-    match moved(rt, &mut store) {
+    match migrate_store(rt, &mut store) {
         Ok(_) => panic!(rt; "{journal}"),
         Err(fault) => expect_fault(rt, fault, number, name),
     }
@@ -43,8 +46,8 @@ fn expect_refused<R: AllocGlobal + Abort>(rt: &R, journal: &str, number: u32, na
 #[test]
 fn journals_of_the_first_version_go_over(rt: HostRuntime) {
     expect_moved(&rt, LINE, true, NULL_LINE);
-    let two = joined(&rt, LINE, LINE);
-    let then = joined(&rt, NULL_LINE, NULL_LINE);
+    let two = joined_text(&rt, LINE, LINE);
+    let then = joined_text(&rt, NULL_LINE, NULL_LINE);
     expect_moved(&rt, two.as_str(), true, then.as_str());
 }
 
@@ -58,12 +61,12 @@ fn others_stay(rt: HostRuntime) {
 #[test]
 fn some_are_refused(rt: HostRuntime) {
     expect_refused(&rt, "x", 1, "BadJournal");
-    let mixed = joined(&rt, LINE, NULL_LINE);
+    let mixed = joined_text(&rt, LINE, NULL_LINE);
     expect_refused(&rt, mixed.as_str(), 1, "BadJournal");
-    let mixed = joined(&rt, NULL_LINE, LINE);
+    let mixed = joined_text(&rt, NULL_LINE, LINE);
     expect_refused(&rt, mixed.as_str(), 1, "BadJournal");
     expect_refused(&rt, OPEN_LINE, 3, "OpenEntry");
-    let open = joined(&rt, LINE, OPEN_LINE);
+    let open = joined_text(&rt, LINE, OPEN_LINE);
     expect_refused(&rt, open.as_str(), 3, "OpenEntry");
 }
 
@@ -82,7 +85,7 @@ fn copies<R: AllocGlobal + Abort>(rt: &R, count: usize, then: &str) -> String {
 fn the_longest(rt: HostRuntime) {
     let longest = copies(&rt, 120_699, "");
     let mut store = store(&rt, longest.as_str());
-    assert!(rt; moved(&rt, &mut store).expect(&rt, "an answer"));
+    assert!(rt; migrate_store(&rt, &mut store).expect(&rt, "an answer"));
     assert!(rt; store.failures() < u64::MAX);
     assert!(rt; store.read_journal().expect(&rt, "a journal").len() == 16_777_161);
 }
@@ -117,13 +120,13 @@ fn each_call_fails(rt: HostRuntime) {
         let mut store = store(&rt, LINE);
         assert!(rt; *call > 0);
         store.fail_at(*call, *lands);
-        match moved(&rt, &mut store) {
+        match migrate_store(&rt, &mut store) {
             Ok(_) => panic!(rt; "{call}"),
             Err(fault) => expect_fault(&rt, fault, 4, "Store"),
         }
         expect(&rt, is_held(&rt, &mut store, FILES, then), then);
         // A later move does the rest.
-        moved(&rt, &mut store).expect(&rt, "an answer");
+        migrate_store(&rt, &mut store).expect(&rt, "an answer");
         expect(&rt, is_held(&rt, &mut store, FILES, NULL_LINE), then);
     }
 }

@@ -8,8 +8,8 @@ use std::fmt::Write;
 use std::process::Abort;
 
 /// Files that are written as one text, as those that are compiled.
-pub(crate) fn given<R: AllocGlobal + Abort>(rt: &R, texts: &str) -> Given {
-    calls::given(rt.alloc(), texts).expect(rt, "memory")
+pub(crate) fn given_files<R: AllocGlobal + Abort>(rt: &R, texts: &str) -> Given {
+    calls::given_files(rt.alloc(), texts).expect(rt, "memory")
 }
 
 /// The files of a workspace, read.
@@ -45,7 +45,7 @@ pub(crate) fn expect_linked<R: AllocGlobal + Abort>(rt: &R, given: Given, rows: 
 
 /// The same of files that are written as one text.
 pub(crate) fn expect_told<R: AllocGlobal + Abort>(rt: &R, texts: &str, rows: &[Told]) {
-    expect_linked(rt, given(rt, texts), rows);
+    expect_linked(rt, given_files(rt, texts), rows);
 }
 
 /// Ends the test with the row unless this was found.
@@ -74,7 +74,7 @@ pub(crate) type Answer = (&'static str, &'static str);
 
 pub(crate) fn expect_answers<R: AllocGlobal + Abort>(rt: &R, rows: &[Answer]) {
     for (texts, said) in rows {
-        expect(rt, given(rt, texts), said);
+        expect(rt, given_files(rt, texts), said);
     }
 }
 
@@ -191,7 +191,7 @@ fn tell<R: Abort>(rt: &R, out: &mut String, link: &Link, files: &Files, row: &To
         Ask::Seen(file) if link.visible(*file, name) => put(rt, out, "seen"),
         Ask::Seen(_) => put(rt, out, "not seen"),
         Ask::Meant(file, token) => {
-            let meant = link.meant(*file, *token);
+            let meant = link.meaning(*file, *token);
             let name = meant.and_then(|id| link.name_of(id));
             put(rt, out, name.unwrap_or("nothing"));
         }

@@ -1,6 +1,6 @@
 //! What a link says of names.
 
-use super::calls::{Ask, Told, expect_told, given, read};
+use super::calls::{Ask, Told, expect_told, given_files, read};
 use proto_names::{Link, SymbolId};
 use std::process::Abort;
 
@@ -64,7 +64,7 @@ fn names_of_a_schema(rt: HostRuntime) {
 
 // The last name of the schema, in its link.
 fn last_name<R: AllocGlobal + Abort>(rt: &R) -> SymbolId {
-    let files = read(rt, given(rt, SCHEMA)).expect(rt, "files");
+    let files = read(rt, given_files(rt, SCHEMA)).expect(rt, "files");
     let link = Link::new(rt.alloc(), &files).expect(rt, "a link");
     let id = link.symbol("p.q.W").expect(rt, "a name");
     link.release();

@@ -4,7 +4,7 @@ ghost use Rattle.std.specs.Prelude.{◌≡◌, ℕ, List};
 ghost use Rattle.proto_meaning.specs.Joined.{joined, ArePlain};
 ghost use Rattle.proto_names.specs.LinkOfFiles.{IsLinkOf};
 
-use super::calls::{expect_text, given, read};
+use super::calls::{expect_text, given_files, read};
 use proto_faults::NoMemory;
 use proto_files::{Files, Words};
 use proto_names::Link;
@@ -28,7 +28,7 @@ const SEPARATOR: u32 = 18;
 const INNER: u32 = 19;
 
 // What the type of `x`, as a reference, means in a scope; it need not be that of `x`.
-fn meant<'a>(alloc: Global, link: &'a Link, files: &Files, scope: &str) -> &'a str
+fn meaning_in<'a>(alloc: Global, link: &'a Link, files: &Files, scope: &str) -> &'a str
     requires link { IsLinkOf files.now link.now }
     requires scope { (path : List (List ℕ)) × ArePlain path × (scope.now ≡ joined path) }
 {
@@ -93,11 +93,16 @@ fn expect_scopes<R: AllocGlobal + Abort>(rt: &R, link: &Link, files: &Files)
     requires { IsLinkOf files.now link.now }
 {
     let alloc = rt.alloc();
-    expect_text(rt, "p.A", meant(alloc, link, files, "p.A"), "p.A.foo");
-    expect_text(rt, "p", meant(alloc, link, files, "p"), "p.foo");
-    expect_text(rt, "", meant(alloc, link, files, ""), "nothing");
-    expect_text(rt, "p.zzz.y", meant(alloc, link, files, "p.zzz.y"), "p.foo");
-    expect_text(rt, "q", meant(alloc, link, files, "q"), "nothing");
+    expect_text(rt, "p.A", meaning_in(alloc, link, files, "p.A"), "p.A.foo");
+    expect_text(rt, "p", meaning_in(alloc, link, files, "p"), "p.foo");
+    expect_text(rt, "", meaning_in(alloc, link, files, ""), "nothing");
+    expect_text(
+        rt,
+        "p.zzz.y",
+        meaning_in(alloc, link, files, "p.zzz.y"),
+        "p.foo",
+    );
+    expect_text(rt, "q", meaning_in(alloc, link, files, "q"), "nothing");
 }
 
 // Below `A` the first word means `A.b`, which has no `X`: the search does not go on outward. An absolute reference is not
@@ -123,7 +128,7 @@ fn expect_meant<R: AllocGlobal + Abort>(rt: &R, files: &Files) {
 
 #[test]
 fn references_in_given_scopes(rt: HostRuntime) {
-    let files = read(&rt, given(&rt, TEXTS)).expect(&rt, "files");
+    let files = read(&rt, given_files(&rt, TEXTS)).expect(&rt, "files");
     expect_meant(&rt, &files);
     files.release();
 }

@@ -1,7 +1,7 @@
 //! Want of memory: it changes nothing, and the same call again answers as if it had not come. In a run that refuses one
 //! allocation these tests still pass, whichever it is.
 
-use super::calls::{Flat, expect_none, told};
+use super::calls::{Flat, difference_of, expect_none};
 use super::deletions::{ONEOF, PLAIN};
 use super::imports::{EMPTY, IMPORT};
 use super::rows::{FIRST_MAP, VALUE, WIDE};
@@ -11,8 +11,8 @@ use std::process::Abort;
 // The row's edits and the way back, whatever is refused.
 fn expect_in_the_end<R: AllocGlobal + Abort>(rt: &R, rows: &[Flat]) {
     for row in rows {
-        match told(rt.alloc(), row, &[]) {
-            Err(NoMemory) => expect_none(rt, told(rt.alloc(), row, &[])),
+        match difference_of(rt.alloc(), row, &[]) {
+            Err(NoMemory) => expect_none(rt, difference_of(rt.alloc(), row, &[])),
             answer => expect_none(rt, answer),
         }
     }

@@ -43,7 +43,11 @@ fn steps(alloc: Global, written: &'static str) -> Result<Vec<Step>, NoMemory> {
 }
 
 /// What is otherwise than a row says that is led back by these undos, or by its entries, if there are none.
-pub(crate) fn told(alloc: Global, flat: &Flat, undos: &[Undo]) -> Result<String, NoMemory> {
+pub(crate) fn difference_of(
+    alloc: Global,
+    flat: &Flat,
+    undos: &[Undo],
+) -> Result<String, NoMemory> {
     let [given, asked, left, json] = *flat;
     let files = texts(alloc, given)?;
     let steps = steps(alloc, asked)?;
@@ -66,6 +70,6 @@ pub(crate) fn expect_none<R: Abort>(rt: &R, told: Result<String, NoMemory>) {
 /// The rows hold.
 pub(crate) fn expect_rows<R: AllocGlobal + Abort>(rt: &R, rows: &[Flat]) {
     for row in rows {
-        expect_none(rt, told(rt.alloc(), row, &[]));
+        expect_none(rt, difference_of(rt.alloc(), row, &[]));
     }
 }

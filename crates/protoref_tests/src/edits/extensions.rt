@@ -1,6 +1,6 @@
 //! Edits of extensions and beside them, with their answers by the rules of docs/edits.md. Places are counted in the texts.
 
-use super::calls::{Flat, expect_none, expect_rows, told};
+use super::calls::{Flat, difference_of, expect_none, expect_rows};
 use proto_edit_rows::{Said, Undo};
 
 /// A message and its extension are renamed, one after the other.
@@ -137,7 +137,7 @@ const BESIDE: &[Flat] = &[
 #[test]
 fn are_undone_one_by_one(rt: HostRuntime) {
     for row in BOTH {
-        expect_none(&rt, told(rt.alloc(), row, BACK));
+        expect_none(&rt, difference_of(rt.alloc(), row, BACK));
     }
 }
 

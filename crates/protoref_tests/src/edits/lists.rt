@@ -1,6 +1,6 @@
 //! Edits of all kinds one after another, with refused ones among them. Places are counted in the texts.
 
-use super::calls::{Flat, expect_none, told};
+use super::calls::{Flat, difference_of, expect_none};
 use proto_edit_rows::{Said, Undo};
 
 pub(crate) const LISTS: &[Flat] = &[[
@@ -68,6 +68,6 @@ const BACK: &[Undo] = &[
 #[test]
 fn are_undone_one_by_one(rt: HostRuntime) {
     for row in LISTS {
-        expect_none(&rt, told(rt.alloc(), row, BACK));
+        expect_none(&rt, difference_of(rt.alloc(), row, BACK));
     }
 }

@@ -1,6 +1,6 @@
 //! Where references and faults stand: the path, the line and the column in bytes, counted by hand.
 
-use crate::calls::{add, given};
+use crate::calls::{add, given_files};
 use proto_faults::SchemaFault;
 use proto_journal::Workspace;
 use proto_output::{Location, locations_of_references, place_of_fault, schema_line};
@@ -35,8 +35,8 @@ const REFERENCES: &[Row] = &[
     ),
 ];
 
-fn opened<R: AllocGlobal + Abort>(rt: &R, files: &str) -> Workspace {
-    Workspace::open(rt.alloc(), given(rt, files)).expect(rt, "a workspace")
+fn open_workspace<R: AllocGlobal + Abort>(rt: &R, files: &str) -> Workspace {
+    Workspace::open(rt.alloc(), given_files(rt, files)).expect(rt, "a workspace")
 }
 
 // Where the references to a name stand, looked up in the files of a workspace.
@@ -56,7 +56,7 @@ fn locations<'a, R: AllocGlobal + Abort>(
     }
 }
 
-fn printed<R: AllocGlobal + Abort>(rt: &R, locations: &[Location]) -> String {
+fn printed_text<R: AllocGlobal + Abort>(rt: &R, locations: &[Location]) -> String {
     let mut text = String::new(rt.alloc());
     for location in locations {
         let one = format!(in rt.alloc(); "{location} ").expect(rt, "memory");
@@ -69,9 +69,9 @@ fn printed<R: AllocGlobal + Abort>(rt: &R, locations: &[Location]) -> String {
 fn tells_where_references_stand(rt: HostRuntime) {
     for (files, name, others, wanted) in REFERENCES {
         let others = if others.is_empty() { files } else { others };
-        let workspace = opened(&rt, files);
-        let looked = opened(&rt, others);
-        let text = printed(&rt, locations(&rt, &workspace, name, &looked).as_slice());
+        let workspace = open_workspace(&rt, files);
+        let looked = open_workspace(&rt, others);
+        let text = printed_text(&rt, locations(&rt, &workspace, name, &looked).as_slice());
         looked.release();
         workspace.release();
         assert!(rt; text.as_str() == *wanted, "{text}");
@@ -146,13 +146,13 @@ const FAULTS: &[(&str, &str, &str)] = &[
 
 // The line of the fault of files, looked up in others.
 fn line_of_fault<R: AllocGlobal + Abort>(rt: &R, files: &str, others: &str) -> String {
-    match Workspace::open(rt.alloc(), given(rt, files)) {
+    match Workspace::open(rt.alloc(), given_files(rt, files)) {
         Ok(workspace) => {
             workspace.release();
             String::new(rt.alloc())
         }
         Err(SchemaFault::Schema(fault)) => {
-            let place = place_of_fault(given(rt, others).as_slice(), &fault);
+            let place = place_of_fault(given_files(rt, others).as_slice(), &fault);
             schema_line(rt.alloc(), &fault, place).expect(rt, "memory")
         }
         Err(SchemaFault::NoMemory) => panic!(rt; "no memory"),

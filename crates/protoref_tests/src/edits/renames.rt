@@ -1,8 +1,8 @@
 //! Renames of all kinds one after another, what refuses them, and the way back.
 
-use super::calls::{Flat, expect_none, expect_rows, told};
+use super::calls::{Flat, difference_of, expect_none, expect_rows};
 use super::rows::{CAPTURES, DONE, LAST, MAPS, MEMBERS, NAMES, ONE, RUNS, TEXT, TYPES};
-use proto_edit_rows::{Step, Undo, difference_of_answers, filled};
+use proto_edit_rows::{Step, Undo, difference_of_answers, padded_text};
 
 #[test]
 fn of_members_are_answered_and_undone(rt: HostRuntime) {
@@ -50,7 +50,7 @@ const BACK: &[Undo] = &[
 
 #[test]
 fn are_undone_from_the_last_one_on(rt: HostRuntime) {
-    expect_none(&rt, told(rt.alloc(), TWICE, BACK));
+    expect_none(&rt, difference_of(rt.alloc(), TWICE, BACK));
 }
 
 // ---- a full file
@@ -68,7 +68,7 @@ const FULL: &[Step] = &[
 
 #[test]
 fn do_not_fit_a_full_file(rt: HostRuntime) {
-    let text = filled(rt.alloc(), TEXT, 1048576).expect(&rt, "memory");
+    let text = padded_text(rt.alloc(), TEXT, 1048576).expect(&rt, "memory");
     let files = [("a.proto", text.as_str())];
     expect_none(&rt, difference_of_answers(rt.alloc(), &files, FULL));
 }

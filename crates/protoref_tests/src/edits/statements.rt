@@ -5,7 +5,7 @@ use super::deletions::{DELETIONS, Deletion, FIELDS, MEMBERS, ONEOF};
 use super::imports::{ADDED, DROPPED, IMPORT, MORE_PLACES, NEEDED, OVERTAKEN, PLACES, Place};
 use super::lists::LISTS;
 use super::rows::TEXT;
-use proto_edit_rows::{Row, difference, difference_of_answers, filled};
+use proto_edit_rows::{Row, difference, difference_of_answers, padded_text};
 use std::process::Abort;
 
 fn expect_deletions<R: AllocGlobal + Abort>(rt: &R, rows: &[Deletion]) {
@@ -101,7 +101,7 @@ const FULL: &[(usize, &str)] = &[
 #[test]
 fn fill_a_file_and_do_not_fit_it(rt: HostRuntime) {
     for (length, asked) in FULL {
-        let text = filled(rt.alloc(), TEXT, *length).expect(&rt, "memory");
+        let text = padded_text(rt.alloc(), TEXT, *length).expect(&rt, "memory");
         let files = [("a.proto", text.as_str()), ("b.proto", "")];
         expect_none(
             &rt,

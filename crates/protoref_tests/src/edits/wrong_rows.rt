@@ -1,6 +1,6 @@
 //! Rows that do not hold: the answer, the file afterwards or the descriptors are others.
 
-use super::calls::{Flat, told};
+use super::calls::{Flat, difference_of};
 use std::process::Abort;
 
 const OLD: &str = "a.proto syntax = \"proto3\"; message A { string b_c = 1; }";
@@ -21,7 +21,7 @@ const WRONG: &[Flat] = &[
 ];
 
 fn is_told<R: AllocGlobal + Abort>(rt: &R, row: &Flat) -> bool {
-    let told = told(rt.alloc(), row, &[]).expect(rt, "memory");
+    let told = difference_of(rt.alloc(), row, &[]).expect(rt, "memory");
     !told.is_empty()
 }
 

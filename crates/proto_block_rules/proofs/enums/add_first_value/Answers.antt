@@ -3,7 +3,7 @@ use Rattle.proto_tree.specs.declared.tree.EnumItem.{EnumItem}
 use Rattle.proto_findings.specs.declared.found.Found.{Found as FoundAt}
 use Rattle.proto_rules.specs.declared.rule.Rule.TheVariants as rule
 use Rattle.proto_meaning.specs.Forest.{under}
-use Rattle.proto_findings.proofs.Common.{Found, found_at, unless, reading_of, text, found_of}
+use Rattle.proto_findings.proofs.Common.{Found, found_at, unless, reading_of, word_in, found_of}
 use Rattle.proto_block_rules.proofs.EnumItems.{first_found, first_there, none_found, none_left}
 use Rattle.proto_block_rules.proofs.enums.add_first_value.Goals as goal
 
@@ -15,7 +15,7 @@ returns-in-Value c =
     let first = first_there items c.loop-item.item-index c.in-Value.value c.loop-item-test.true here c.loop-item.invariant.left in
     let found = first_found c.args.rules.now.chosen r rule.EnumFirstValueZero c.args.scope.now _ _ c.in-Value.value (sym c.has.ensures ∙ c.if-not-has.false) first in
     let v = c.in-Value.value in
-    let told : Bool → List Found = λ passes. map (found_at r rule.EnumFirstValueZero) (unless passes v.name (under c.args.scope.now (text r v.name))) in
+    let told : Bool → List Found = λ passes. map (found_at r rule.EnumFirstValueZero) (unless passes v.name (under c.args.scope.now (word_in r v.name))) in
     let new = map found_of c.add_below_unless.new.found.items in
     let same = subst (λ (fs : List FoundAt). OnOk c.add_below_unless.result (new ≡ map found_of fs ++ told c.is_zero-passes.result)) c.loop-item.invariant.same c.add_below_unless.ensures.added in
     subst (λ (fs : List Found). OnOk c.add_below_unless.result (new ≡ map found_of c.args.found.now.items ++ fs)) found

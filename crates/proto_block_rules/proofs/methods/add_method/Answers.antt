@@ -3,7 +3,7 @@ use Rattle.std.proofs.lemmas.Result.{on_ok_weaker}
 use Rattle.proto_case.specs.Cases.{is_pascal}
 use Rattle.proto_rules.specs.declared.rule.Rule.{Rule}
 use Rattle.proto_rules.specs.declared.rule.Rule.TheVariants as rule
-use Rattle.proto_findings.proofs.Common.{Found, found_by, reading_of, text, found_of}
+use Rattle.proto_findings.proofs.Common.{Found, found_by, reading_of, word_in, found_of}
 use Rattle.proto_block_rules.specs.Methods.{is_shared, is_standard, method_unless, type_meant}
 use Rattle.proto_block_rules.proofs.Steps.{by_equal, six}
 use Rattle.proto_block_rules.proofs.methods.add_method.Goals as goal
@@ -32,13 +32,13 @@ returns c =
     six c.add_name-6.result f0 f1 f2 f3 f4 f5 f6
     (told rule.RpcNoClientStreaming (not (is_some s.input.stream)))
     (told rule.RpcNoServerStreaming (not (is_some s.output.stream)))
-    (told rule.RpcPascalCase (is_pascal (text r s.name)))
+    (told rule.RpcPascalCase (is_pascal (word_in r s.name)))
     (told rule.RpcRequestResponseUnique (not (is_shared all (type_meant r s.input) || is_shared all (type_meant r s.output))))
-    (told rule.RpcRequestStandardName (is_standard (text r token) (text r s.name) (codes "Request") (type_meant r s.input)))
-    (told rule.RpcResponseStandardName (is_standard (text r token) (text r s.name) (codes "Response") (type_meant r s.output)))
+    (told rule.RpcRequestStandardName (is_standard (word_in r token) (word_in r s.name) (codes "Request") (type_meant r s.input)))
+    (told rule.RpcResponseStandardName (is_standard (word_in r token) (word_in r s.name) (codes "Response") (type_meant r s.output)))
     (by_equal (told rule.RpcNoClientStreaming) c.is_none-passes.result (not (is_some s.input.stream)) f0 f1 input c.in_ok-add_name.ensures)
     (by_equal (told rule.RpcNoServerStreaming) c.is_none-passes-2.result (not (is_some s.output.stream)) f1 f2 output c.in_ok-add_name-2.ensures)
-    (by_equal (told rule.RpcPascalCase) c.is_pascal-passes.result (is_pascal (text r s.name)) f2 f3 pascal c.in_ok-add_name-3.ensures)
+    (by_equal (told rule.RpcPascalCase) c.is_pascal-passes.result (is_pascal (word_in r s.name)) f2 f3 pascal c.in_ok-add_name-3.ensures)
     (by_equal (told rule.RpcRequestResponseUnique) (not c.has_shared-passes.result) (not (is_shared all (type_meant r s.input) || is_shared all (type_meant r s.output))) f3 f4 (ap not c.has_shared-passes.ensures) c.in_ok-add_name-4.ensures)
-    (by_equal (told rule.RpcRequestStandardName) c.is_request_standard-passes.result (is_standard (text r token) (text r s.name) (codes "Request") (type_meant r s.input)) f4 f5 c.is_request_standard-passes.ensures c.in_ok-add_name-5.ensures)
-    (on_ok_weaker c.add_name-6.result (by_equal (told rule.RpcResponseStandardName) c.is_response_standard-passes.result (is_standard (text r token) (text r s.name) (codes "Response") (type_meant r s.output)) f5 f6 c.is_response_standard-passes.ensures) c.add_name-6.ensures)
+    (by_equal (told rule.RpcRequestStandardName) c.is_request_standard-passes.result (is_standard (word_in r token) (word_in r s.name) (codes "Request") (type_meant r s.input)) f4 f5 c.is_request_standard-passes.ensures c.in_ok-add_name-5.ensures)
+    (on_ok_weaker c.add_name-6.result (by_equal (told rule.RpcResponseStandardName) c.is_response_standard-passes.result (is_standard (word_in r token) (word_in r s.name) (codes "Response") (type_meant r s.output)) f5 f6 c.is_response_standard-passes.ensures) c.add_name-6.ensures)

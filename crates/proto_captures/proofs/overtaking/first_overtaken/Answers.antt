@@ -4,7 +4,7 @@ use Rattle.proto_text.specs.Texts.{word_at}
 use Rattle.proto_tree.specs.File.{tree_of_file}
 use Rattle.proto_files.proofs.Common.{read_at, same_tree}
 use Rattle.proto_listing.specs.FromTree.{file_names}
-use Rattle.proto_captures.specs.Common.{first_of, overtakes_by}
+use Rattle.proto_captures.specs.Common.{first_passing, overtakes_by}
 use Rattle.proto_captures.proofs.AllFiles.{if_ok}
 use Rattle.proto_captures.proofs.FileOvertaken.{first_is}
 use Rattle.proto_captures.proofs.overtaking.first_overtaken.Goals as goal
@@ -23,4 +23,4 @@ returns c =
     first_is files reads are c.requires.linked v marks l c.requires.link file c.requires.file sees packages c.in_ok-packages.ensures declared us ms
     (c.in_ok-listing.ensures.used ∙ ap (λ z. (file_names z).used) (sym (same_tree files reads file (tree_of_file c.tree.result.now) are c.requires.file c.tree.ensures)))
     c.meant_in.ensures.exact first
-    (h ∙ ap (λ z. first_of (overtakes_by l marks packages (word_at z) declared) us ms) (c.new-words.ensures.words (read_at reads file).tokens (are.tokens file c.requires.file))))
+    (h ∙ ap (λ z. first_passing (overtakes_by l marks packages (word_at z) declared) us ms) (c.new-words.ensures.words (read_at reads file).tokens (are.tokens file c.requires.file))))

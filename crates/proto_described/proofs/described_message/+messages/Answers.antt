@@ -3,7 +3,7 @@ use Rattle.proto_tree.specs.File.{trees, member_tree}
 use Rattle.proto_described.specs.Described.{messages_described}
 use Rattle.proto_descriptors.specs.Views.{messages_desc}
 use Rattle.proto_descriptors.specs.declared.message.MessageDescriptor.{MessageDescriptor}
-use Rattle.proto_described.proofs.Levels.{and_then, described_more, described_all}
+use Rattle.proto_described.proofs.Levels.{messages_then, described_more, described_all}
 use Rattle.proto_described.proofs.described_message.+messages.Goals as goal
 use Rattle.proto_described.proofs.described_message.+messages.Goals.{nested_messages-in-Some+in_ok-push, nested_messages-in_default}
 
@@ -17,12 +17,12 @@ nested_messages-loop-member-preserved t c =
     let rest = messages_described c.args.scene.now c.args.full.now (trees member_tree (drop (c.loop-member.member-index + 1) c.args.members.now)) in
     elim c.match-branch-2.branch [
       | nested_messages-in-Some+in_ok-push w ↦
-          ap (λ (v : Vec MessageDescriptor Global). and_then (messages_desc v.items) rest) w.nested-is
-          ∙ ap (λ (ds : List MessageDescriptor). and_then (messages_desc ds) rest) w.in_ok-push.ensures.items
+          ap (λ (v : Vec MessageDescriptor Global). messages_then (messages_desc v.items) rest) w.nested-is
+          ∙ ap (λ (ds : List MessageDescriptor). messages_then (messages_desc ds) rest) w.in_ok-push.ensures.items
           ∙ more (Some w.in-Some.message) whole c.loop-member-test.true c.member-item.is (ap (λ o. messages_desc (option_to_list o)) (sym w.in-Some.is) ∙ c.in_ok-message.ensures) c.loop-member.invariant
       | nested_messages-in_default w ↦
-          ap (λ (v : Vec MessageDescriptor Global). and_then (messages_desc v.items) rest) w.nested-is
-          ∙ ap (λ (ds : List MessageDescriptor). and_then (messages_desc ds) rest) (sym (append-nil c.loop-member.nested.items))
+          ap (λ (v : Vec MessageDescriptor Global). messages_then (messages_desc v.items) rest) w.nested-is
+          ∙ ap (λ (ds : List MessageDescriptor). messages_then (messages_desc ds) rest) (sym (append-nil c.loop-member.nested.items))
           ∙ more None whole c.loop-member-test.true c.member-item.is (ap (λ o. messages_desc (option_to_list o)) (sym w.in_default.is) ∙ c.in_ok-message.ensures) c.loop-member.invariant
     ]
 

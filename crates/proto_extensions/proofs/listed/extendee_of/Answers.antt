@@ -6,8 +6,8 @@ use Rattle.proto_files.specs.FilesRead.{AreRead, ReadOf}
 use Rattle.proto_meaning.specs.Grown.{at}
 use Rattle.proto_names.specs.Common.{meant_at}
 use Rattle.proto_parts.specs.Numbers.{past}
-use Rattle.proto_numbers.specs.RangeIndex.{IsIndexOf}
-use Rattle.proto_extensions.specs.Common.{IsExtendee, ranges_at}
+use Rattle.proto_numbers.specs.RangeIndex.{IsRangeIndexOf}
+use Rattle.proto_extensions.specs.Common.{IsExtendee, extension_ranges_at}
 use Rattle.proto_extensions.proofs.Extendees.{MeantName, file_there, found_extendee, meant_none, meant_some, text_there, token_there}
 use Rattle.proto_extensions.proofs.listed.extendee_of.Goals as goal
 
@@ -52,4 +52,4 @@ returns c = λ reads are.
     (same_Some _ _ (c.in_ok-name.ensures ∙ text_there files reads l link c.args.file c.requires.file r row m))
     (same_Some _ _ (c.in_ok-declared.ensures.exact ∙ file_there files reads l link c.args.file c.requires.file r row m))
     (same_Some _ _ (c.in_ok-token.ensures ∙ token_there files reads l link c.args.file c.requires.file r row m))
-    (subst (IsIndexOf (ranges_at (Some past) files reads (at c.in_ok-declared.declared c.in_ok-token.token))) (sym c.index_at.ensures) (c.requires.table reads are (at c.in_ok-declared.declared c.in_ok-token.token))))
+    (subst (IsRangeIndexOf (extension_ranges_at (Some past) files reads (at c.in_ok-declared.declared c.in_ok-token.token))) (sym c.index_at.ensures) (c.requires.table reads are (at c.in_ok-declared.declared c.in_ok-token.token))))

@@ -1,7 +1,7 @@
 use Rattle.std.proofs.Common.{◌≡◌, ◌<◌, ◌+◌, ◌-◌, [], Some, length, map, drop, option_map, string_bytes, sym, ◌∙◌, subst, arith}
 use Rattle.proto_faults.proofs.Common.{get_or-map, length-map, hash_map_updates_text}
 use Rattle.indexmap.specs.IndexMap.{get_by_text}
-use Rattle.proto_meaning.specs.Faults.{file_of}
+use Rattle.proto_meaning.specs.Faults.{file_with_path}
 use Rattle.proto_imports.proofs.Resolving.{index_step}
 use Rattle.proto_imports.proofs.first_places.first_places.Goals as goal
 
@@ -13,7 +13,7 @@ loop-place-preserved c =
     record {
       within = omega (arith, low);
       index = λ path.
-          (let old = subst (λ n. get_by_text c.loop-place.index path ≡ option_map (λ k. k + n) (file_of (drop n ps) path)) up (c.loop-place.invariant.index path) in
+          (let old = subst (λ n. get_by_text c.loop-place.index path ≡ option_map (λ k. k + n) (file_with_path (drop n ps) path)) up (c.loop-place.invariant.index path) in
           index_step ps (c.loop-place.place - 1) path (string_bytes c.in_ok-text.text) (get_by_text c.loop-place.index path) (get_by_text c.insert.new.self path) (omega (arith, low, length-map c.args.texts.now (λ p. p.now)))
           (c.in_ok-text.ensures.ok ∙ sym (get_or-map (λ p. p.now) c.args.texts.now (c.loop-place.place - 1) (record { ref_ptr = (0, 0); now = [] }) [] low)) old (hash_map_updates_text (string_bytes c.in_ok-text.text) c.loop-place.index c.insert.new.self (Some (c.loop-place.place - 1)) c.in_ok-insert.ensures.updates path));
     }

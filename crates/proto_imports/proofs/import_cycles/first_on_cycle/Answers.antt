@@ -6,8 +6,8 @@ use Rattle.proto_imports.proofs.ImportGraph.{IsGraph, graph_of, importers_of, no
 use Rattle.proto_imports.proofs.Turned.{contains_within}
 use Rattle.proto_imports.proofs.import_cycles.first_on_cycle.Goals as goal
 
-pub turned-requires-clause-within : goal.turned-requires-clause-within
-turned-requires-clause-within c =
+pub importers_of_each-requires-clause-within : goal.importers_of_each-requires-clause-within
+importers_of_each-requires-clause-within c =
     all_within (λ v. v.items) (length c.deref.result.now) c.deref.result.now (λ k b e.
     (let n = length-map c.in_ok-next.next.items (λ v. v.items) in
     let m = length-map c.args.imports.now (λ v. map (λ i. i.to) v.items) in
@@ -15,8 +15,8 @@ turned-requires-clause-within c =
     let w = within_map (λ v. v.items) (length c.args.files.now) c.args.imports.now c.requires.within k b (subst (λ z. Contains (get_or z k []) b) c.in_ok-next.ensures d) in
     omega (arith, w, n, m, ap length c.in_ok-next.ensures, ap length c.deref.ensures.value, c.requires.paired)))
 
-pub turned-requires-clause-count : goal.turned-requires-clause-count
-turned-requires-clause-count c =
+pub importers_of_each-requires-clause-count : goal.importers_of_each-requires-clause-count
+importers_of_each-requires-clause-count c =
     let n = length-map c.in_ok-next.next.items (λ v. v.items) in
     let m = length-map c.args.imports.now (λ v. map (λ i. i.to) v.items) in
     omega (arith, n, m, ap length c.in_ok-next.ensures, ap length c.deref.ensures.value, c.requires.paired, c.requires.count)

@@ -1,6 +1,6 @@
 use Rattle.std.proofs.Common.{◌≡◌, map, string_bytes, sym, ◌∙◌, ap, refl, take_all}
 use Rattle.indexmap.specs.IndexMap.{get_by_text}
-use Rattle.proto_meaning.specs.Faults.{file_of, imports_of}
+use Rattle.proto_meaning.specs.Faults.{file_with_path, imports_of}
 use Rattle.proto_imports.specs.Common.{asked_by, import_from, FileImport}
 use Rattle.proto_imports.proofs.Resolving.{resolve_some, resolve_none}
 use Rattle.proto_imports.proofs.import_paths.resolved_in.Goals as goal
@@ -8,7 +8,7 @@ use Rattle.proto_imports.proofs.import_paths.resolved_in.Goals.{in-Some+in_ok-pu
 
 pub loop-import-preserved : goal.loop-import-preserved
 loop-import-preserved c = λ paths index file.
-    (let asked : file_of paths (string_bytes c.import-item.result.path) ≡ c.place_of.result = sym (index (string_bytes c.import-item.result.path)) ∙ ap (get_by_text c.args.index.now) (sym c.as_str.ensures.value) ∙ sym c.place_of.ensures in
+    (let asked : file_with_path paths (string_bytes c.import-item.result.path) ≡ c.place_of.result = sym (index (string_bytes c.import-item.result.path)) ∙ ap (get_by_text c.args.index.now) (sym c.as_str.ensures.value) ∙ sym c.place_of.ensures in
     elim c.match-place_of.branch [
       | in-Some+in_ok-push w ↦
           let new : FileImport = record { to = w.in-Some.to; is_public = c.import-item.result.is_public } in

@@ -5,8 +5,8 @@ use Rattle.proto_imports.proofs.ImportGraph.{all_within}
 use Rattle.proto_imports.proofs.SeenFiles.{lists_within, set_within, own_within, own_of, set_back}
 use Rattle.proto_imports.proofs.sight.seen_from.Goals as goal
 
-pub reached-requires-clause-files : goal.reached-requires-clause-files
-reached-requires-clause-files c =
+pub reached_files-requires-clause-files : goal.reached_files-requires-clause-files
+reached_files-requires-clause-files c =
     let lists = map (λ v. v.items) c.args.public.now.items in
     let n = length c.args.public.now.items in
     let is = ap (map (λ v. v.items)) c.deref.ensures.value ∙ map-set (λ v. v.items) c.args.public.now.items c.args.file c.replace-before.new.dest ∙ ap (slice_set lists c.args.file) (ap (λ v. v.items) c.replace-before.ensures.after ∙ c.in_ok-steps.ensures) in

@@ -29,8 +29,8 @@ returns-in_err-next-clause-outcome g c =
     rw (p.1, p.2) (stale c.args.workspace.now old (g.S.Store.holds c.read_journal.new.self) c.as_slice-text.result.now c.in_ok-found.found.0 c.in_ok-found.found.1 _ c.read_journal.ensures.same there c.in_ok-found.ensures
     c.entry.result.now c.entry.ensures c.in_err-next.ensures.err)
 
-pub reopened-requires : goal.reopened-requires
-reopened-requires g c =
+pub reopened_journal-requires : goal.reopened_journal-requires
+reopened_journal-requires g c =
     (last_record c.in_ok-found.found.0 c.in_ok-found.ensures.0 (done c.in_ok-found.found.1.edit c.in_ok-found.found.1.entry) c.in_ok-found.ensures.1.entries).edit
 
 pub write_through-requires-clause-differ : goal.write_through-requires-clause-differ
@@ -57,11 +57,11 @@ returns-clause-outcome g c =
     let is : IsUndo c.args.workspace.now entry c.in_ok-next.next = subst (λ (e : List ChangeOf). IsUndo c.args.workspace.now e c.in_ok-next.next) c.entry.ensures c.in_ok-next.ensures.ok in
     let there : HoldsJournal old journal = subst (λ (t : List ℕ). HoldsJournal old t) (sym c.as_slice-text.ensures.value) c.in-Ok.ensures.bytes in
     let first : Reopens version journal edit entry c.as_slice.result.now = subst (λ (t : List ℕ). Reopens version journal edit entry t) (sym c.as_slice.ensures.value) c.in_ok-first.ensures in
-    let passes : Passes c.args.workspace.now c.in_ok-next.next c.as_slice.result.now c.shortened-last.result.now old (g.S.Store.holds c.write_through.new.store) =
-    passes_from c.files.result.now c.args.workspace.now c.files-2.result.now c.in_ok-next.next c.as_slice.result.now c.shortened-last.result.now (g.S.Store.holds c.read_journal.new.self) old
+    let passes : Passes c.args.workspace.now c.in_ok-next.next c.as_slice.result.now c.shortened_journal-last.result.now old (g.S.Store.holds c.write_through.new.store) =
+    passes_from c.files.result.now c.args.workspace.now c.files-2.result.now c.in_ok-next.next c.as_slice.result.now c.shortened_journal-last.result.now (g.S.Store.holds c.read_journal.new.self) old
     (g.S.Store.holds c.write_through.new.store) c.files.ensures.files c.files-2.ensures.files c.read_journal.ensures.same c.in-Err-Failed-write_through.ensures.err in (
       refl,
-      undo_cut journal c.as_slice.result.now c.shortened-last.result.now version edit entry first c.shortened-last.ensures c.args.workspace.now c.in_ok-next.next
+      undo_cut journal c.as_slice.result.now c.shortened_journal-last.result.now version edit entry first c.shortened_journal-last.ensures c.args.workspace.now c.in_ok-next.next
           (undo_paths c.args.workspace.now c.in_ok-next.next entry is) is old (g.S.Store.holds c.write_through.new.store) c.in_ok-found.ensures there passes,
     )
 
@@ -76,9 +76,9 @@ returns-in-Ok-write_through-clause-outcome g c =
     let there : HoldsJournal old journal = subst (λ (t : List ℕ). HoldsJournal old t) (sym c.as_slice-text.ensures.value) c.in-Ok.ensures.bytes in
     let first : Reopens version journal edit entry c.as_slice.result.now = subst (λ (t : List ℕ). Reopens version journal edit entry t) (sym c.as_slice.ensures.value) c.in_ok-first.ensures in
     rw c.replace.ensures.after (subst (λ (e : List ChangeOf). IsUndone e c.args.workspace.now c.in_ok-next.next old (g.S.Store.holds c.write_through.new.store)) (sym c.into_entry.ensures)
-    (undone journal c.as_slice.result.now c.shortened-last.result.now version edit entry first c.shortened-last.ensures c.args.workspace.now c.in_ok-next.next
+    (undone journal c.as_slice.result.now c.shortened_journal-last.result.now version edit entry first c.shortened_journal-last.ensures c.args.workspace.now c.in_ok-next.next
     (undo_paths c.args.workspace.now c.in_ok-next.next entry is) is old (g.S.Store.holds c.write_through.new.store) c.in_ok-found.ensures there
-    (through_from c.files-2.result.now c.in_ok-next.next c.shortened-last.result.now (g.S.Store.holds c.read_journal.new.self) old (g.S.Store.holds c.write_through.new.store)
+    (through_from c.files-2.result.now c.in_ok-next.next c.shortened_journal-last.result.now (g.S.Store.holds c.read_journal.new.self) old (g.S.Store.holds c.write_through.new.store)
     c.files-2.ensures.files c.read_journal.ensures.same c.in-Ok-write_through.ensures.ok)))
 
 pub returns-in_err-found-clause-count : goal.returns-in_err-found-clause-count

@@ -1,5 +1,5 @@
 use Rattle.proto_json.proofs.Sending.{both, last, more, option_map-option_map, valued}
-use Rattle.proto_json.specs.JsonText.{quoted}
+use Rattle.proto_json.specs.JsonText.{json_string}
 use Rattle.std.proofs.Common.{string_bytes}
 use Rattle.std.proofs.lemmas.Result.{on_ok_weaker}
 use Rattle.proto_json.proofs.field.put_first.Goals as goal
@@ -8,7 +8,7 @@ pub returns : goal.returns
 returns g c =
     let field = c.args.field.now in
     on_ok_weaker c.put-3.result (λ sent.
-    (more (valued (option_map-option_map quoted string_bytes field.default_value) c.in_ok-put_optional.ensures)
+    (more (valued (option_map-option_map json_string string_bytes field.default_value) c.in_ok-put_optional.ensures)
     (both c.in_ok-put_role.ensures
     (more c.in_ok-put.ensures
     (more c.in_ok-put-2.ensures

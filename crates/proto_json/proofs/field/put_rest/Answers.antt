@@ -1,5 +1,5 @@
 use Rattle.proto_json.proofs.Sending.{last, more, option_map-option_map, valued}
-use Rattle.proto_json.specs.JsonText.{quoted}
+use Rattle.proto_json.specs.JsonText.{json_string}
 use Rattle.std.proofs.Common.{string_bytes}
 use Rattle.std.proofs.lemmas.Result.{on_ok_weaker}
 use Rattle.proto_json.proofs.field.put_rest.Goals as goal
@@ -12,5 +12,5 @@ returns g c =
     (more c.in_ok-put_options.ensures
     (more c.in_ok-put_mark.ensures
     (more c.in_ok-put.ensures
-    (last (valued (option_map-option_map quoted string_bytes field.type_name) sent)))))))
+    (last (valued (option_map-option_map json_string string_bytes field.type_name) sent)))))))
     c.put_optional-2.ensures

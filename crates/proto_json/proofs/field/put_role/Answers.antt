@@ -3,12 +3,12 @@ use Rattle.std.proofs.lemmas.Result.{on_ok_weaker}
 use Rattle.serde.specs.Event.{Log}
 use Rattle.proto_descriptors.specs.Views.{role_extendee, role_json_name}
 use Rattle.proto_descriptors.specs.declared.field.FieldRole.{FieldRole}
-use Rattle.proto_json.specs.Common.{PutsMembers, Slot, quoted}
+use Rattle.proto_json.specs.Common.{PutsMembers, Slot, json_string}
 use Rattle.proto_json.proofs.Sending.{absent, last, more}
 use Rattle.proto_json.proofs.field.put_role.Goals as goal
 
 slots : FieldRole → List Slot
-slots r = (codes "extendee", option_map quoted (role_extendee r)) ∷ (codes "jsonName", option_map quoted (role_json_name r)) ∷ []
+slots r = (codes "extendee", option_map json_string (role_extendee r)) ∷ (codes "jsonName", option_map json_string (role_json_name r)) ∷ []
 
 of_role : {r s : FieldRole} {old new : Log} → r ≡ s → PutsMembers (slots s) old new → PutsMembers (slots r) old new
 of_role {r} {s} {old} {new} is puts = subst (λ (x : FieldRole). PutsMembers (slots x) old new) (sym is) puts

@@ -5,9 +5,9 @@ use Rattle.proto_tree.specs.File.{tree_of_file}
 use Rattle.proto_tree.specs.declared.tree.Import.{Import}
 use Rattle.proto_files.proofs.Common.{file_at, paths_of, ReadOf, read_at, same_tree}
 use Rattle.proto_imports.specs.Links.{names_of_files}
-use Rattle.proto_findings.proofs.Common.{Reading, reading_of, text, found_of}
+use Rattle.proto_findings.proofs.Common.{Reading, reading_of, word_in, found_of}
 use Rattle.proto_lint.proofs.ImportLists.{paths_are_strings}
-use Rattle.proto_lint.specs.Imports.{import_finds, imports_in}
+use Rattle.proto_lint.specs.Imports.{import_finds, import_statements_in}
 use Rattle.proto_lint.proofs.imports.add_imports.Goals as goal
 
 pub add_statements-requires-clause-strings : goal.add_statements-requires-clause-strings
@@ -18,11 +18,11 @@ add_statements-requires-clause-strings c =
     let are = c.are_read.ensures.1 in
     let tree = (read_at reads file).tree in
     let all = c.deref-2.result.now in
-    let same : map (λ i. i.now) all ≡ imports_in tree = ap (map (λ i. i.now)) c.deref-2.ensures.value ∙ c.in_ok-statements.ensures ∙ ap imports_in (sym (same_tree files reads file (tree_of_file c.tree.result.now) are c.requires.file c.tree.ensures)) in
+    let same : map (λ i. i.now) all ≡ import_statements_in tree = ap (map (λ i. i.now)) c.deref-2.ensures.value ∙ c.in_ok-statements.ensures ∙ ap import_statements_in (sym (same_tree files reads file (tree_of_file c.tree.result.now) are c.requires.file c.tree.ensures)) in
     λ k d l.
     (let i : Import = (get_or all k d).now in
-    let there : Contains (imports_in tree) i = subst (λ (is : List Import). Contains is i) same (contains_map (λ x. x.now) all (get_or all k d) (Contains-get_or all k d l)) in
-    subst (λ (r : Reading). IsString (text r i.path)) (sym (c.requires.reading reads are)) (paths_are_strings (file_at files file).bytes (read_at reads file).tokens tree (are.trees file c.requires.file) i there))
+    let there : Contains (import_statements_in tree) i = subst (λ (is : List Import). Contains is i) same (contains_map (λ x. x.now) all (get_or all k d) (Contains-get_or all k d l)) in
+    subst (λ (r : Reading). IsString (word_in r i.path)) (sym (c.requires.reading reads are)) (paths_are_strings (file_at files file).bytes (read_at reads file).tokens tree (are.trees file c.requires.file) i there))
 
 pub returns : goal.returns
 returns c =
@@ -31,5 +31,5 @@ returns c =
     let finds = λ (reads : List ReadOf). import_finds c.args.linter.now.rules.now.chosen (names_of_files files reads) (paths_of files) (reading_of c.args.reading.now) file in
     on_ok_weaker c.add_statements.result
     (λ h (reads : List ReadOf) are. h reads are ∙ ap (λ (is : List Import). map found_of c.args.found.now.items ++ flat_map (finds reads) is)
-    (ap (map (λ i. i.now)) c.deref-2.ensures.value ∙ c.in_ok-statements.ensures ∙ ap imports_in (sym (same_tree files reads file (tree_of_file c.tree.result.now) are c.requires.file c.tree.ensures))))
+    (ap (map (λ i. i.now)) c.deref-2.ensures.value ∙ c.in_ok-statements.ensures ∙ ap import_statements_in (sym (same_tree files reads file (tree_of_file c.tree.result.now) are c.requires.file c.tree.ensures))))
     c.add_statements.ensures

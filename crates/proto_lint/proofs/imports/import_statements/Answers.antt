@@ -2,7 +2,7 @@ use Rattle.std.proofs.Common.{◌≡◌, List, Vec, [], ◌∷◌, ◌++◌, map
 use Rattle.proto_faults.proofs.Common.{map-append, all_listed, listed_turn}
 use Rattle.proto_tree.specs.declared.tree.Item.{Item}
 use Rattle.proto_tree.specs.File.{item_tree, trees}
-use Rattle.proto_lint.specs.Imports.{imports_in}
+use Rattle.proto_lint.specs.Imports.{import_statements_in}
 use Rattle.proto_lint.proofs.ImportLists.{imports_joined}
 use Rattle.proto_lint.proofs.imports.import_statements.Goals.{in-Some+in_ok-push, in_default}
 use Rattle.proto_lint.proofs.imports.import_statements.Goals as goal
@@ -10,16 +10,16 @@ use Rattle.proto_lint.proofs.imports.import_statements.Goals as goal
 pub loop-item-preserved : goal.loop-item-preserved
 loop-item-preserved c =
     let found = map (λ i. i.now) c.loop-item.imports.items in
-    let pushed : map (λ i. i.now) c.match-import.imports.items ≡ found ++ imports_in (item_tree c.item-item.result) = elim c.match-import.branch [
+    let pushed : map (λ i. i.now) c.match-import.imports.items ≡ found ++ import_statements_in (item_tree c.item-item.result) = elim c.match-import.branch [
       | in-Some+in_ok-push w ↦
           ap (λ (v : Vec _ _). map (λ i. i.now) v.items) w.imports-is ∙ ap (map (λ i. i.now)) w.in_ok-push.ensures.items ∙ map-append (λ i. i.now) c.loop-item.imports.items (_ ∷ [])
           ∙ ap (λ (new : List _). found ++ new) w.in-Some.ensures
       | in_default w ↦ ap (λ (v : Vec _ _). map (λ i. i.now) v.items) w.imports-is ∙ sym (append-nil found) ∙ ap (λ (new : List _). found ++ new) w.in_default.ensures
     ] in
-    listed_turn (λ items. imports_in (trees item_tree items)) (λ item. imports_in (item_tree item)) (λ item items. imports_joined (item_tree item) (trees item_tree items))
+    listed_turn (λ items. import_statements_in (trees item_tree items)) (λ item. import_statements_in (item_tree item)) (λ item items. imports_joined (item_tree item) (trees item_tree items))
     c.deref-item-items.result.now c.loop-item.item-index c.item-item.result _ found _ _ c.loop-item-test.true c.item-item.is pushed c.loop-item.invariant
 
 pub returns : goal.returns
 returns c =
-    all_listed (λ items. imports_in (trees item_tree items)) refl c.deref-item-items.result.now c.loop-item.item-index _ _ c.loop-item-test.false c.loop-item.invariant
-    ∙ ap (λ (items : List Item). imports_in (trees item_tree items)) c.deref-item-items.ensures.value
+    all_listed (λ items. import_statements_in (trees item_tree items)) refl c.deref-item-items.result.now c.loop-item.item-index _ _ c.loop-item-test.false c.loop-item.invariant
+    ∙ ap (λ (items : List Item). import_statements_in (trees item_tree items)) c.deref-item-items.ensures.value

@@ -12,4 +12,4 @@ returns c = λ reads are.
     let all = c.in_ok-found.ensures reads here
     ∙ ap (λ (fs : List FileOf). findings l.rules.now.chosen fs reads) c.in_ok-linter.ensures.files
     ∙ ap (λ (set : RuleSet). findings set.chosen c.args.files.now reads) c.in_ok-linter.ensures.rules in
-    subst (λ (fs : List FindingOf). IsListingOf fs (map finding_of c.listed.result.items)) all c.listed.ensures)
+    subst (λ (fs : List FindingOf). IsListingOf fs (map finding_of c.sorted_findings.result.items)) all c.sorted_findings.ensures)

@@ -1,7 +1,7 @@
 use Rattle.std.proofs.Common.{◌↔◌, IsTrue, map, sym, subst, ap, ◌∙◌}
 use Rattle.proto_faults.proofs.Common.{list_any, IfOk-weaker}
 use Rattle.proto_tree.specs.File.{tree_of_file}
-use Rattle.proto_captures.specs.Cases.{Reserves}
+use Rattle.proto_captures.specs.Cases.{ReservesWord}
 use Rattle.proto_members.specs.Common.{block_of, reserves}
 use Rattle.proto_members.proofs.AimedAt.{aim_inside}
 use Rattle.proto_members.proofs.ReservedNames.{reserves_from, reserves_to}
@@ -24,7 +24,7 @@ returns c =
     let as_read = c.scene-scene.ensures reads are in
     let blocks = ap (map block_of) c.deref.ensures.value ∙ c.in_ok-blocks.ensures in
     let same = e ∙ ap (list_any (reserves c.scene-scene.result aim.token c.args.word.now)) blocks in
-    subst (λ a. IsTrue b ↔ Reserves files reads a c.args.word.now) h.token (
+    subst (λ a. IsTrue b ↔ ReservesWord files reads a c.args.word.now) h.token (
       (λ is. reserves_to files reads are aim.file within c.scene-scene.result as_read tree c.tree.ensures aim.token c.args.word.now (sym same ∙ is)),
       (λ r. same ∙ reserves_from files reads are aim.file within c.scene-scene.result as_read tree c.tree.ensures aim.token c.args.word.now r),
     ))

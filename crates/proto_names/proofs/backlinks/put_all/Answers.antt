@@ -1,6 +1,6 @@
 use Rattle.std.proofs.Common.{[], ◌++◌, get_or, length, map, refl, ◌∙◌, ap, arith, length-set, take_all}
 use Rattle.proto_faults.proofs.Common.{length-map, IfOk-from_err}
-use Rattle.proto_names.specs.Common.{meant_by, references_to, Meant}
+use Rattle.proto_names.specs.Common.{meant_in_file, references_to, Meant}
 use Rattle.proto_names.proofs.MeantBy.{more_put}
 use Rattle.proto_names.proofs.backlinks.put_all.Goals as goal
 
@@ -28,7 +28,7 @@ returns c =
     let all = take_all c.loop-one.one-index c.args.meant.now c.loop-one-test.false in
     record {
       len = c.loop-one.invariant.len;
-      each = λ row. c.loop-one.invariant.each row ∙ ap (λ ms. get_or (map (λ v. v.items) c.args.references.now.items) row [] ++ references_to row (map (meant_by c.args.file) ms)) all;
+      each = λ row. c.loop-one.invariant.each row ∙ ap (λ ms. get_or (map (λ v. v.items) c.args.references.now.items) row [] ++ references_to row (map (meant_in_file c.args.file) ms)) all;
     }
 
 pub returns-in_err-put : goal.returns-in_err-put

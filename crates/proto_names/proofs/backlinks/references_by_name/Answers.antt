@@ -1,6 +1,6 @@
 use Rattle.std.proofs.Common.{[], ◌++◌, get_or, map, sym, ◌∙◌, ap, arith}
 use Rattle.std.proofs.lemmas.List.{get_or-map, length-map}
-use Rattle.proto_names.specs.Linking.{meant_by, references_to}
+use Rattle.proto_names.specs.Linking.{meant_in_file, references_to}
 use Rattle.proto_names.proofs.MeantBy.{more_meant}
 use Rattle.proto_names.proofs.backlinks.references_by_name.Goals as goal
 
@@ -13,5 +13,5 @@ loop-file-preserved c =
     record {
       len = omega (arith, c.in_ok-put_all.ensures.len, c.loop-file.invariant.len);
       each = λ row. more_meant fs c.loop-file.file row (get_or old row []) (get_or (map (λ v. v.items) c.put_all.new.references.items) row []) (omega (arith, c.loop-file-test.true, n)) (c.loop-file.invariant.each row)
-          (c.in_ok-put_all.ensures.each row ∙ ap (λ ms. get_or old row [] ++ references_to row (map (meant_by c.loop-file.file) ms)) here);
+          (c.in_ok-put_all.ensures.each row ∙ ap (λ ms. get_or old row [] ++ references_to row (map (meant_in_file c.loop-file.file) ms)) here);
     }

@@ -11,14 +11,14 @@ use Rattle.proto_names.proofs.EachFile.{all_pushed, named_files}
 use Rattle.proto_names.proofs.FileLists.{listed_at, named_at}
 use Rattle.proto_names.proofs.read_files.all_spelled.Goals as goal
 
-pub spelled-requires-clause-ordered : goal.spelled-requires-clause-ordered
-spelled-requires-clause-ordered c =
+pub spelled_names-requires-clause-ordered : goal.spelled_names-requires-clause-ordered
+spelled_names-requires-clause-ordered c =
     let within : c.loop-file.file < length c.args.listings.now = omega (arith, c.requires.0, c.loop-file-test.true, c.len-file-end.ensures.len) in
     let listing = c.requires.1 c.are_read.ensures.0 c.are_read.ensures.1 c.loop-file.file c.index-listings-file.result within in
     subst (λ (es : List Listed). (k : ℕ) (d : Listed) → k < length es → needs (get_or es k d).above ≤ k) (sym c.deref.ensures.value) listing.sound.ordered
 
-pub spelled-requires-clause-tokens : goal.spelled-requires-clause-tokens
-spelled-requires-clause-tokens c =
+pub spelled_names-requires-clause-tokens : goal.spelled_names-requires-clause-tokens
+spelled_names-requires-clause-tokens c =
     let within : c.loop-file.file < length c.args.listings.now = omega (arith, c.requires.0, c.loop-file-test.true, c.len-file-end.ensures.len) in
     let listing = c.requires.1 c.are_read.ensures.0 c.are_read.ensures.1 c.loop-file.file c.index-listings-file.result within in
     subst (λ (es : List Listed). map (λ e. Some e.token) es ≡ map (λ p. last_token (whole p)) (read es)) (sym c.deref.ensures.value) listing.sound.tokens
@@ -30,7 +30,7 @@ loop-file-preserved c =
     let tokens = c.new-words.ensures.some.0 in
     let ls = c.new-words.result in
     let all = c.loop-file.all.items in
-    let v = c.in_ok-spelled.field-0 in
+    let v = c.in_ok-spelled_names.field-0 in
     let l : Listing = get_or c.args.listings.now file c.index-listings-file.result in
     let n : length all ≡ file = c.loop-file.invariant.len in
     let within : file < length c.args.listings.now = omega (arith, c.requires.0, c.loop-file-test.true, c.len-file-end.ensures.len) in
@@ -40,9 +40,9 @@ loop-file-preserved c =
       tokens_are = c.new-words.ensures.some.1;
       words = c.new-words.ensures.some.2;
     } in
-    let spelled : AreListed (word_at ls) l.declared.items → AreSpelled v.items = subst (λ (es : List Listed). AreListed (word_at ls) es → AreSpelled v.items) c.deref.ensures.value c.in_ok-spelled.ensures.spelled in
+    let spelled : AreListed (word_at ls) l.declared.items → AreSpelled v.items = subst (λ (es : List Listed). AreListed (word_at ls) es → AreSpelled v.items) c.deref.ensures.value c.in_ok-spelled_names.ensures.spelled in
     let named : named_in file v.items ≡ map (named_as file (word_at ls)) (read l.declared.items) =
-    subst (λ (es : List Listed). named_in file v.items ≡ map (named_as file (word_at ls)) (read es)) c.deref.ensures.value (c.in_ok-spelled.ensures.names file) in
+    subst (λ (es : List Listed). named_in file v.items ≡ map (named_as file (word_at ls)) (read es)) c.deref.ensures.value (c.in_ok-spelled_names.ensures.names file) in
     record {
       len = omega (arith, n, c.in_ok-push.ensures.len, c.loop-file.all.ok.0, c.push.new.self.ok.0);
       spelled = all_pushed (λ x. AreSpelled x.items) all c.push.new.self.items v c.in_ok-push.ensures.items c.loop-file.invariant.spelled

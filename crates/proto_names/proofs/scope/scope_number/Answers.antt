@@ -2,8 +2,8 @@ use Rattle.std.proofs.Common.{sym, ◌∙◌, arith}
 use Rattle.proto_names.proofs.Scopes.{row_within, scope_step, scope_missing, scope_last, scope_ended}
 use Rattle.proto_names.proofs.scope.scope_number.Goals as goal
 
-pub cut-requires-text-text : goal.cut-requires-text-text
-cut-requires-text-text c = λ _. c.loop-word.invariant.utf8
+pub split_at_dot-requires-text-text : goal.split_at_dot-requires-text-text
+split_at_dot-requires-text-text c = λ _. c.loop-word.invariant.utf8
 
 pub overflow_add-number : goal.overflow_add-number
 overflow_add-number c =

@@ -1,9 +1,9 @@
 use Rattle.std.proofs.Common.{◌≡◌, ℕ, ◌<◌, List, length, map, sym, ◌∙◌, ap, subst, arith, All}
 use Rattle.proto_faults.proofs.Common.{length-map, IfOk-from_err}
-use Rattle.proto_meaning.specs.Faults.{Asked, Fault, ImportFault, imports_of}
+use Rattle.proto_meaning.specs.Faults.{AskedImport, Fault, ImportFault, imports_of}
 use Rattle.proto_faults.specs.declared.fault.SchemaFault.TheVariants.{NoMemory}
 use Rattle.proto_files.specs.GivenFiles.{paths_of}
-use Rattle.proto_imports.proofs.Common.{AreRising, IsImportError, all_asked, fault_of, all_wanted, text_of}
+use Rattle.proto_imports.proofs.Common.{TokensAreRising, IsImportError, all_asked, fault_of, all_wanted, text_of}
 use Rattle.proto_names.proofs.LinkErrors.{error_is, import_error, import_file, least_as_read}
 use Rattle.proto_names.proofs.whole_link.linked_imports.Goals as goal
 
@@ -40,7 +40,7 @@ resolve_imports-requires c =
     record {
       count = omega (arith, n, c.len.ensures.workspace.few);
       paired = omega (arith, n, ap length c.deref-2.ensures.value, c.in_ok-written.ensures.len);
-      rising = subst (All (λ v. AreRising v.items)) (sym c.deref-2.ensures.value) c.in_ok-written.ensures.rising;
+      rising = subst (All (λ v. TokensAreRising v.items)) (sym c.deref-2.ensures.value) c.in_ok-written.ensures.rising;
     }
 
 pub returns-in-Ok-clause-imports : goal.returns-in-Ok-clause-imports
@@ -86,4 +86,4 @@ returns-in-Ok-clause-clean c = λ reads are.
     let paths = ap (map (λ p. p.now)) c.deref.ensures.value ∙ c.in_ok-paths.ensures in
     let asked = ap (λ ws. all_asked 0 (map (λ v. v.items) ws)) c.deref-2.ensures.value ∙ c.in_ok-written.ensures.asked reads are in
     subst (λ (ps : List (List ℕ)). (f : Fault) → ImportFault ps (all_wanted (text_of c.args.files.now reads) 0 reads) f → ⊥) paths
-    (subst (λ (xs : List Asked). (f : Fault) → ImportFault (map (λ p. p.now) c.deref.result.now) xs f → ⊥) asked c.in-Ok.ensures.clean)
+    (subst (λ (xs : List AskedImport). (f : Fault) → ImportFault (map (λ p. p.now) c.deref.result.now) xs f → ⊥) asked c.in-Ok.ensures.clean)

@@ -1,5 +1,5 @@
 use Rattle.std.proofs.Common.{List, subst, refl, Contains, take_all}
-use Rattle.proto_numbers.specs.Common.{Flaw, IsLeast}
+use Rattle.proto_numbers.specs.Common.{Flaw, IsLeastOfFlaws}
 use Rattle.proto_numbers.proofs.FlawLists.{least_none, least_more}
 use Rattle.proto_numbers.proofs.flaw.least.Goals as goal
 
@@ -10,4 +10,4 @@ pub loop-flaw-preserved : goal.loop-flaw-preserved
 loop-flaw-preserved c = least_more c.args.found.now c.loop-flaw.flaw-index _ _ c.lower-least.result c.loop-flaw-test.true refl (c.lower-least.ensures _ c.loop-flaw.invariant)
 
 pub returns : goal.returns
-returns c = subst (λ (xs : List Flaw). IsLeast (Contains xs) c.loop-flaw.least) (take_all c.loop-flaw.flaw-index c.args.found.now c.loop-flaw-test.false) c.loop-flaw.invariant
+returns c = subst (λ (xs : List Flaw). IsLeastOfFlaws (Contains xs) c.loop-flaw.least) (take_all c.loop-flaw.flaw-index c.args.found.now c.loop-flaw-test.false) c.loop-flaw.invariant

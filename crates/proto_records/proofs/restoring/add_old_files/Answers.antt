@@ -3,7 +3,7 @@ use Rattle.std.specs.List.{list_any}
 use Rattle.proto_files.specs.GivenFiles.{files_of}
 use Rattle.proto_entries.specs.Entries.{ChangeOf, change_of, inverted}
 use Rattle.proto_store.specs.Stores.{Held}
-use Rattle.proto_records.specs.Common.{CountsStore, Over, AddsOldFiles, IsAskedFor, IsStaleOnly, IsEitherWay}
+use Rattle.proto_records.specs.Common.{CountsJournal, Over, AddsOldFiles, IsAskedFor, IsStaleOnly, IsEitherWay}
 use Rattle.proto_records.proofs.OldTexts.{asked_for}
 use Rattle.proto_records.proofs.restoring.add_old_files.Goals as goal
 
@@ -28,7 +28,7 @@ returns-clause-same g c = c.add_each.ensures.same ∙ c.in-Ok.ensures.same
 
 pub returns-clause-count : goal.returns-clause-count
 returns-clause-count g c =
-    subst (λ n. CountsStore n (g.S.Store.failure_count c.add_each.new.store) c.add_each.result) c.in-Ok.ensures.count c.add_each.ensures.count
+    subst (λ n. CountsJournal n (g.S.Store.failure_count c.add_each.new.store) c.add_each.result) c.in-Ok.ensures.count c.add_each.ensures.count
 
 pub add_each-requires-clause-back : goal.add_each-requires-clause-back
 add_each-requires-clause-back g c = ap (map change_of) c.as_slice-2.ensures.value ∙ c.in_ok-back.ensures ∙ ap inverted c.changes.ensures.items

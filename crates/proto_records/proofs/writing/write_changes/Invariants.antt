@@ -2,12 +2,12 @@ use Rattle.std.proofs.Common.{◌∷◌, map, take}
 use Rattle.json.specs.Token.{begin_array}
 use Rattle.proto_entries.specs.Entries.{change_of}
 use Rattle.proto_records.specs.Common.{change_data, AreTextual}
-use Rattle.proto_records.specs.DataTokens.{Adds}
+use Rattle.proto_records.specs.DataTokens.{AddsTokens}
 use Rattle.proto_records.proofs.DataTexts.{all_tokens}
 use Rattle.proto_records.proofs.writing.write_changes.Given as goal
 
 abbrev pub invariant-loop-change : goal.invariant-loop-change
 invariant-loop-change l = record {
-  added : Adds l.fn.writer l.writer (begin_array ∷ all_tokens (map change_data (map change_of (take l.change-index l.changes))));
+  added : AddsTokens l.fn.writer l.writer (begin_array ∷ all_tokens (map change_data (map change_of (take l.change-index l.changes))));
   texts : AreTextual (map change_of (take l.change-index l.changes));
 }

@@ -1,7 +1,7 @@
 use Rattle.std.proofs.Common.{◌↔◌, IsTrue, map, sym, subst, ap, ◌∙◌}
 use Rattle.proto_faults.proofs.Common.{list_any, IfOk-weaker}
 use Rattle.proto_tree.specs.File.{tree_of_file}
-use Rattle.proto_rename_laws.specs.Cases.{Clashes}
+use Rattle.proto_rename_laws.specs.Cases.{JsonNameClashes}
 use Rattle.proto_members.proofs.Common.{block_of, clash_in}
 use Rattle.proto_members.proofs.AimedAt.{aim_inside}
 use Rattle.proto_rename.proofs.JsonClashes.{clash_from, clash_to}
@@ -24,7 +24,7 @@ returns c =
     let blocks = ap (map block_of) c.deref.ensures.value ∙ c.in_ok-blocks.ensures in
     let same = e ∙ ap (list_any (clash_in c.scene-scene.result aim.token name)) blocks in
     let version = sym c.is_proto3.ensures ∙ c.if-not-is_proto3.false in
-    subst (λ a. IsTrue b ↔ Clashes files reads a c.args.word.now) h.token (
+    subst (λ a. IsTrue b ↔ JsonNameClashes files reads a c.args.word.now) h.token (
       (λ is. clash_to files reads are aim.file within c.scene-scene.result as_read tree c.tree.ensures aim.token c.args.word.now name named version (sym same ∙ is)),
       (λ r. same ∙ clash_from files reads are aim.file within c.scene-scene.result as_read tree c.tree.ensures aim.token c.args.word.now name named r),
     ))

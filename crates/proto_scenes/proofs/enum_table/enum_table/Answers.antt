@@ -2,7 +2,7 @@ use Rattle.std.proofs.Common.{◌≡◌, ℕ, ◌<◌, [], ◌∷◌, length, le
 use Rattle.proto_tree.specs.File.{tree_of_file}
 use Rattle.proto_files.proofs.FilesAreRead.{each_pushed}
 use Rattle.proto_meaning.specs.Grown.{at}
-use Rattle.proto_scenes.specs.Common.{row_at, enum_at}
+use Rattle.proto_scenes.specs.Common.{enum_row_at, enum_at}
 use Rattle.proto_scenes.proofs.EnumRows.{is_enum_table}
 use Rattle.proto_scenes.proofs.ReadScenes.{rows_are}
 use Rattle.proto_scenes.proofs.enum_table.enum_table.Goals as goal
@@ -18,7 +18,7 @@ loop-file-preserved c =
     record {
       len = omega (arith, ap length c.in_ok-push.ensures.items, length-append c.loop-file.table.items (rows ∷ []), c.loop-file.invariant.len);
       each = λ reads are.
-          each_pushed (λ k m. (token : ℕ) → row_at m token ≡ enum_at files reads (at k token)) c.loop-file.table.items c.push.new.self.items rows file c.in_ok-push.ensures.items c.loop-file.invariant.len (c.loop-file.invariant.each reads are)
+          each_pushed (λ k m. (token : ℕ) → enum_row_at m token ≡ enum_at files reads (at k token)) c.loop-file.table.items c.push.new.self.items rows file c.in_ok-push.ensures.items c.loop-file.invariant.len (c.loop-file.invariant.each reads are)
           (rows_are files file l c.new-words.result c.new-words.ensures.words tree c.tree-tree.ensures reads are proto3 c.is_proto3-is_proto3.ensures rows c.in_ok-file_enums.ensures);
     }
 

@@ -1,11 +1,11 @@
 use Rattle.std.proofs.Common.{◌≡◌, ℕ, List, length}
 use Rattle.proto_meaning.specs.Grown.{at}
 use Rattle.proto_files.specs.FilesRead.{ReadOf, AreRead, Each}
-use Rattle.proto_scenes.specs.Common.{row_at, enum_at}
+use Rattle.proto_scenes.specs.Common.{enum_row_at, enum_at}
 use Rattle.proto_scenes.proofs.enum_table.enum_table.Given as goal
 
 abbrev pub invariant-loop-file : goal.invariant-loop-file
 invariant-loop-file l = record {
   len : length l.table.items ≡ l.file;
-  each : (reads : List ReadOf) → AreRead l.files reads → Each (λ k rows. (token : ℕ) → row_at rows token ≡ enum_at l.files reads (at k token)) l.table.items;
+  each : (reads : List ReadOf) → AreRead l.files reads → Each (λ k rows. (token : ℕ) → enum_row_at rows token ≡ enum_at l.files reads (at k token)) l.table.items;
 }

@@ -27,5 +27,5 @@ check_new-requires-clause-file c = place_of_path c.args.files.now c.len.ensures.
 pub check_new-requires-clause-to : goal.check_new-requires-clause-to
 check_new-requires-clause-to c = place_of_path c.args.files.now c.len.ensures.workspace c.in-Some-file_named.to c.in-Some-file_named.ensures.within c.args.path.now c.in-Some-file_named.ensures.path
 
-pub changed-requires-clause-file : goal.changed-requires-clause-file
-changed-requires-clause-file c = place_of_path c.args.files.now c.len.ensures.workspace c.in-Some.from c.in-Some.ensures.within c.args.file.now c.in-Some.ensures.path
+pub changes_of_addition-requires-clause-file : goal.changes_of_addition-requires-clause-file
+changes_of_addition-requires-clause-file c = place_of_path c.args.files.now c.len.ensures.workspace c.in-Some.from c.in-Some.ensures.within c.args.file.now c.in-Some.ensures.path

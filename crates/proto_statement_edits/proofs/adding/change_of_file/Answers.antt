@@ -25,8 +25,8 @@ bounds-tokens-token c =
     let place = place_by tree (Some c.in-Some.token) c.in-Some.ensures in
     omega (arith, inside, place)
 
-pub spliced-requires-clause-span : goal.spliced-requires-clause-span
-spliced-requires-clause-span c =
+pub splice_change-requires-clause-span : goal.splice_change-requires-clause-span
+splice_change-requires-clause-span c =
     let files = c.args.files.now in
     let file = c.args.file in
     let bytes = (file_at files file).bytes in
@@ -54,7 +54,7 @@ returns c =
     let d : Token = record { kind = Word; span = record { start = 0; end = 0 } } in
     let by : c.match-end.end ≡ behind_all (ends_of tree) = elim c.match-end.branch [ in-Some w ↦ w.end-is ∙ sym w.in-Some.is ∙ c.end_before_import-end.ensures | in-None w ↦ w.end-is ∙ c.end_before_import-end.ensures ] in
     let e : Edit = splice bytes c.match-end.at c.match-end.at c.as_str.result.now in
-    IfOk-weaker c.spliced.result (IsSpliced (file_at files file) e) (λ o. (reads : List ReadOf) → AreRead files reads → IsChangeOfAddition files reads file path o)
+    IfOk-weaker c.splice_change.result (IsSpliced (file_at files file) e) (λ o. (reads : List ReadOf) → AreRead files reads → IsChangeOfAddition files reads file path o)
     (λ o spliced reads are.
     (let rest = (read_at reads file).tokens in
     let place : c.match-end.at ≡ end_before rest (place_behind c.match-end.end) =
@@ -70,4 +70,4 @@ returns c =
     let same = same_tree files reads file tree are within c.tree.ensures in
     let is : e ≡ splice_of_addition files reads file path = addition_is files reads file path tree same c.match-end.end by c.match-end.at c.as_str.result.now place (c.as_str.ensures.value ∙ c.in_ok-text.ensures) in
     subst (λ (z : Edit). IsSpliced (file_at files file) z o) is spliced))
-    c.spliced.ensures
+    c.splice_change.ensures

@@ -38,4 +38,4 @@ returns-clause-err c =
     let marks = c.deref.ensures.value ∙ ap (λ v. v.items) c.index.ensures ∙ sym (get_or-map (λ v. v.items) seen file c.index.result.now [] inside) in
     let first = c.in_ok-first_overtaken.ensures reads are v (record { imports = refl; seen = subst (MarksSeen v file) (sym marks) (sees.1 file within) }) in
     refused_7 files reads are c.args.paths.file.now c.args.paths.path.now file c.args.to c.requires.file c.requires.to within c.in-Some.token (subst (IsFirstOvertaken files reads v file) c.in-Some.is first)
-    c.in_ok-captured-in-Some.field-0 c.in_ok-captured-in-Some.ensures
+    c.in_ok-captured_refusal-in-Some.field-0 c.in_ok-captured_refusal-in-Some.ensures

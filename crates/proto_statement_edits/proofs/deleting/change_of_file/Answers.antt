@@ -5,8 +5,8 @@ use Rattle.proto_text.proofs.Common.{Edit, word_at}
 use Rattle.proto_files.proofs.Common.{AreRead, ReadOf, read_at, file_at}
 use Rattle.proto_parts.specs.Numbers.{past}
 use Rattle.proto_statement_laws.specs.Deletions.{splice}
-use Rattle.proto_statement_changes.specs.DeletionChanges.{number_of_field, splice_of_deletion}
-use Rattle.proto_statement_edits.specs.Common.{IsChangeOfDeletion, IsSpliced, last_of, text_by}
+use Rattle.proto_statement_changes.specs.DeletionChanges.{field_number_value, splice_of_deletion}
+use Rattle.proto_statement_edits.specs.Common.{IsChangeOfDeletion, IsSpliced, last_replaced, text_by}
 use Rattle.proto_statement_edits.proofs.FieldCases.{file_there}
 use Rattle.proto_statement_edits.proofs.FieldThere.{deleted_is, field_at, in_order, is_field_at, is_named, min_past, number_told}
 use Rattle.proto_statement_edits.proofs.TokenSpans.{spans_told}
@@ -29,7 +29,7 @@ overflow_cast-number c =
     let lexemes = c.new-words.ensures.words rest tokens in
     let small = c.requires.small reads are f (is_field_at files reads are name field is place found) in
     let value = number_told files reads are name field is place found c.new-words.result lexemes c.get.result.now c.get.ensures in
-    let number : c.number_of-number.result ≡ number_of_field files reads f = c.number_of-number.ensures ∙ ap (min past) value ∙ min_past (number_of_field files reads f) small in
+    let number : c.number_of-number.result ≡ field_number_value files reads f = c.number_of-number.ensures ∙ ap (min past) value ∙ min_past (field_number_value files reads f) small in
     omega (arith, number, small)
 
 pub text_of-requires-clause-within : goal.text_of-requires-clause-within
@@ -44,8 +44,8 @@ span_of-span-requires-clause-within c =
     let are = c.are_read.ensures.1 in
     in_order c.args.files.now reads are c.args.name.now c.args.field (c.requires.field reads are) c.args.place (c.requires.place reads are)
 
-pub spliced-requires-clause-span : goal.spliced-requires-clause-span
-spliced-requires-clause-span c =
+pub splice_change-requires-clause-span : goal.splice_change-requires-clause-span
+splice_change-requires-clause-span c =
     let files = c.args.files.now in
     let reads = c.are_read.ensures.0 in
     let are = c.are_read.ensures.1 in
@@ -59,8 +59,8 @@ spliced-requires-clause-span c =
     let told = c.span_of-span.ensures rest (are.tokens field.file within) in
     let low = order.0 in
     let high = order.1 in
-    let le : place.first ≤ last_of place = omega (arith, low, high) in
-    spans_told (file_at files field.file).bytes rest (are.tokens field.file within) place.first (last_of place) (record { kind = Word; span = record { start = 0; end = 0 } }) le (order.2 rest (are.tokens field.file within)) c.span_of-span.result told.0 told.1
+    let le : place.first ≤ last_replaced place = omega (arith, low, high) in
+    spans_told (file_at files field.file).bytes rest (are.tokens field.file within) place.first (last_replaced place) (record { kind = Word; span = record { start = 0; end = 0 } }) le (order.2 rest (are.tokens field.file within)) c.span_of-span.result told.0 told.1
 
 pub returns : goal.returns
 returns c =
@@ -70,7 +70,7 @@ returns c =
     let place = c.args.place in
     let bytes = (file_at files field.file).bytes in
     let e : Edit = splice bytes c.span_of-span.result.start c.span_of-span.result.end c.as_str-2.result.now in
-    IfOk-weaker c.spliced.result (IsSpliced (file_at files field.file) e) (λ o. (reads : List ReadOf) → AreRead files reads → IsChangeOfDeletion files reads name o)
+    IfOk-weaker c.splice_change.result (IsSpliced (file_at files field.file) e) (λ o. (reads : List ReadOf) → AreRead files reads → IsChangeOfDeletion files reads name o)
     (λ o spliced reads are.
     (let is = c.requires.field reads are in
     let found = c.requires.place reads are in
@@ -81,11 +81,11 @@ returns c =
     let lexemes = c.new-words.ensures.words rest tokens in
     let small = c.requires.small reads are f (is_field_at files reads are name field is place found) in
     let value = number_told files reads are name field is place found c.new-words.result lexemes c.get.result.now c.get.ensures in
-    let number : c.number_of-number.result ≡ number_of_field files reads f = c.number_of-number.ensures ∙ ap (min past) value ∙ min_past (number_of_field files reads f) small in
+    let number : c.number_of-number.result ≡ field_number_value files reads f = c.number_of-number.ensures ∙ ap (min past) value ∙ min_past (field_number_value files reads f) small in
     let told = c.span_of-span.ensures rest tokens in
     let reserved = c.as_str.ensures.value ∙ c.in_ok-reservation.ensures in
     let text = c.as_str-2.ensures.value ∙ c.in_ok-text.ensures rest tokens ∙ ap (text_by bytes rest place) reserved in
     let word = c.get-2.ensures ∙ ap (λ z. word_at z field.token) lexemes in
     let same : e ≡ splice_of_deletion files reads f = deleted_is files reads are name field is place found c.span_of-span.result.start c.span_of-span.result.end c.as_str-2.result.now c.number_of-number.result c.get-2.result.now number word told.0 told.1 text in
     (f, is_named files reads are name field is place found, subst (λ (z : Edit). IsSpliced (file_at files field.file) z o) same spliced)))
-    c.spliced.ensures
+    c.splice_change.ensures

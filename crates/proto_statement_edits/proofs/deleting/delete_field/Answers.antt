@@ -1,7 +1,7 @@
 use Rattle.std.proofs.Common.{sym, ap, ◌∙◌, option_map}
 use Rattle.proto_tree.specs.File.{tree_of_file}
 use Rattle.proto_files.proofs.OneReading.{same_tree}
-use Rattle.proto_statement_edits.specs.FieldPlaces.{alone_in, field_in, place_of}
+use Rattle.proto_statement_edits.specs.FieldPlaces.{alone_in, field_in, place_of_statement}
 use Rattle.proto_statement_edits.proofs.FieldCases.{file_there, free_10, refused_10}
 use Rattle.proto_statement_edits.proofs.FieldThere.{some_place}
 use Rattle.proto_statement_edits.proofs.deleting.delete_field.Goals as goal
@@ -32,17 +32,17 @@ unreachable-requires c =
     let is = c.in_ok-field.ensures.field reads are in
     let within = file_there files reads are c.args.name.now field is in
     some_place c.fields_are_one.ensures.there files reads are c.args.name.now field is
-    (ap (λ t. option_map place_of (field_in field.token t)) (same_tree files reads field.file (tree_of_file c.tree-tree.result.now) are within c.tree-tree.ensures) ∙ sym c.in_default.ensures)
+    (ap (λ t. option_map place_of_statement (field_in field.token t)) (same_tree files reads field.file (tree_of_file c.tree-tree.result.now) are within c.tree-tree.ensures) ∙ sym c.in_default.ensures)
 
-pub changed-requires-clause-place : goal.changed-requires-clause-place
-changed-requires-clause-place c = λ reads are. (
+pub changes_of_deletion-requires-clause-place : goal.changes_of_deletion-requires-clause-place
+changes_of_deletion-requires-clause-place c = λ reads are. (
     let files = c.args.files.now in
     let field = c.in_ok-field.field in
     let within = file_there files reads are c.args.name.now field (c.in_ok-field.ensures.field reads are) in
-    ap (λ t. option_map place_of (field_in field.token t)) (same_tree files reads field.file (tree_of_file c.tree-tree.result.now) are within c.tree-tree.ensures) ∙ sym c.in-Some.ensures)
+    ap (λ t. option_map place_of_statement (field_in field.token t)) (same_tree files reads field.file (tree_of_file c.tree-tree.result.now) are within c.tree-tree.ensures) ∙ sym c.in-Some.ensures)
 
-pub changed-requires-clause-before : goal.changed-requires-clause-before
-changed-requires-clause-before c =
+pub changes_of_deletion-requires-clause-before : goal.changes_of_deletion-requires-clause-before
+changes_of_deletion-requires-clause-before c =
     let files = c.args.files.now in
     let reads = c.are_read.ensures.0 in
     let are = c.are_read.ensures.1 in

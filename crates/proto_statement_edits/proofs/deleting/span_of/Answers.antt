@@ -3,7 +3,7 @@ use Rattle.proto_text.specs.declared.kind.TokenKind.TheVariants.{Word}
 use Rattle.proto_text.specs.declared.lexer.Token.{Token}
 use Rattle.proto_text.proofs.Common.{end_before, offset_at, one_token_list}
 use Rattle.proto_files.specs.GivenFiles.{file_at}
-use Rattle.proto_statement_edits.specs.Fields.{last_by, last_of}
+use Rattle.proto_statement_edits.specs.Fields.{last_by, last_replaced}
 use Rattle.proto_statement_edits.proofs.TokenSpans.{end_is, offset_is}
 use Rattle.proto_statement_edits.proofs.deleting.span_of.Goals as goal
 
@@ -22,7 +22,7 @@ returns c = λ tokens are. (
     let a = c.requires.within.0 in
     let b = c.requires.within.1 in
     let k : p.first < length ts = omega (arith, l, a, b) in
-    let last : c.unwrap_or-last.result ≡ last_of p = c.unwrap_or-last.ensures ∙ last_is p.oneof p.semicolon in (
+    let last : c.unwrap_or-last.result ≡ last_replaced p = c.unwrap_or-last.ensures ∙ last_is p.oneof p.semicolon in (
       sym (offset_is ts p.first d k) ∙ ap (λ (z : List Token). offset_at z p.first) same,
-      ap (λ (i : ℕ). (get_or ts i d).span.end) last ∙ sym (end_is ts (last_of p) d l) ∙ ap (λ (z : List Token). end_before z (suc (last_of p))) same,
+      ap (λ (i : ℕ). (get_or ts i d).span.end) last ∙ sym (end_is ts (last_replaced p) d l) ∙ ap (λ (z : List Token). end_before z (suc (last_replaced p))) same,
     ))

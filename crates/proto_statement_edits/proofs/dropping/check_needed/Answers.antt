@@ -18,8 +18,8 @@ returns-in-None-clause-free c =
     let sees = subst (AreSeenIn files (with_dropped files reads c.args.file path)) (sym c.deref.ensures.value) (c.in_ok-seen.ensures reads are path c.requires.to) in
     free_15 files reads are c.args.paths.file.now path c.args.file c.requires.file c.requires.before (c.in-None.ensures reads are c.args.file path sees)
 
-pub needed-requires : goal.needed-requires
-needed-requires c =
+pub needed_refusal-requires : goal.needed_refusal-requires
+needed_refusal-requires c =
     let files = c.args.files.now in
     let reads = c.are_read.ensures.0 in
     let are = c.are_read.ensures.1 in
@@ -34,4 +34,4 @@ returns-clause-err c =
     let are = c.are_read.ensures.1 in
     let path = c.args.paths.path.now in
     let sees = subst (AreSeenIn files (with_dropped files reads c.args.file path)) (sym c.deref.ensures.value) (c.in_ok-seen.ensures reads are path c.requires.to) in
-    refused_15 files reads are c.args.paths.file.now path c.args.file c.requires.file c.requires.before c.in-Some.reference (c.in-Some.ensures reads are c.args.file path sees) c.in_ok-needed-in-Some.field-0 c.in_ok-needed-in-Some.ensures
+    refused_15 files reads are c.args.paths.file.now path c.args.file c.requires.file c.requires.before c.in-Some.reference (c.in-Some.ensures reads are c.args.file path sees) c.in_ok-needed_refusal-in-Some.field-0 c.in_ok-needed_refusal-in-Some.ensures

@@ -38,5 +38,5 @@ check_needed-requires-clause-before c =
     (place_of_path c.args.files.now c.len.ensures.workspace c.in-Some.from c.in-Some.ensures.within c.args.file.now c.in-Some.ensures.path)
     (c.in-Some-import_named.ensures c.are_read.ensures.0 c.are_read.ensures.1).0
 
-pub changed-requires-clause-file : goal.changed-requires-clause-file
-changed-requires-clause-file c = place_of_path c.args.files.now c.len.ensures.workspace c.in-Some.from c.in-Some.ensures.within c.args.file.now c.in-Some.ensures.path
+pub changes_of_drop-requires-clause-file : goal.changes_of_drop-requires-clause-file
+changes_of_drop-requires-clause-file c = place_of_path c.args.files.now c.len.ensures.workspace c.in-Some.from c.in-Some.ensures.within c.args.file.now c.in-Some.ensures.path

@@ -5,8 +5,8 @@ use Rattle.proto_meaning.specs.Cycles.{Leads}
 use Rattle.proto_statement_names.proofs.LeadingWalks.{walks_lead}
 use Rattle.proto_statement_edits.proofs.leading.leads.Goals as goal
 
-pub reached-requires-clause-files : goal.reached-requires-clause-files
-reached-requires-clause-files c =
+pub reached_files-requires-clause-files : goal.reached_files-requires-clause-files
+reached_files-requires-clause-files c =
     let next = c.deref-2.result.now in
     let items = c.in_ok-imports.imports.items in
     let lists = ap (λ (z : List (Vec ℕ)). map (λ v. v.items) z) c.deref-2.ensures.value ∙ c.in_ok-next.ensures ∙ ap (map (λ v. map (λ i. i.to) v.items)) c.deref.ensures.value in

@@ -1,6 +1,6 @@
 use Rattle.std.proofs.Common.{◌≡◌, ap, sym, ◌∙◌, subst, IfSome, string_bytes}
 use Rattle.proto_meaning.specs.Forest.{under, front}
-use Rattle.proto_table.specs.Common.{names_of, IsDeclared, IsRowOf, declaration_of, number_above}
+use Rattle.proto_table.specs.Common.{names_of, SymbolIsDeclared, IsRowOf, declaration_of, number_above}
 use Rattle.proto_table.proofs.filling.declare_one.Goals.{in-Outermost, in-Below, After-as_str}
 use Rattle.proto_table.proofs.filling.declare_one.Goals as goal
 
@@ -21,6 +21,6 @@ returns-in-Some c =
     record {
       table = c.in_ok-row.ensures.table;
       row = subst (λ z. IsRowOf c.args.table.now c.declare.new.self z symbol c.in-Some.row) (text_is at) (subst (λ o. IfSome o (IsRowOf c.args.table.now c.declare.new.self was symbol)) c.in-Some.is c.in_ok-row.ensures.row);
-      index = subst (λ z. IsDeclared c.args.table.now c.declare.new.self z symbol) (text_is at) (subst (λ o. IfSome o (λ _. IsDeclared c.args.table.now c.declare.new.self was symbol)) c.in-Some.is c.in_ok-row.ensures.index);
+      index = subst (λ z. SymbolIsDeclared c.args.table.now c.declare.new.self z symbol) (text_is at) (subst (λ o. IfSome o (λ _. SymbolIsDeclared c.args.table.now c.declare.new.self was symbol)) c.in-Some.is c.in_ok-row.ensures.index);
       clash = tt;
     }

@@ -3,7 +3,7 @@ use Rattle.std.specs.List.{list_any}
 use Rattle.std.specs.Str.{bytes_eq}
 use Rattle.std.specs.declared.alloc.Global.{Global}
 use Rattle.std.proofs.lemmas.Bool.{cond-false}
-use Rattle.proto_table.specs.Indexes.{place}
+use Rattle.proto_table.specs.Indexes.{word_place}
 use Rattle.proto_table.proofs.Positions.{none_end}
 use Rattle.proto_table.proofs.IndexAdded.{word_other}
 use Rattle.proto_table.proofs.index.number.Goals as goal
@@ -14,11 +14,11 @@ absent words key word is none = ap (λ z. list_any (λ k. bytes_eq z (string_byt
 pub returns-in_ok-number-in-None-clause-old_or_new :
     goal.returns-in_ok-number-in-None-clause-old_or_new
 returns-in_ok-number-in-None-clause-old_or_new c = inr (
-  c.in_ok-number-in-None.ensures.index ∙ none_end (λ k. bytes_eq (string_bytes c.in_ok-key-in-None.key) (string_bytes k)) c.args.words.now.keys (ap (place c.args.words.now.keys) c.in_ok-key-in-None.ensures.ok ∙ sym c.in-None.ensures.index),
+  c.in_ok-number-in-None.ensures.index ∙ none_end (λ k. bytes_eq (string_bytes c.in_ok-key-in-None.key) (string_bytes k)) c.args.words.now.keys (ap (word_place c.args.words.now.keys) c.in_ok-key-in-None.ensures.ok ∙ sym c.in-None.ensures.index),
   sym c.in-None.ensures.index,
 )
 
 pub returns-in_ok-number-in-None-clause-other : goal.returns-in_ok-number-in-None-clause-other
 returns-in_ok-number-in-None-clause-other c v ne =
-    ap (λ z. place z v) (c.in_ok-number-in-None.ensures.keys ∙ cond-false _ _ _ (absent c.args.words.now.keys c.in_ok-key-in-None.key c.args.word.now c.in_ok-key-in-None.ensures.ok c.in-None.ensures.found))
+    ap (λ z. word_place z v) (c.in_ok-number-in-None.ensures.keys ∙ cond-false _ _ _ (absent c.args.words.now.keys c.in_ok-key-in-None.key c.args.word.now c.in_ok-key-in-None.ensures.ok c.in-None.ensures.found))
     ∙ word_other c.args.words.now.keys c.in_ok-key-in-None.key c.args.word.now c.in_ok-key-in-None.ensures.ok v ne

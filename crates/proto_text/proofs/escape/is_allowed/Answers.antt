@@ -8,6 +8,6 @@ returns-then-not-has_backslash c =
 
 pub returns-in-Some : goal.returns-in-Some
 returns-in-Some c =
-    let means = rw c.in-Some.is at c.in_ok-decoded.ensures in
+    let means = rw c.in-Some.is at c.in_ok-decoded_bytes.ensures in
     let utf8 = rw c.as_slice.ensures.value at c.is_utf8-in-Some.ensures in
     allowed_as c.args.body.now c.in-Some.values.items c.is_utf8-in-Some.result means utf8

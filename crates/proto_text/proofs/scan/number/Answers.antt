@@ -1,7 +1,7 @@
 use Rattle.std.proofs.Common.{rules}
-use Rattle.proto_text.specs.Scan.{number_at}
+use Rattle.proto_text.specs.Scan.{scanned_number}
 use Rattle.proto_text.proofs.scan.number.Goals as goal
 
 pub returns-else-is_number_text : goal.returns-else-is_number_text
-unfolding number_at
+unfolding scanned_number
 returns-else-is_number_text c = search rules

@@ -5,11 +5,11 @@ use Rattle.protoref_run.specs.Changes.{Begins}
 use Rattle.protoref_run.proofs.Tellings.{not_ready}
 use Rattle.protoref_run.proofs.beginning.begin.Goals as goal
 
-pub loaded-requires-clause-ready : goal.loaded-requires-clause-ready
-loaded-requires-clause-ready g c = subst (λ (h : Option Held). Over h IsReady) (sym c.ready.ensures.same) c.in-Ok.ensures.outcome
+pub load_beginning-requires-clause-ready : goal.load_beginning-requires-clause-ready
+load_beginning-requires-clause-ready g c = subst (λ (h : Option Held). Over h IsReady) (sym c.ready.ensures.same) c.in-Ok.ensures.outcome
 
 pub returns-in-Ok-clause-begins : goal.returns-in-Ok-clause-begins
-returns-in-Ok-clause-begins g c = subst (λ (h : Option Held). IfOk c.loaded.result (Begins h)) c.ready.ensures.same c.loaded.ensures.begins
+returns-in-Ok-clause-begins g c = subst (λ (h : Option Held). IfOk c.load_beginning.result (Begins h)) c.ready.ensures.same c.load_beginning.ensures.begins
 
 pub returns-in_ok-answer-in-Err-clause-begins : goal.returns-in_ok-answer-in-Err-clause-begins
 returns-in_ok-answer-in-Err-clause-begins g c = not_ready (g.S.Store.holds c.args.store.now) c.in-Err.fault c.in_ok-answer-in-Err.answer c.in-Err.ensures.outcome c.in_ok-answer-in-Err.ensures.told

@@ -18,8 +18,8 @@ returns-in_err-beginning-clause-outcome g c =
     (ends_unedited (asked c.args.edit) (g.S.Store.holds c.args.store.now) (g.S.Store.holds c.begin.new.store) c.in_err-beginning.field-0.0
     (λ is. c.in_err-beginning.ensures.unwritten (ap ended is)) c.begin.ensures.same)
 
-pub committed-requires-clause-loaded : goal.committed-requires-clause-loaded
-committed-requires-clause-loaded g c =
+pub answer_of_commit-requires-clause-loaded : goal.answer_of_commit-requires-clause-loaded
+answer_of_commit-requires-clause-loaded g c =
     let held : Option Held = g.S.Store.holds c.args.store.now in
     let may : MayBegin c.in-Over.workspace held = subst (Begins held) c.in-Over.is c.in_ok-beginning.ensures.begins in
     subst (λ (h : Option Held). HoldsFiles h c.in-Over.workspace) (sym c.begin.ensures.same) (may_hold c.in-Over.workspace held may)
@@ -27,11 +27,11 @@ committed-requires-clause-loaded g c =
 pub returns-in-Over-clause-outcome : goal.returns-in-Over-clause-outcome
 returns-in-Over-clause-outcome g c =
     let held : Option Held = g.S.Store.holds c.args.store.now in
-    let after : Option Held = g.S.Store.holds c.committed.new.store in
+    let after : Option Held = g.S.Store.holds c.answer_of_commit.new.store in
     let may : MayBegin c.in-Over.workspace held = subst (Begins held) c.in-Over.is c.in_ok-beginning.ensures.begins in
-    let told : TellsOf (CommitOutcome (asked c.args.edit)) c.in-Over.workspace held after c.committed.result =
-    subst (λ (h : Option Held). TellsOf (CommitOutcome (asked c.args.edit)) c.in-Over.workspace h after c.committed.result) c.begin.ensures.same c.committed.ensures.told in
-    edit_answers (asked c.args.edit) c.in-Over.workspace held after c.committed.result may told
+    let told : TellsOf (CommitOutcome (asked c.args.edit)) c.in-Over.workspace held after c.answer_of_commit.result =
+    subst (λ (h : Option Held). TellsOf (CommitOutcome (asked c.args.edit)) c.in-Over.workspace h after c.answer_of_commit.result) c.begin.ensures.same c.answer_of_commit.ensures.told in
+    edit_answers (asked c.args.edit) c.in-Over.workspace held after c.answer_of_commit.result may told
 
 pub returns-in-Never-clause-outcome : goal.returns-in-Never-clause-outcome
 returns-in-Never-clause-outcome g c =

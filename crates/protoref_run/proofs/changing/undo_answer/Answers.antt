@@ -17,8 +17,8 @@ returns-in_err-beginning-clause-outcome g c =
     (ends_undone (g.S.Store.holds c.args.store.now) (g.S.Store.holds c.begin.new.store) c.in_err-beginning.field-0.0
     (λ is. c.in_err-beginning.ensures.unwritten (ap ended is)) c.begin.ensures.same)
 
-pub undone-requires-clause-loaded : goal.undone-requires-clause-loaded
-undone-requires-clause-loaded g c =
+pub answer_of_undo-requires-clause-loaded : goal.answer_of_undo-requires-clause-loaded
+answer_of_undo-requires-clause-loaded g c =
     let held : Option Held = g.S.Store.holds c.args.store.now in
     let may : MayBegin c.in-Over.workspace held = subst (Begins held) c.in-Over.is c.in_ok-beginning.ensures.begins in
     subst (λ (h : Option Held). HoldsFiles h c.in-Over.workspace) (sym c.begin.ensures.same) (may_hold c.in-Over.workspace held may)
@@ -26,11 +26,11 @@ undone-requires-clause-loaded g c =
 pub returns-in-Over-clause-outcome : goal.returns-in-Over-clause-outcome
 returns-in-Over-clause-outcome g c =
     let held : Option Held = g.S.Store.holds c.args.store.now in
-    let after : Option Held = g.S.Store.holds c.undone.new.store in
+    let after : Option Held = g.S.Store.holds c.answer_of_undo.new.store in
     let may : MayBegin c.in-Over.workspace held = subst (Begins held) c.in-Over.is c.in_ok-beginning.ensures.begins in
-    let told : TellsOf UndoOutcome c.in-Over.workspace held after c.undone.result =
-    subst (λ (h : Option Held). TellsOf UndoOutcome c.in-Over.workspace h after c.undone.result) c.begin.ensures.same c.undone.ensures.told in
-    undo_answers c.in-Over.workspace held after c.undone.result may told
+    let told : TellsOf UndoOutcome c.in-Over.workspace held after c.answer_of_undo.result =
+    subst (λ (h : Option Held). TellsOf UndoOutcome c.in-Over.workspace h after c.answer_of_undo.result) c.begin.ensures.same c.answer_of_undo.ensures.told in
+    undo_answers c.in-Over.workspace held after c.answer_of_undo.result may told
 
 pub returns-in-Never-clause-outcome : goal.returns-in-Never-clause-outcome
 returns-in-Never-clause-outcome g c =

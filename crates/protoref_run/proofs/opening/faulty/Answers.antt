@@ -3,9 +3,9 @@ use Rattle.protoref_run.proofs.Faulted.{least_is_held}
 use Rattle.protoref_run.proofs.Printing.{tells_fault}
 use Rattle.protoref_run.proofs.opening.faulty.Goals as goal
 
-pub reported-requires-clause-listed : goal.reported-requires-clause-listed
-reported-requires-clause-listed g c = least_is_held (g.S.Store.holds c.args.store.now) (fault_at c.args.fault.now) c.requires.least
+pub fault_answer-requires-clause-listed : goal.fault_answer-requires-clause-listed
+fault_answer-requires-clause-listed g c = least_is_held (g.S.Store.holds c.args.store.now) (fault_at c.args.fault.now) c.requires.least
 
 pub returns-clause-told : goal.returns-clause-told
 returns-clause-told g c =
-    tells_fault (g.S.Store.holds c.args.store.now) (fault_at c.args.fault.now) c.reported.result c.requires.least c.reported.ensures.text c.reported.ensures.status
+    tells_fault (g.S.Store.holds c.args.store.now) (fault_at c.args.fault.now) c.fault_answer.result c.requires.least c.fault_answer.ensures.text c.fault_answer.ensures.status

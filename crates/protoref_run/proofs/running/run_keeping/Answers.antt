@@ -1,6 +1,6 @@
 use Rattle.std.proofs.Common.{List, ℕ, sym, subst, Option}
 use Rattle.proto_faults.proofs.Common.{Keeps-refl, err_from_is_err_and}
-use Rattle.proto_output.specs.Answers.{status_of, text_of}
+use Rattle.proto_output.specs.Answers.{status_of, printed_text}
 use Rattle.proto_output.specs.declared.status.Status.{Status}
 use Rattle.proto_store.specs.Stores.{Held}
 use Rattle.protoref_run.specs.Commands.{Answered}
@@ -18,13 +18,13 @@ returns-in_err-answer-clause-ran g c =
 pub returns-in_err-status-clause-ran : goal.returns-in_err-status-clause-ran
 returns-in_err-status-clause-ran g c =
     let p = err_from_is_err_and c.from_residual-in_err-status.result c.from_residual-in_err-status.ensures.1 in
-    rw (p.1, p.2) (text_of c.in_ok-answer.answer, status_of c.in_ok-answer.answer, c.in_ok-answer.ensures.outcome, c.in_err-status.ensures.err)
+    rw (p.1, p.2) (printed_text c.in_ok-answer.answer, status_of c.in_ok-answer.answer, c.in_ok-answer.ensures.outcome, c.in_err-status.ensures.err)
 
 pub returns-clause-ran : goal.returns-clause-ran
 returns-clause-ran g c =
     let before : Option Held = g.S.Store.holds c.args.store.now in
     let after : Option Held = g.S.Store.holds c.answer_of.new.store in
-    let text : List ℕ = text_of c.in_ok-answer.answer in
+    let text : List ℕ = printed_text c.in_ok-answer.answer in
     let answered : Answered c.args.command before after text c.in_ok-status.status =
     subst (λ (s : Status). Answered c.args.command before after text s) (sym c.in_ok-status.ensures.ok.1) c.in_ok-answer.ensures.outcome in
     (text, answered, c.in_ok-status.ensures.ok.0)

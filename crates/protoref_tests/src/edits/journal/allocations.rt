@@ -37,9 +37,9 @@ fn expect_left<R: AllocGlobal + Abort>(
     (before, made): (Left, Left),
     cuts: &[Left],
 ) {
-    let ((number, name, _), text) = match called(rt, store, RENAME) {
+    let ((number, name, _), text) = match answer_of_call(rt, store, RENAME) {
         Ok(answer) => answer,
-        Err(_) => called(rt, store, RENAME).expect(rt, "an answer"),
+        Err(_) => answer_of_call(rt, store, RENAME).expect(rt, "an answer"),
     };
     let (is_so, wanted) = match (number, name) {
         (0, "done") => (is_one_of(rt, store, &[made]), AFTER),
@@ -53,7 +53,7 @@ fn expect_left<R: AllocGlobal + Abort>(
     // Nothing is refused any more, so the same call is made.
     if number == 6 {
         assert!(rt;
-            called(rt, store, RENAME).expect(rt, "an answer") == MADE,
+            answer_of_call(rt, store, RENAME).expect(rt, "an answer") == MADE,
             "again"
         );
     }

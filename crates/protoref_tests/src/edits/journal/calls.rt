@@ -69,7 +69,7 @@ pub(crate) const MADE: Answer = ((0, "done", 0), AFTER);
 pub(crate) const TAKEN_BACK: Answer = ((0, "done", 0), BEFORE);
 
 /// A fault as `Said` has it.
-pub(crate) fn said<T: Drop>(answer: Result<T, JournalFault>) -> Said {
+pub(crate) fn said_of<T: Drop>(answer: Result<T, JournalFault>) -> Said {
     match answer {
         Ok(_) => (0, "done", 0),
         Err(JournalFault::Refused(refusal)) => (0, refusal.name(), refusal.number()),
@@ -105,7 +105,7 @@ fn text_of(workspace: &Workspace) -> &'static str {
 }
 
 // Commits a rename of this name, or undoes the last entry where there is none.
-fn answered(
+fn commit_or_undo(
     alloc: Global,
     store: &mut MemoryStore,
     workspace: &mut Workspace,
@@ -115,16 +115,16 @@ fn answered(
     requires loaded { workspace.old ≡ store.old.held.files }
 {
     if name.is_empty() {
-        return Ok(said(undo_last(alloc, store, workspace)));
+        return Ok(said_of(undo_last(alloc, store, workspace)));
     }
     let name = String::from_str(alloc, name)?;
     let to = String::from_str(alloc, "d_e")?;
     let edit = Edit::Rename { name, to };
-    Ok(said(commit(alloc, store, workspace, edit)))
+    Ok(said_of(commit(alloc, store, workspace, edit)))
 }
 
 /// Commits a rename, or undoes the last entry, over a workspace that is loaded from the store.
-pub(crate) fn called<R: AllocGlobal + Abort>(
+pub(crate) fn answer_of_call<R: AllocGlobal + Abort>(
     rt: &R,
     store: &mut MemoryStore,
     (name, number, lands): Call,
@@ -132,7 +132,7 @@ pub(crate) fn called<R: AllocGlobal + Abort>(
     assert!(rt; store.failures() < u64::MAX && number > 0);
     let mut workspace = load(rt.alloc(), store)?;
     store.fail_at(number, lands);
-    let answer = answered(rt.alloc(), store, &mut workspace, name);
+    let answer = commit_or_undo(rt.alloc(), store, &mut workspace, name);
     let text = text_of(&workspace);
     workspace.release();
     match answer {
@@ -167,7 +167,7 @@ fn expect_turn<R: AllocGlobal + Abort>(
     (call, answer, left): Turn,
 ) -> Result<(), LoadFault> {
     let (name, number, lands) = call;
-    let is_answer = called(rt, store, call)? == answer;
+    let is_answer = answer_of_call(rt, store, call)? == answer;
     // A failure that did not come is not to come now.
     store.fail_at(NEVER, false);
     let is_left = is_left(rt, store, left)?;
@@ -186,7 +186,7 @@ fn expect_turns<R: AllocGlobal + Abort>(
     turns: &[Turn],
 ) {
     assert!(rt; store.failures() < u64::MAX);
-    assert!(rt; said(ready(rt.alloc(), store)) == is_ready, "ready");
+    assert!(rt; said_of(ready(rt.alloc(), store)) == is_ready, "ready");
     for turn in turns {
         expect_turn(rt, store, *turn).expect(rt, "files");
     }

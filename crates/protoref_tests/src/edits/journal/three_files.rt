@@ -1,6 +1,6 @@
 //! A rename of three files: each store call of its commit fails in turn, and a recovery leads back.
 
-use super::calls::said;
+use super::calls::said_of;
 use proto_faults::NoMemory;
 use proto_journal::*;
 use std::alloc::Global;
@@ -95,7 +95,7 @@ fn expect_cut<R: AllocGlobal + Abort>(rt: &R, store: &mut MemoryStore, call: u64
         name: String::from_str(rt.alloc(), "M").expect(rt, "memory"),
         to: String::from_str(rt.alloc(), "N").expect(rt, "memory"),
     };
-    let (number, name, _) = said(commit(rt.alloc(), store, &mut workspace, edit));
+    let (number, name, _) = said_of(commit(rt.alloc(), store, &mut workspace, edit));
     let is_kept = is_before(&workspace);
     workspace.release();
     assert!(rt;

@@ -1,10 +1,10 @@
 use Rattle.std.proofs.Common.{◌≡◌, false, map, take, string_bytes}
 use Rattle.clap.specs.Walk.{texts}
-use Rattle.protoref_words.specs.Marked.{begins_dashed, marked}
+use Rattle.protoref_words.specs.Marked.{begins_dashed, words_marked}
 use Rattle.protoref_words.proofs.command_line.marked_words.Given as goal
 
 abbrev pub invariant-loop-index : goal.invariant-loop-index
 invariant-loop-index l = record {
-  handed : texts l.marked.items ≡ marked (map string_bytes (take l.index l.words));
+  handed : texts l.marked.items ≡ words_marked (map string_bytes (take l.index l.words));
   plain : begins_dashed (map string_bytes (take l.index l.words)) ≡ false;
 }

@@ -2,8 +2,8 @@ use Rattle.proto_files.specs.GivenFiles.{files_of}
 use Rattle.proto_desc.proofs.Opened.{files_error, no_fault}
 use Rattle.proto_desc.proofs.schema.Schema.open.Goals as goal
 
-pub linked-requires : goal.linked-requires
-linked-requires c = c.in_ok-files.ensures.read.clean
+pub link_and_descriptors-requires : goal.link_and_descriptors-requires
+link_and_descriptors-requires c = c.in_ok-files.ensures.read.clean
 
 pub returns-in-Ok-clause-clean : goal.returns-in-Ok-clause-clean
 returns-in-Ok-clause-clean c = no_fault (files_of c.args.files.items) c.in_ok-files.files c.in_ok-files.ensures.read c.in-Ok.ensures.clean

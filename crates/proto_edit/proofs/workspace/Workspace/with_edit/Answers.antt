@@ -5,8 +5,8 @@ use Rattle.proto_edit.proofs.Chains.{step_made}
 use Rattle.proto_edit.proofs.Steps.{cannot_fail, entry_is}
 use Rattle.proto_edit.proofs.workspace.Workspace.with_edit.Goals as goal
 
-pub reopened-requires : goal.reopened-requires
-reopened-requires c =
+pub with_changes-requires : goal.with_changes-requires
+with_changes-requires c =
     let cs = map change_of c.in_ok-changes.changes.items in
     let ok = c.in_ok-changes.ensures.ok in
     subst AreRising (ap (map change_of) (sym c.deref.ensures.value)) (entry_is c.statements_are_known.ensures c.args.self.now (asked c.args.edit.now) cs c.files.ensures.compiled ok.0 ok.1).rising

@@ -1,17 +1,17 @@
 use Rattle.std.proofs.Common.{◌≡◌, ◌<◌, ◌↔◌, ℕ, List, Option, Some, length, map, true, sym, ◌∙◌, ap, subst, arith, All}
 use Rattle.proto_files.proofs.Common.{paths_of, ReadOf}
-use Rattle.proto_meaning.specs.Faults.{file_of}
+use Rattle.proto_meaning.specs.Faults.{file_with_path}
 use Rattle.proto_imports.proofs.Common.{link_imports, IsMarked}
 use Rattle.proto_lint.proofs.Reached.{reach_walks, walk_reaches}
 use Rattle.proto_lint.proofs.UsedFinds.{place_within}
 use Rattle.proto_lint.specs.ImportTables.{ArePublic, LeadsToMarked}
 use Rattle.proto_lint.proofs.imports.Imports.leads.Goals as goal
 
-pub reached-requires : goal.reached-requires
-reached-requires c =
+pub reached_files-requires : goal.reached_files-requires
+reached_files-requires c =
     let files = c.args.files.now in
     let path = c.args.path.now in
-    let is : file_of (paths_of files) path ≡ Some c.in-Some.file = sym (c.requires.imports.index path) ∙ sym c.place_of.ensures ∙ c.in-Some.is in
+    let is : file_with_path (paths_of files) path ≡ Some c.in-Some.file = sym (c.requires.imports.index path) ∙ sym c.place_of.ensures ∙ c.in-Some.is in
     let low = place_within files path c.in-Some.file is in
     let count : length c.deref.result.now ≡ length files = subst (λ vs. length vs ≡ length files) (sym c.deref.ensures.value) c.requires.imports.count in
     record {
@@ -32,7 +32,7 @@ returns-in_ok-seen-in-Some c = λ (reads : List ReadOf) are.
     let imports = link_imports files reads in
     let next = map (λ v. v.items) c.deref.result.now in
     let public : ArePublic next imports = subst (λ vs. ArePublic (map (λ v. v.items) vs) imports) (sym c.deref.ensures.value) (c.requires.imports.public reads are) in
-    let is : file_of (paths_of files) path ≡ Some c.in-Some.file = sym (c.requires.imports.index path) ∙ sym c.place_of.ensures ∙ c.in-Some.is in
+    let is : file_with_path (paths_of files) path ≡ Some c.in-Some.file = sym (c.requires.imports.index path) ∙ sym c.place_of.ensures ∙ c.in-Some.is in
     let seen = c.in_ok-seen-in-Some.seen.items in
     let shared = subst (λ marks. (c.share_a_mark.result ≡ true) ↔ ((g : ℕ) × IsMarked marks g × IsMarked c.args.marks.now g)) c.deref-in-Some.ensures.value c.share_a_mark.ensures in
     subst (λ (o : Option ℕ). (c.share_a_mark.result ≡ true) ↔ LeadsToMarked imports o c.args.marks.now) (sym is) (

@@ -2,7 +2,7 @@ use Rattle.std.proofs.Common.{[], get_or, option_map, refl, sym, ◌∙◌, ap, 
 use Rattle.std.proofs.lemmas.Option.{none-some}
 use Rattle.proto_files.specs.GivenFiles.{file_at}
 use Rattle.proto_meaning.specs.Joined.{joined}
-use Rattle.proto_names.specs.Linking.{text_at}
+use Rattle.proto_names.specs.Linking.{name_text}
 use Rattle.proto_table.specs.Tables.{names_of}
 use Rattle.proto_names.proofs.LinkIndex.{marks_at, meant_in, none_meant}
 use Rattle.proto_names.proofs.Linking.{text_from}
@@ -14,7 +14,7 @@ returns-in_err-row-clause-meant c = λ reads are path plain e. (
     let marks = marks_at c.args.self.now c.self.inside.seen.items (ap (λ l. l.seen) c.self.view_is) c.deref.result.now c.deref.ensures.value c.args.file look_up.3.0 c.in_ok-seen.seen.now look_up.1 c.deref-2.result.now c.deref-2.ensures.value in
     let meant = meant_in c.self.inside.table c.args.self.now (ap (λ l. l.names) c.self.view_is) c.args.files.now reads are c.args.file c.requires.file (c.requires.link reads are).by c.deref-2.result.now marks
     (file_at c.args.files.now c.args.file).bytes c.new-words.ensures.some.0 c.new-words.result c.new-words.ensures.some.2 refl c.new-words.ensures.some.1 c.args.scope.now c.args.reference.now c.row_in_scope.result c.row_in_scope.ensures.meant path plain e in
-    ap (option_and_then (λ id. text_at c.args.self.now id.row)) c.from_residual-in_err-row.ensures ∙ ap (option_map (λ k. get_or (names_of c.self.inside.table) k [])) (sym c.in_err-row.was) ∙ meant)
+    ap (option_and_then (λ id. name_text c.args.self.now id.row)) c.from_residual-in_err-row.ensures ∙ ap (option_map (λ k. get_or (names_of c.self.inside.table) k [])) (sym c.in_err-row.was) ∙ meant)
 
 pub returns-clause-meant : goal.returns-clause-meant
 returns-clause-meant c = λ reads are path plain e. (
@@ -27,7 +27,7 @@ returns-clause-meant c = λ reads are path plain e. (
 
 pub returns-in_err-row-clause-none : goal.returns-in_err-row-clause-none
 returns-in_err-row-clause-none c = λ reads are path plain e. (
-  λ h. none_meant _ (sym (ap (option_and_then (λ id. text_at c.args.self.now id.row)) c.from_residual-in_err-row.ensures) ∙ returns-in_err-row-clause-meant c reads are path plain e),
+  λ h. none_meant _ (sym (ap (option_and_then (λ id. name_text c.args.self.now id.row)) c.from_residual-in_err-row.ensures) ∙ returns-in_err-row-clause-meant c reads are path plain e),
   λ h. c.from_residual-in_err-row.ensures,
 )
 

@@ -1,14 +1,14 @@
 use Rattle.std.proofs.Common.{◌≢◌, ℕ, Some, sym, ◌∙◌, ap}
 use Rattle.std.proofs.lemmas.Option.{none-some}
-use Rattle.proto_names.specs.Linking.{text_at}
+use Rattle.proto_names.specs.Linking.{name_text}
 use Rattle.proto_names.proofs.Linking.{text_from, text_none, text_once}
 use Rattle.proto_table.proofs.Resolved.{if_none}
 use Rattle.proto_names.proofs.link.Link.symbol.Goals as goal
 
 pub returns-in_err-row-clause-none : goal.returns-in_err-row-clause-none
 returns-in_err-row-clause-none c =
-    if_none c.from_residual.result ((row : ℕ) → text_at c.args.self.now row ≢ Some c.args.name.now)
-    (text_none c.self.inside.table c.self.invariant.0 c.args.self.now (ap (λ l. l.names) c.self.view_is) c.args.name.now (λ k l e. none-some k (sym c.in_err-row.was ∙ c.named.ensures.complete k l e)))
+    if_none c.from_residual.result ((row : ℕ) → name_text c.args.self.now row ≢ Some c.args.name.now)
+    (text_none c.self.inside.table c.self.invariant.0 c.args.self.now (ap (λ l. l.names) c.self.view_is) c.args.name.now (λ k l e. none-some k (sym c.in_err-row.was ∙ c.index_of_name.ensures.complete k l e)))
 
 pub returns-in_err-row-clause-once : goal.returns-in_err-row-clause-once
 returns-in_err-row-clause-once c = text_once c.self.inside.table c.self.invariant.0 c.args.self.now (ap (λ l. l.names) c.self.view_is)

@@ -1,7 +1,7 @@
 use Rattle.std.proofs.Common.{◌≡◌, ◌<◌, ◌++◌, ◌∷◌, [], length, sym, ◌∙◌, ap, subst, position, map, option_and_then, length-append}
 use Rattle.std.specs.List.{All}
 use Rattle.proto_table.specs.declared.index.Below.{Below}
-use Rattle.proto_table.specs.Indexes.{is_below, place}
+use Rattle.proto_table.specs.Indexes.{is_below_number, word_place}
 use Rattle.indexmap.specs.IndexSet.{insert_key}
 use Rattle.proto_meaning.proofs.Edited.{map_append}
 use Rattle.proto_table.proofs.IndexAdded.{look_added, none_here, words_there, new_last, from_ok, place_within}
@@ -13,8 +13,8 @@ key c = record { above = c.args.above; word = c.in_ok-word.word }
 keys : (c : goal.After-unwrap) → c.insert.new.self.keys ≡ c.args.self.now.rows.keys ++ key c ∷ []
 keys c =
     from_ok c.insert.result c.unwrap.result c.unwrap.ensures c.insert.ensures.keys
-    ∙ ap (λ z. insert_key (λ a b. is_below a.above a.word b) z (key c)) c.in_ok-reserve.ensures.keys
-    ∙ new_last (λ a b. is_below a.above a.word b) c.args.self.now.rows.keys (key c)
+    ∙ ap (λ z. insert_key (λ a b. is_below_number a.above a.word b) z (key c)) c.in_ok-reserve.ensures.keys
+    ∙ new_last (λ a b. is_below_number a.above a.word b) c.args.self.now.rows.keys (key c)
     (none_here c.args.self.now.words.keys c.number.new.words.keys c.args.self.now.rows.keys c.args.above c.in_ok-word.word c.args.word.now
     c.in_ok-word.ensures.found c.in_ok-word.ensures.old_or_new c.in_ok-word.ensures.other c.requires.words c.requires.new)
 
@@ -27,7 +27,7 @@ returns-clause-words c =
 
 pub returns-clause-look : goal.returns-clause-look
 returns-clause-look c p v =
-    ap (λ z. option_and_then (λ x. position (is_below p x) z) (place c.number.new.words.keys v)) (keys c)
+    ap (λ z. option_and_then (λ x. position (is_below_number p x) z) (word_place c.number.new.words.keys v)) (keys c)
     ∙ look_added c.args.self.now.words.keys c.number.new.words.keys c.args.self.now.rows.keys c.args.above c.in_ok-word.word c.args.word.now
     c.in_ok-word.ensures.found c.in_ok-word.ensures.old_or_new c.in_ok-word.ensures.other c.requires.words c.requires.new p v
 
