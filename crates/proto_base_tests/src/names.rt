@@ -2,7 +2,8 @@
 
 use crate::expect::expect;
 use proto_case::{
-    camel_from, entry_name, is_lower_snake, is_pascal, is_upper_snake, is_version, upper,
+    camel_digest, camel_from, entry_name, is_lower_snake, is_pascal, is_upper_snake, is_version,
+    upper,
 };
 use proto_files::is_workspace_path;
 use proto_text::is_word;
@@ -182,6 +183,28 @@ fn pieces_of_camel_case(rt: HostRuntime) {
         expect(&rt, is_turned(&rt, &Style::Camel, name, camel), name);
         expect(&rt, is_turned(&rt, &Style::Pascal, name, pascal), name);
     }
+}
+
+/// Two names, and whether their camel case is one.
+const DIGESTS: &[(&str, &str, bool)] = &[
+    ("foo_bar", "fooBar", true),
+    ("foo__bar", "foo_bar_", true),
+    ("_foo", "Foo", true),
+    ("_", "", true),
+    ("a_\u{e4}", "a\u{e4}", true),
+    ("foobar", "foo_bar", false),
+    ("foo", "_foo", false),
+    ("ab", "ba", false),
+    ("a", "", false),
+];
+
+#[test]
+fn numbers_of_camel_case(rt: HostRuntime) {
+    for (a, b, is_one) in DIGESTS {
+        expect(&rt, (camel_digest(a) == camel_digest(b)) == *is_one, a);
+    }
+    // 97 * 31 + 66
+    expect(&rt, camel_digest("a_b") == 3_073, "by value");
 }
 
 #[test]

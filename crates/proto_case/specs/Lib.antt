@@ -1,3 +1,4 @@
 pub mod Camel
 pub mod Cases
+pub mod Digest
 pub mod Versions

@@ -3,10 +3,12 @@
 
 mod camel_case;
 mod cases;
+mod digest;
 mod map_entries;
 mod versions;
 
 pub use camel_case::camel_from;
 pub use cases::{is_lower_snake, is_pascal, is_upper_snake, upper};
+pub use digest::camel_digest;
 pub use map_entries::entry_name;
 pub use versions::is_version;

@@ -1,6 +1,6 @@
 -- Names among others: those that an earlier option has (for the crates above).
-use Rattle.std.proofs.Common.{◌≡◌, ℕ, Bool, ◌||◌, List, [], ◌∷◌, ◌++◌, length, map, refl, sym, ap, ◌∙◌, Bor, arith, bytes_eq}
-use Rattle.proto_faults.proofs.Common.{list_any, same_from_decides, Decides-like, map-append, length-map, bytes_eq-Decides, any_map}
+use Rattle.std.proofs.Common.{◌≡◌, ℕ, Bool, List, [], ◌∷◌, ◌++◌, length, map, refl, sym, ap, ◌∙◌, arith}
+use Rattle.proto_faults.proofs.Common.{list_any, map-append, length-map, any_map}
 use Rattle.proto_numbers.proofs.Common.{earlier, after_earlier, repeats_length}
 
 -- keys are equal where what they map to is

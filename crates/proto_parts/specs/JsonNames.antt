@@ -1,6 +1,7 @@
 -- The names of fields in JSON.
-use Rattle.std.specs.Prelude.{false, Option, Some, None, codes}
+use Rattle.std.specs.Prelude.{ℕ, false, Option, Some, None, codes}
 use Rattle.proto_case.specs.Camel.{camel_from}
+use Rattle.proto_case.specs.Digest.{digest_from}
 use Rattle.proto_faults.specs.Texts.{Text}
 use Rattle.proto_parts.specs.Options.{text_option}
 use Rattle.proto_parts.specs.Parts.{FieldOf}
@@ -20,3 +21,7 @@ abbrev pub json_name_of : Scene → FieldOf → Text
 json_name_of scene f =
     written_or (text_option (text scene) (value scene) (codes "json_name") f.options)
     (text scene f.name)
+
+-- a number that equal names share
+abbrev pub name_digest : Text → ℕ
+name_digest name = digest_from 0 name

@@ -1,14 +1,14 @@
 //! The names of fields in JSON.
 
-ghost use Rattle.std.specs.Prelude.{◌≡◌, option_map, IfOk};
+ghost use Rattle.std.specs.Prelude.{◌≡◌, is_some, not, option_map, IfOk, IfSome};
 ghost use Rattle.std.specs.String.{string_bytes};
-ghost use Rattle.proto_parts.specs.JsonNames.{json_name_of, written_or};
+ghost use Rattle.proto_parts.specs.JsonNames.{json_name_of, name_digest, written_or};
 ghost use Rattle.proto_parts.specs.Views.{field_of};
 
 use crate::fields::{FieldAt, options_between};
 use crate::option_values::text_option;
 use crate::scene::Scene;
-use proto_case::camel_from;
+use proto_case::{camel_digest, camel_from};
 use proto_faults::NoMemory;
 use std::alloc::Global;
 
@@ -31,4 +31,17 @@ pub fn json_name(alloc: Global, scene: &Scene, field: FieldAt) -> Result<String,
     let options = options_between(alloc, field.settings)?;
     let written = text_option(alloc, scene, &options, "json_name")?;
     written_or(alloc, written, scene.text(field.name))
+}
+
+/// A number of a field's JSON name: fields of the same name have the same number, others seldom do.
+/// None where something stands between brackets behind the field. Takes no memory.
+pub fn json_digest(scene: &Scene, field: FieldAt) -> Option<u64>
+    ensures digest { IfSome result (λ digest. digest
+        ≡ name_digest (json_name_of scene.now (field_of field.entry))) }
+    ensures plain { is_some result ≡ not (is_some field.entry.settings) }
+{
+    match field.settings {
+        Some(_) => None,
+        None => Some(camel_digest(scene.text(field.name))),
+    }
 }

@@ -19,7 +19,7 @@ mod version;
 
 pub use enum_values::values;
 pub use fields::{FieldAt, OptionAt, extension_fields, fields_of, options_between};
-pub use json_names::json_name;
+pub use json_names::{json_digest, json_name};
 pub use labels::has_label;
 pub use numbers::number_of;
 pub use option_statements::{

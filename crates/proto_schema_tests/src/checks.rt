@@ -268,6 +268,16 @@ const OTHERS: &[(&str, &str)] = &[
         "a.proto syntax = \"proto3\"; message M { string fooBar = 1; string foo_bar = 2; }",
         "a.proto:57: 30 JsonClash",
     ),
+    // Many fields, of which the last has the name of the first.
+    (
+        "a.proto syntax = \"proto3\"; message M { int32 a_b = 1; int32 c = 2; int32 d = 3; int32 e = 4; int32 f = 5; int32 g = 6; int32 h = 7; int32 i = 8; int32 j = 9; int32 k = 10; int32 l = 11; int32 m = 12; int32 n = 13; int32 o = 14; int32 p = 15; int32 q = 16; int32 r = 17; int32 s = 18; int32 t = 19; int32 aB = 20; }",
+        "a.proto:296: 30 JsonClash",
+    ),
+    // Three words, of which the first is a name of its own.
+    (
+        "a.proto syntax = \"proto3\"; message M { int32 foobar = 1; int32 foo__bar = 2; int32 fooBar = 3; }",
+        "a.proto:75: 30 JsonClash",
+    ),
     (
         "a.proto syntax = \"proto3\"; message M { string a = 1; string a_ = 2 [json_name = 3]; }",
         "a.proto:52: 30 JsonClash",
