@@ -3,24 +3,24 @@ use Rattle.std.proofs.Common.{◌≡◌, ℕ, suc, ◌<◌, ◌≤◌, Bool, tru
 use Rattle.proto_faults.proofs.Common.{both_ways, cases_Bool, cases_lt, cond-false, cond-true, not-true}
 use Rattle.std.proofs.lemmas.Bool.{le-ltb, lt-ltb}
 use Rattle.proto_kept_lists.specs.declared.backlinks.RefId.{RefId}
-use Rattle.proto_kept_lists.specs.Merged.{AreRising, before, from, is_marked, merged}
+use Rattle.proto_kept_lists.specs.Merged.{ReferencesAreRising, references_before, references_from, is_of_marked_file, merged}
 
 -- each of the references is of this file or of a later one
 abbrev From : ℕ → List RefId → Type 0
 From file rs = All (λ r. file ≤ r.file) rs
 
-rising_from : (x : RefId) (xs : List RefId) → AreRising (x ∷ xs) → From x.file xs
+rising_from : (x : RefId) (xs : List RefId) → ReferencesAreRising (x ∷ xs) → From x.file xs
 rising_from x xs h k d l = h 0 (suc k) d (omega arith) (omega (arith, l))
 
-rising_rest : (x : RefId) (xs : List RefId) → AreRising (x ∷ xs) → AreRising xs
+rising_rest : (x : RefId) (xs : List RefId) → ReferencesAreRising (x ∷ xs) → ReferencesAreRising xs
 rising_rest x xs h i j d b l = h (suc i) (suc j) d (omega (arith, b)) (omega (arith, l))
 
 -- where the first reference is of this file or of a later one, none stands before it
-none_before : (file : ℕ) (ys : List RefId) → (0 < length ys → (d : RefId) → file ≤ (get_or ys 0 d).file) → (before file ys ≡ []) × (from file ys ≡ ys)
+none_before : (file : ℕ) (ys : List RefId) → (0 < length ys → (d : RefId) → file ≤ (get_or ys 0 d).file) → (references_before file ys ≡ []) × (references_from file ys ≡ ys)
 none_before file [] h = (refl, refl)
 none_before file (y ∷ ys) h =
     let past = le-ltb y.file file (h (omega arith) y) in
-    (cond-false (nat_lt y.file file) (y ∷ before file ys) [] past, cond-false (nat_lt y.file file) (from file ys) (y ∷ ys) past)
+    (cond-false (nat_lt y.file file) (y ∷ references_before file ys) [] past, cond-false (nat_lt y.file file) (references_from file ys) (y ∷ ys) past)
 
 -- what is known of the first reference that passes a test
 record IsFirst (p : RefId → Bool) (file : ℕ) (y : RefId) : Type 0 where
@@ -41,32 +41,32 @@ goes_first : (x : RefId) (us vs xs : List RefId) → (0 < length us → (d : Ref
 goes_first x [] vs xs h e = ap (λ (zs : List RefId). x ∷ zs) e
 goes_first x (u ∷ us) vs xs h e =
     let below = lt-ltb x.file u.file (h (omega arith) u) in
-    ap (λ (b : Bool). cond b (x ∷ before u.file vs) [] ++ u ∷ merged us (cond b (from u.file vs) (x ∷ vs))) below
+    ap (λ (b : Bool). cond b (x ∷ references_before u.file vs) [] ++ u ∷ merged us (cond b (references_from u.file vs) (x ∷ vs))) below
     ∙ ap (λ (zs : List RefId). x ∷ zs) e
 
 -- a marked reference and one that is not are of two files
-files_apart : (marks : List Bool) (x y : RefId) → is_marked marks x ≡ true → not (is_marked marks y) ≡ true → x.file ≤ y.file → x.file < y.file
+files_apart : (marks : List Bool) (x y : RefId) → is_of_marked_file marks x ≡ true → not (is_of_marked_file marks y) ≡ true → x.file ≤ y.file → x.file < y.file
 files_apart marks x y marked_so not_so l = elim (cases_lt x.file y.file) [
   | inl b ↦ b
   | inr a ↦
       let e : y.file ≡ x.file = omega (arith, l, a) in
-      absurd (both_ways (is_marked marks y) (not-true (is_marked marks y) not_so) (ap (λ (k : ℕ). get_or marks k false) e ∙ marked_so))
+      absurd (both_ways (is_of_marked_file marks y) (not-true (is_of_marked_file marks y) not_so) (ap (λ (k : ℕ). get_or marks k false) e ∙ marked_so))
 ]
 
-pub parted : (marks : List Bool) (all : List RefId) → AreRising all → merged (filter (λ r. not (is_marked marks r)) all) (filter (is_marked marks) all) ≡ all
+pub parted : (marks : List Bool) (all : List RefId) → ReferencesAreRising all → merged (filter (λ r. not (is_of_marked_file marks r)) all) (filter (is_of_marked_file marks) all) ≡ all
 parted marks [] h = refl
-parted marks (x ∷ xs) h = elim (cases_Bool (is_marked marks x)) [
+parted marks (x ∷ xs) h = elim (cases_Bool (is_of_marked_file marks x)) [
   | inl marked_so ↦
-      ap (λ (b : Bool). merged (cond (not b) (x ∷ filter (λ r. not (is_marked marks r)) xs) (filter (λ r. not (is_marked marks r)) xs)) (cond b (x ∷ filter (is_marked marks) xs) (filter (is_marked marks) xs))) marked_so
-      ∙ goes_first x (filter (λ r. not (is_marked marks r)) xs) (filter (is_marked marks) xs) xs
+      ap (λ (b : Bool). merged (cond (not b) (x ∷ filter (λ r. not (is_of_marked_file marks r)) xs) (filter (λ r. not (is_of_marked_file marks r)) xs)) (cond b (x ∷ filter (is_of_marked_file marks) xs) (filter (is_of_marked_file marks) xs))) marked_so
+      ∙ goes_first x (filter (λ r. not (is_of_marked_file marks r)) xs) (filter (is_of_marked_file marks) xs) xs
       (λ l d.
-      (let f = first_passes (λ r. not (is_marked marks r)) x.file xs (rising_from x xs h) l d in
-      files_apart marks x (get_or (filter (λ r. not (is_marked marks r)) xs) 0 d) marked_so f.passes f.behind))
+      (let f = first_passes (λ r. not (is_of_marked_file marks r)) x.file xs (rising_from x xs h) l d in
+      files_apart marks x (get_or (filter (λ r. not (is_of_marked_file marks r)) xs) 0 d) marked_so f.passes f.behind))
       (parted marks xs (rising_rest x xs h))
   | inr not_so ↦
-      let apart = none_before x.file (filter (is_marked marks) xs) (λ l d. (first_passes (is_marked marks) x.file xs (rising_from x xs h) l d).behind) in
-      ap (λ (b : Bool). merged (cond (not b) (x ∷ filter (λ r. not (is_marked marks r)) xs) (filter (λ r. not (is_marked marks r)) xs)) (cond b (x ∷ filter (is_marked marks) xs) (filter (is_marked marks) xs))) not_so
-      ∙ ap (λ (zs : List RefId). zs ++ x ∷ merged (filter (λ r. not (is_marked marks r)) xs) (from x.file (filter (is_marked marks) xs))) apart.0
-      ∙ ap (λ (zs : List RefId). x ∷ merged (filter (λ r. not (is_marked marks r)) xs) zs) apart.1
+      let apart = none_before x.file (filter (is_of_marked_file marks) xs) (λ l d. (first_passes (is_of_marked_file marks) x.file xs (rising_from x xs h) l d).behind) in
+      ap (λ (b : Bool). merged (cond (not b) (x ∷ filter (λ r. not (is_of_marked_file marks r)) xs) (filter (λ r. not (is_of_marked_file marks r)) xs)) (cond b (x ∷ filter (is_of_marked_file marks) xs) (filter (is_of_marked_file marks) xs))) not_so
+      ∙ ap (λ (zs : List RefId). zs ++ x ∷ merged (filter (λ r. not (is_of_marked_file marks r)) xs) (references_from x.file (filter (is_of_marked_file marks) xs))) apart.0
+      ∙ ap (λ (zs : List RefId). x ∷ merged (filter (λ r. not (is_of_marked_file marks r)) xs) zs) apart.1
       ∙ ap (λ (zs : List RefId). x ∷ zs) (parted marks xs (rising_rest x xs h))
 ]

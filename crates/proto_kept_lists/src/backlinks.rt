@@ -2,7 +2,7 @@
 
 ghost use Rattle.std.specs.Prelude.{◌≡◌, ◌++◌, List, not, IfOk, OnOk};
 ghost use Rattle.std.specs.List.{filter};
-ghost use Rattle.proto_kept_lists.specs.Merged.{is_marked, AreRising, before, from, merged};
+ghost use Rattle.proto_kept_lists.specs.Merged.{is_of_marked_file, ReferencesAreRising, references_before, references_from, merged};
 
 use proto_faults::NoMemory;
 use std::alloc::Global;
@@ -25,11 +25,11 @@ pub fn renewed(
     fresh: &[RefId],
 ) -> Result<Vec<RefId>, NoMemory>
     ensures merged { IfOk result (λ v. v.items
-        ≡ merged (filter (λ r. not (is_marked marks.now r)) old.now) fresh.now) }
-    ensures exact { IfOk result (λ v. (all : List RefId) → AreRising all
-        → filter (λ r. not (is_marked marks.now r)) all
-        ≡ filter (λ r. not (is_marked marks.now r)) old.now
-        → filter (is_marked marks.now) all ≡ fresh.now → v.items ≡ all) }
+        ≡ merged (filter (λ r. not (is_of_marked_file marks.now r)) old.now) fresh.now) }
+    ensures exact { IfOk result (λ v. (all : List RefId) → ReferencesAreRising all
+        → filter (λ r. not (is_of_marked_file marks.now r)) all
+        ≡ filter (λ r. not (is_of_marked_file marks.now r)) old.now
+        → filter (is_of_marked_file marks.now) all ≡ fresh.now → v.items ≡ all) }
 {
     let mut found = Vec::new(alloc);
     let mut rest = fresh;
@@ -45,7 +45,7 @@ pub fn renewed(
 
 /// Whether the file of a reference is marked.
 fn is_marked(marks: &[bool], reference: RefId) -> bool
-    ensures { result ≡ is_marked marks.now reference }
+    ensures { result ≡ is_of_marked_file marks.now reference }
 {
     match marks.get(reference.file as usize) {
         Some(is_marked) => *is_marked,
@@ -59,8 +59,9 @@ fn put_before<'a>(
     fresh: &'a [RefId],
     file: u32,
 ) -> Result<&'a [RefId], NoMemory>
-    ensures found { OnOk result (found.new.items ≡ found.old.items ++ before file fresh.now) }
-    ensures rest { IfOk result (λ rest. rest.now ≡ from file fresh.now) }
+    ensures found { OnOk result
+        (found.new.items ≡ found.old.items ++ references_before file fresh.now) }
+    ensures rest { IfOk result (λ rest. rest.now ≡ references_from file fresh.now) }
 {
     let mut rest = fresh;
     while let Some((first, behind)) = rest.split_first() {

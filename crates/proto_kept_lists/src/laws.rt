@@ -1,6 +1,6 @@
 //! The laws, as functions that do nothing.
 
-ghost use Rattle.proto_kept_lists.specs.Referred.{MarkedAreGathered, OthersStay, ReferencesRise};
+ghost use Rattle.proto_kept_lists.specs.Referred.{MarkedAreGathered, UnmarkedReferencesStay, ReferencesRise};
 ghost use Rattle.proto_kept_lists.specs.Undone.{AddedAreCut};
 
 /// Of a list to which elements were added since a change of its log, what stood there at first is
@@ -14,6 +14,6 @@ pub fn added_are_cut<T>()
 /// is gathered file by file (`gathered`).
 pub fn references_are_parted<M>()
     ensures rise { ReferencesRise M }
-    ensures stay { OthersStay M }
+    ensures stay { UnmarkedReferencesStay M }
     ensures gathered { MarkedAreGathered M }
 {}

@@ -1,9 +1,10 @@
 -- Without some of its fields and entries a workspace gives each reference the meaning that it had (for the crates above).
-use Rattle.std.proofs.Common.{◌≡◌, ◌≢◌, ℕ, ◌<◌, Bool, true, false, ◌&&◌, ◌||◌, ◌==◌, List, [], ◌∷◌, ◌++◌, length, take, Option, Some, None, refl, sym, ◌∙◌, ap, ap₂, subst, inl, inr, arith, append_assoc, length-append, Contains, true≢false, append-nil}
-use Rattle.proto_faults.proofs.Common.{list_any, both_ways, and_from, cases_Bool, cond-true, cond-false, false_from_ne_true, none-some, any_from}
-use Rattle.proto_meaning.proofs.Common.{AreApart, is_leaf, IsLinked, Import, Symbol, Reference, Workspace, same_name, is_type, is_outer, fits_at_first, greatest, reaches, sees, shows, hit, hits_at, meaning, meaning_at, typed, same_from_name, first_and_rest, hit_from, hit_relative, typed_from, typed_is, has_meaning, meant, front_or_same, one_symbol, shown, type_not_leaf}
+use Rattle.std.proofs.Common.{◌≡◌, ◌≢◌, ℕ, ◌<◌, Bool, true, false, ◌&&◌, ◌||◌, ◌==◌, List, ◌++◌, length, take, Some, refl, sym, ◌∙◌, ap, ap₂, subst, inl, inr, append_assoc, Contains, true≢false, append-nil}
+use Rattle.proto_faults.proofs.Common.{list_any, both_ways, and_from, none-some, any_from}
+use Rattle.proto_meaning.proofs.Common.{AreApart, is_leaf, IsLinked, Import, Symbol, Reference, Workspace, same_name, is_type, is_outer, fits_at_first, reaches, sees, shows, meaning, meaning_at, same_from_name, first_and_rest, hit_relative, typed_is, has_meaning, meant, front_or_same, one_symbol, shown, type_not_leaf}
 use Rattle.proto_meaning.specs.declared.kind.Kind.{Kind}
 use Rattle.proto_meaning.specs.declared.kind.Kind.TheVariants.{Package, Message, Entry, Enum, Service, Field, EntryField, Oneof, Value, Method, Extension}
+use Rattle.proto_kept.proofs.Still.{has_word, means_still, some_words, type_is_outer}
 use Rattle.proto_statement_names.specs.Common.{HasLess, LessIsLinked, LessMeans, MayGo, goes_with_field, IsAny}
 use Rattle.proto_statement_names.proofs.Lists.{more_has, more_or, more_pairs}
 
@@ -21,59 +22,8 @@ outer_stays Value h ne = refl
 outer_stays Method h ne = refl
 outer_stays Extension h ne = refl
 
-type_is_outer : (k : Kind) → is_type k ≡ true → is_outer k ≡ true
-type_is_outer Message h = refl
-type_is_outer Entry h = refl
-type_is_outer Enum h = refl
-type_is_outer Package h = absurd (true≢false (sym h))
-type_is_outer Service h = absurd (true≢false (sym h))
-type_is_outer Field h = absurd (true≢false (sym h))
-type_is_outer EntryField h = absurd (true≢false (sym h))
-type_is_outer Oneof h = absurd (true≢false (sym h))
-type_is_outer Value h = absurd (true≢false (sym h))
-type_is_outer Method h = absurd (true≢false (sym h))
-type_is_outer Extension h = absurd (true≢false (sym h))
-
 pub type_stays : (k : Kind) → is_type k ≡ true → k ≢ Entry → goes_with_field k ≡ false
 type_stays k h ne = outer_stays k (type_is_outer k h) ne
-
-some_words : (front words : List (List ℕ)) → 0 < length words → 0 < length (front ++ take 1 words)
-some_words front [] l = absurd (omega (arith, l))
-some_words front (p ∷ words) l = omega (arith, length-append front (p ∷ []))
-
--- a reference that hits has a word
-has_word : (w : Workspace) (r : Reference) (k : ℕ) → hits_at w r k ≡ true → 0 < length r.words
-has_word w r k h = let s = shown w r.file (fits_at_first r.words) (take k r.scope ++ take 1 r.words) h in go s.0.kind r.words s.3
-  where
-    go : (kind : Kind) (words : List (List ℕ)) → fits_at_first words kind ≡ true → 0 < length words
-    go kind [] e = absurd (true≢false (sym e))
-    go kind (p ∷ words) e = omega arith
-
--- Where the same front is the longest at which it hits, and the type is shown, the meaning is the same.
-module _ (w v : Workspace) (r : Reference) (m : List (List ℕ)) (h : meaning w r ≡ Some m) (seen : shows v r.file is_type m ≡ true) where
-  typed_still : (o : Option ℕ) → meaning_at w r o ≡ Some m → meaning_at v r o ≡ Some m
-  typed_still None e = elim (cases_Bool r.is_absolute) [
-    | inl abs ↦
-        let t = typed_is w r.file r.words m (sym (cond-true r.is_absolute (typed w r.file r.words) None abs) ∙ e) in
-        cond-true r.is_absolute (typed v r.file r.words) None abs ∙ ap (typed v r.file) t.1 ∙ typed_from v r.file m seen
-    | inr rel ↦ absurd (none-some m (sym (cond-false r.is_absolute (typed w r.file r.words) None rel) ∙ e))
-  ]
-  typed_still (Some k) e = ap (typed v r.file) (typed_is w r.file (take k r.scope ++ r.words) m e).1 ∙ typed_from v r.file m seen
-
-  same_hit : ((k : ℕ) → hit w r ≡ Some k → hits_at v r k ≡ true) → ((j : ℕ) → hits_at v r j ≡ true → hits_at w r j ≡ true) → hit v r ≡ hit w r
-  same_hit again back = go (hit w r) refl
-    where
-      go : (o : Option ℕ) → hit w r ≡ o → hit v r ≡ o
-      go None e = elim (cases_Bool r.is_absolute) [
-        | inl abs ↦ cond-true r.is_absolute None (greatest (hits_at v r) (length r.scope)) abs
-        | inr rel ↦ absurd (none-some m (sym (cond-false r.is_absolute (typed w r.file r.words) None rel) ∙ ap (meaning_at w r) (sym e) ∙ h))
-      ]
-      go (Some k) e =
-          let a = hit_relative w r k e in
-          hit_from v r k a.0 (record { within = a.1.within; passes = again k e; last = λ j above below. false_from_ne_true (hits_at v r j) (λ q. both_ways (hits_at w r j) (a.1.last j above below) (back j q)) })
-
-  means_still : ((k : ℕ) → hit w r ≡ Some k → hits_at v r k ≡ true) → ((j : ℕ) → hits_at v r j ≡ true → hits_at w r j ≡ true) → meaning v r ≡ Some m
-  means_still again back = ap (meaning_at v r) (same_hit again back) ∙ typed_still (hit w r) h
 
 module _ (w v : Workspace) (ok : IsLinked w) (less : HasLess w v) where
   sees_same : (f g : ℕ) → sees v f g ≡ sees w f g

@@ -1,0 +1,53 @@
+-- Where some files are looked at again, the references of all others mean what they meant (for the crates above).
+use Rattle.std.proofs.Common.{◌≡◌, ℕ, Bool, true, false, List, Some, sym, ◌∙◌, ap, inl, inr, get_or, Contains, AllPairs}
+use Rattle.proto_faults.proofs.Common.{both_ways, cases_Bool}
+use Rattle.proto_meaning.proofs.Common.{AreApart, IsLinked, IsNested, Reference, Workspace, has_meaning, meaning}
+use Rattle.proto_kept.proofs.Kept.{flawless_stay, meanings_are_kept}
+use Rattle.proto_kept.proofs.Spared.{keys_tell, spared_are_kept}
+use Rattle.proto_kept.specs.Kept.{DifferAt, IsFlawless, IsKeptReference}
+use Rattle.proto_kept.specs.Marked.{AreMarked, IsUnmarked, UnmarkedMeanTheSame, MarkedDecide}
+
+module _ (key : List ℕ → ℕ) (places : List ℕ) (w v : Workspace) (marks : List Bool) (ok : IsLinked w) (nested : IsNested v.symbols) (differ : DifferAt places w v) (are : AreMarked key places w v marks) where
+  kept : (r : Reference) (m : List (List ℕ)) → Contains w.references r → IsUnmarked marks r.file → meaning w r ≡ Some m → IsKeptReference w v r m
+  kept r m c left h = spared_are_kept places w v differ r m (keys_tell key places w v r m (record {
+    sight = λ g. are.sight r.file g left;
+    not_gone = λ s cs there n ty. are.none_gone r s c left (h ∙ some_name n) cs there ty;
+    none_came = λ s front last first rest cs there outer n words same. are.none_came r first rest c left words s front last cs there outer n same;
+  }))
+    where
+      some_name : {x : List (List ℕ)} → x ≡ m → Some m ≡ Some x
+      some_name e = ap Some (sym e)
+
+  -- a file that is not marked is not edited
+  same : (r : Reference) → Contains v.references r → IsUnmarked marks r.file → Contains w.references r
+  same r c left = differ.references r c (λ there. both_ways (get_or marks r.file false) left (are.edited r.file there))
+
+  same_meaning : (r : Reference) → Contains v.references r → IsUnmarked marks r.file → meaning v r ≡ meaning w r
+  same_meaning r c left =
+      let was = same r c left in
+      let m = has_meaning (meaning w r) (ok.resolved r was) in
+      meanings_are_kept w v nested r m.0 m.1 (kept r m.0 was left m.1) ∙ sym m.1
+
+  flawless : AllPairs AreApart v.symbols → ((r : Reference) → Contains v.references r → get_or marks r.file false ≡ true → IsFlawless v r) → (r : Reference) → Contains v.references r → IsFlawless v r
+  flawless apart again r c = elim (cases_Bool (get_or marks r.file false)) [
+    | inl marked ↦ again r c marked
+    | inr left ↦
+        let was = same r c left in
+        let m = has_meaning (meaning w r) (ok.resolved r was) in
+        flawless_stay w v nested apart r m.0 m.1 (kept r m.0 was left m.1) (record { resolved = ok.resolved r was; no_entry = ok.no_entry r was; right_kind = ok.right_kind r was })
+  ]
+
+pub unmarked_mean_the_same : UnmarkedMeanTheSame
+unmarked_mean_the_same key places w v marks ok nested differ are r c left = same_meaning key places w v marks ok nested differ are r c left
+
+pub marked_decide : MarkedDecide
+marked_decide key places w v marks ok nested apart differ are again = record {
+  nested = nested;
+  unique = apart;
+  resolved = λ r c. (each r c).resolved;
+  no_entry = λ r c. (each r c).no_entry;
+  right_kind = λ r c. (each r c).right_kind;
+}
+  where
+    each : (r : Reference) → Contains v.references r → IsFlawless v r
+    each = flawless key places w v marks ok nested differ are apart again

@@ -1,0 +1,55 @@
+-- Which references are kept where some files are edited: by their places, by keys of words, and where leaves alone differ.
+use Rattle.std.proofs.Common.{◌≡◌, ℕ, true, List, [], ◌∷◌, ◌++◌, take, refl, sym, subst, inl, inr, ◌⊎◌, arith, Contains, true≢false}
+use Rattle.proto_faults.proofs.Common.{cases_eq, contains_cases, contains_head, contains_later}
+use Rattle.proto_meaning.proofs.Common.{Symbol, fits_at_first, is_outer}
+use Rattle.proto_meaning.specs.declared.kind.Kind.{Kind}
+use Rattle.proto_kept.proofs.Still.{type_is_outer}
+use Rattle.proto_kept.specs.Kept.{KeysTell, LeavesSpareAll, SparedAreKept}
+
+-- what fits may hold names or be meant
+fits_outer : (words : List (List ℕ)) (k : Kind) → fits_at_first words k ≡ true → is_outer k ≡ true
+fits_outer [] k h = absurd (true≢false (sym h))
+fits_outer (p ∷ []) k h = type_is_outer k h
+fits_outer (p ∷ q ∷ rest) k h = h
+
+-- a place is one of these, or it is none
+is_place : (places : List ℕ) (k : ℕ) → Contains places k ⊎ (Contains places k → ⊥)
+is_place [] k = inr (λ c. omega (arith, c.1))
+is_place (x ∷ places) k = elim (cases_eq x k) [
+  | inl same ↦ inl (subst (Contains (x ∷ places)) same (contains_head x places))
+  | inr other ↦ elim (is_place places k) [
+    | inl later ↦ inl (contains_later x k places later)
+    | inr none ↦ inr (λ c. elim (contains_cases x k places c) [ inl e ↦ other e | inr d ↦ none d ])
+  ]
+]
+
+pub spared_are_kept : SparedAreKept
+spared_are_kept places w v differ r m spared = record {
+  sight = spared.sight;
+  declared = λ s c n ty. elim (is_place places s.file) [
+    | inl there ↦ spared.not_gone s c there n ty
+    | inr elsewhere ↦ differ.stay s c elsewhere
+  ];
+  none_new = λ s front c n f. elim (is_place places s.file) [
+    | inl there ↦ spared.none_came s front c there n f
+    | inr elsewhere ↦ differ.none_new s c elsewhere
+  ];
+}
+
+pub keys_tell : KeysTell
+keys_tell key places w v r m is = record {
+  sight = is.sight;
+  not_gone = is.not_gone;
+  none_came = λ s front c there n f. came r.words refl s front c there n f;
+}
+  where
+    came : (words : List (List ℕ)) → r.words ≡ words → (s : Symbol) (front : List (List ℕ)) → Contains v.symbols s → Contains places s.file → s.name ≡ front ++ take 1 words → fits_at_first words s.kind ≡ true → Contains w.symbols s
+    came [] e s front c there n f = absurd (true≢false (sym f))
+    came (first ∷ rest) e s front c there n f = is.none_came s front first first rest c there (fits_outer (first ∷ rest) s.kind f) n e refl
+
+pub leaves_spare_all : LeavesSpareAll
+leaves_spare_all places w v differ r m sight = record {
+  sight = sight;
+  not_gone = λ s c there n ty. differ.stay s c there (type_is_outer s.kind ty);
+  none_came = λ s front c there n f. differ.none_new s c there (fits_outer r.words s.kind f);
+}

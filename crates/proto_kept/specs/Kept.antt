@@ -1,0 +1,103 @@
+-- When a reference means in a second workspace what it means in a first, as where some files are
+-- edited and the reference's own file is not.
+use Rattle.std.specs.Prelude.{◌≡◌, ◌≢◌, ℕ, true, List, [], ◌∷◌, ◌++◌, take, Some, None}
+use Rattle.std.specs.List.{Contains, AllPairs}
+use Rattle.proto_meaning.specs.Linked.{AreApart, IsNested}
+use Rattle.proto_meaning.specs.Names.{Name, Reference, Symbol, Word, Workspace, fits_at_first, is_outer, is_type, meaning, sees}
+use Rattle.proto_meaning.specs.declared.kind.Kind.TheVariants.{Entry, Enum}
+
+-- in the second workspace the reference's file sees what it sees in the first; the type with this
+-- name, which it means there, is declared by the same file with the same kind; and no symbol that
+-- its first word might stand for is new
+pub record IsKeptReference (w v : Workspace) (r : Reference) (m : Name) : Type 0 where
+  pub sight : (g : ℕ) → sees v r.file g ≡ sees w r.file g
+  pub declared : (s : Symbol) → Contains w.symbols s → s.name ≡ m → is_type s.kind ≡ true
+      → Contains v.symbols s
+  pub none_new : (s : Symbol) (front : Name) → Contains v.symbols s
+      → s.name ≡ front ++ take 1 r.words → fits_at_first r.words s.kind ≡ true
+      → Contains w.symbols s
+
+-- then it means the same
+abbrev pub MeaningsAreKept : Type 0
+MeaningsAreKept =
+    (w v : Workspace) → IsNested v.symbols → (r : Reference) (m : Name)
+    → meaning w r ≡ Some m → IsKeptReference w v r m → meaning v r ≡ Some m
+
+-- the reference is flawless: it means a type that is no generated entry, and no enum where it
+-- wants a message
+pub record IsFlawless (w : Workspace) (r : Reference) : Type 0 where
+  pub resolved : meaning w r ≢ None
+  pub no_entry : (s : Symbol) → Contains w.symbols s → meaning w r ≡ Some s.name → s.kind ≢ Entry
+  pub right_kind : (s : Symbol) → Contains w.symbols s → meaning w r ≡ Some s.name
+      → r.wants_message ≡ true → s.kind ≢ Enum
+
+-- and it is flawless in the second workspace, if it is in the first
+abbrev pub FlawlessStay : Type 0
+FlawlessStay =
+    (w v : Workspace) → IsNested v.symbols → AllPairs AreApart v.symbols
+    → (r : Reference) (m : Name) → meaning w r ≡ Some m → IsKeptReference w v r m
+    → IsFlawless w r → IsFlawless v r
+
+-- ---- where files at some places are edited
+
+-- of all files but those at these places the symbols are the same in both workspaces, and the
+-- second has no reference that the first has not
+pub record DifferAt (places : List ℕ) (w v : Workspace) : Type 0 where
+  pub stay : (s : Symbol) → Contains w.symbols s → (Contains places s.file → ⊥)
+      → Contains v.symbols s
+  pub none_new : (s : Symbol) → Contains v.symbols s → (Contains places s.file → ⊥)
+      → Contains w.symbols s
+  pub references : (r : Reference) → Contains v.references r → (Contains places r.file → ⊥)
+      → Contains w.references r
+
+-- the reference's file sees what it saw; if the type that it meant is of a file at these places,
+-- it is declared there still; and of these files no symbol is new that its first word might stand
+-- for
+pub record IsSpared (places : List ℕ) (w v : Workspace) (r : Reference) (m : Name)
+    : Type 0 where
+  pub sight : (g : ℕ) → sees v r.file g ≡ sees w r.file g
+  pub not_gone : (s : Symbol) → Contains w.symbols s → Contains places s.file → s.name ≡ m
+      → is_type s.kind ≡ true → Contains v.symbols s
+  pub none_came : (s : Symbol) (front : Name) → Contains v.symbols s → Contains places s.file
+      → s.name ≡ front ++ take 1 r.words → fits_at_first r.words s.kind ≡ true
+      → Contains w.symbols s
+
+-- a spared reference is kept
+abbrev pub SparedAreKept : Type 0
+SparedAreKept =
+    (places : List ℕ) (w v : Workspace) → DifferAt places w v → (r : Reference) (m : Name)
+    → IsSpared places w v r m → IsKeptReference w v r m
+
+-- the same by a key of each word, which is one number for one word: of files at these places no
+-- symbol that may hold names or be meant is new whose last word has the key of the reference's
+-- first word
+pub record IsSparedByKeys (key : Word → ℕ) (places : List ℕ) (w v : Workspace) (r : Reference)
+    (m : Name) : Type 0 where
+  pub sight : (g : ℕ) → sees v r.file g ≡ sees w r.file g
+  pub not_gone : (s : Symbol) → Contains w.symbols s → Contains places s.file → s.name ≡ m
+      → is_type s.kind ≡ true → Contains v.symbols s
+  pub none_came : (s : Symbol) (front : Name) (last first : Word) (rest : List Word)
+      → Contains v.symbols s → Contains places s.file → is_outer s.kind ≡ true
+      → s.name ≡ front ++ last ∷ [] → r.words ≡ first ∷ rest → key last ≡ key first
+      → Contains w.symbols s
+
+-- keys tell which references are spared
+abbrev pub KeysTell : Type 0
+KeysTell =
+    (key : Word → ℕ) (places : List ℕ) (w v : Workspace) (r : Reference) (m : Name)
+    → IsSparedByKeys key places w v r m → IsSpared places w v r m
+
+-- of files at these places the symbols that may hold names or be meant are the same in both
+-- workspaces: fields, fields of entries, oneofs, values, methods and extensions may differ
+pub record DifferInLeaves (places : List ℕ) (w v : Workspace) : Type 0 where
+  pub stay : (s : Symbol) → Contains w.symbols s → Contains places s.file
+      → is_outer s.kind ≡ true → Contains v.symbols s
+  pub none_new : (s : Symbol) → Contains v.symbols s → Contains places s.file
+      → is_outer s.kind ≡ true → Contains w.symbols s
+
+-- then each reference is spared whose file sees what it saw
+abbrev pub LeavesSpareAll : Type 0
+LeavesSpareAll =
+    (places : List ℕ) (w v : Workspace) → DifferInLeaves places w v
+    → (r : Reference) (m : Name) → ((g : ℕ) → sees v r.file g ≡ sees w r.file g)
+    → IsSpared places w v r m

@@ -1,0 +1,4 @@
+pub mod Beginnings
+pub mod Kept
+pub mod Marked
+pub mod Sight

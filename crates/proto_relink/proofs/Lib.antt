@@ -1,0 +1,2 @@
+mod Clean
+mod Differing
