@@ -13,4 +13,3 @@ pub mod Common
 pub use Rattle.proto_rename_laws.specs.Cases
 pub use Rattle.proto_rename_laws.specs.Targets
 pub use Rattle.proto_rename_laws.specs.SceneOf
-pub use Rattle.proto_rename_laws.specs.Enums

@@ -51,6 +51,9 @@ pub(crate) fn message_descriptors(
     Ok(descriptors)
 }
 
+// One push and one loop for each kind of descriptor, here and in proto_described: the items and the
+// descriptors are types of their own, and a trait over both would be as long as the loops.
+
 fn push_item_enum(
     alloc: Global,
     scene: &Scene,
@@ -115,6 +118,7 @@ pub(crate) fn service_descriptors(
     Ok(descriptors)
 }
 
+// As `push_item_enum`, but that a block gives a descriptor for each of its fields.
 fn push_item_extensions(
     alloc: Global,
     scene: &Scene,

@@ -171,7 +171,8 @@ field_described scene full f = field_with scene full None (Some (json_name_of sc
 abbrev pub extension_described : Scene → Reference → FieldOf → FieldDesc
 extension_described scene extendee f = field_with scene [] (Some (type_text scene extendee)) None f
 
--- the extensions right in a message or a file, block by block
+-- the extensions right in a message or a file, block by block (each kind of block has its own walk
+-- over the tree, here and below: what it gives is of a type of its own)
 abbrev pub extensions_described : Scene → Tree → List FieldDesc
 extensions_described scene End = []
 extensions_described scene (Leaf s rest) = extensions_described scene rest

@@ -165,6 +165,9 @@ fn message_around(
     })
 }
 
+// One push and one loop for each kind of descriptor: each is a type of its own, and a trait over
+// them would be as long as the loops.
+
 fn field_descriptors(
     alloc: Global,
     scene: &Scene,
@@ -182,6 +185,7 @@ fn field_descriptors(
     Ok(descriptors)
 }
 
+// As `push_member_enum`, but that a block gives a descriptor for each of its fields.
 fn push_member_extensions(
     alloc: Global,
     scene: &Scene,

@@ -1,19 +1,18 @@
 -- What a reference means by the link is what it means by the rules of names, and its ranges are found where its name stands.
-use Rattle.std.proofs.Common.{◌≡◌, ◌≢◌, ℕ, ◌<◌, Bool, if◌then◌else◌, List, [], length, get_or, Option, Some, None, option_map, option_and_then, refl, sym, ap, subst, ◌∙◌, find, ◌==◌}
+use Rattle.std.proofs.Common.{◌≡◌, ℕ, ◌<◌, Bool, if◌then◌else◌, List, [], length, get_or, Option, Some, None, option_map, option_and_then, refl, sym, ap, subst, ◌∙◌, find, ◌==◌}
 use Rattle.proto_faults.proofs.Common.{none-some, same_Some}
 use Rattle.proto_tree.specs.References.{first_of}
 use Rattle.proto_tree.specs.declared.tree.Reference.{Reference}
 use Rattle.proto_files.proofs.Common.{FileOf, ReadOf}
-use Rattle.proto_meaning.proofs.Common.{At, at, joined, is_package, place_of, Declared, Used}
-use Rattle.proto_names.specs.Links.{uses_of}
+use Rattle.proto_meaning.proofs.Common.{At, at, joined, place_of, Declared}
 use Rattle.proto_names.specs.Common.{meant_at}
 use Rattle.proto_names.proofs.Common.{IsLinkRead, LinkOf, NameOf, declaring_file, name_at, own_file, own_token, name_text, declaring_token}
 use Rattle.proto_names.specs.declared.references.Meant.{Meant}
 use Rattle.proto_parts.proofs.Common.{past}
 use Rattle.proto_numbers.specs.RangeIndex.{IsRangeIndexOf}
 use Rattle.proto_scenes.specs.SceneOf.{meaning_of}
-use Rattle.proto_scenes.proofs.MeantPlaces.{Named, Placed, none_named, one_named, place_meant}
-use Rattle.proto_extensions.specs.Common.{Extendee, IsExtendee, index_in, name_meant, extension_ranges_at, ranges_at_place, ranges_named}
+use Rattle.proto_scenes.proofs.MeantPlaces.{Placed, none_named, one_named, place_meant}
+use Rattle.proto_extensions.specs.Common.{Extendee, IsExtendee, name_meant, extension_ranges_at, ranges_at_place, ranges_named}
 
 module _ (files : List FileOf) (reads : List ReadOf) (l : LinkOf) (link : IsLinkRead files reads l) (file : ℕ) (within : file < length files) (r : Reference) where
   abbrev first : ℕ

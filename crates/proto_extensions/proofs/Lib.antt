@@ -1,4 +1,3 @@
-pub mod BlockTrees
 pub mod CappedExtensions
 pub mod ExtendTrees
 pub mod Extendees

@@ -1,5 +1,5 @@
 -- Where the extensions of a workspace are those of another, with their tokens moved and what they extend named anew, so are the flaws of their numbers (for the crates above).
-use Rattle.std.proofs.Common.{◌≡◌, ℕ, zero, suc, ◌<◌, Bool, true, false, not, ◌&&◌, ◌||◌, List, [], ◌∷◌, ◌++◌, length, map, flat_map, None, refl, sym, ap, ◌∙◌, int_eq, arith, Contains}
+use Rattle.std.proofs.Common.{◌≡◌, ℕ, zero, suc, ◌<◌, Bool, true, false, not, ◌&&◌, ◌||◌, List, [], ◌∷◌, ◌++◌, length, map, None, refl, sym, ap, ◌∙◌, int_eq, arith, Contains}
 use Rattle.proto_faults.proofs.Common.{contains_head, contains_later, list_any, list_any-append, map-append}
 use Rattle.proto_faults.specs.declared.fault.FaultKind.{FaultKind}
 use Rattle.proto_faults.specs.declared.fault.FaultKind.TheVariants as kind

@@ -1,51 +1,47 @@
 -- The rows of a file's messages are those that its blocks give.
-use Rattle.std.proofs.Common.{◌≡◌, ℕ, ◌<◌, Bool, true, false, cond, List, [], ◌∷◌, ◌++◌, length, get_or, Option, Some, None, refl, sym, ap, subst, ◌∙◌, inl, inr, arith, nat_eq, is_some, option_and_then, find, eqb-true, ◌==◌}
+use Rattle.std.proofs.Common.{◌≡◌, ℕ, ◌<◌, Bool, true, false, cond, List, [], ◌∷◌, ◌++◌, length, get_or, Option, Some, None, refl, sym, ap, subst, inl, inr, arith, nat_eq, is_some, option_and_then, find, eqb-true, ◌==◌}
 use Rattle.proto_faults.proofs.Common.{IsPermutation-refl, option_or, get_or_past, find-append, slice_get_cases, lookup, Vec}
 use Rattle.indexmap.specs.IndexMap.{IndexMap, IsEmpty, get}
-use Rattle.proto_tree.specs.declared.piece.Header.{Header}
-use Rattle.proto_tree.specs.declared.piece.Header.TheVariants as header
 use Rattle.proto_tree.specs.declared.tree.Block.{Block as Braced}
+use Rattle.proto_tree.specs.declared.tree.EnumItem.{EnumItem}
 use Rattle.proto_tree.specs.declared.tree.Extend.{Extend}
+use Rattle.proto_tree.specs.declared.tree.Field.{Field}
 use Rattle.proto_tree.specs.declared.tree.Member.{Member}
 use Rattle.proto_tree.proofs.Common.{Tree, End}
 use Rattle.proto_files.proofs.Common.{FileOf, file_at, Each, ReadOf, AreRead, read_at, IsTreeOf, same_tree}
-use Rattle.proto_meaning.specs.Grown.{At}
 use Rattle.proto_parts.proofs.Common.{BlockOf, blocks_in, Scene, past}
 use Rattle.proto_parts.specs.declared.ranges.RangeAt.{RangeAt}
 use Rattle.proto_numbers.specs.RangeIndex.{IsRangeIndexOf}
 use Rattle.proto_numbers.proofs.IndexLemmas.{none_raised}
 use Rattle.proto_scenes.specs.SceneOf.{scene_of}
 use Rattle.proto_scenes.specs.Scenes.{IsSceneOf}
-use Rattle.proto_scenes.proofs.EnumRows.{find_filter}
-use Rattle.proto_extensions.specs.Common.{asked_in, extend_block, is_asked, message_block, is_message_at, extension_ranges_at, ranges_within, AreRowsOf, IsOpenTable, IsRangeRowOf, index_in, index_of_row}
+use Rattle.proto_scenes.specs.Blocks.{enum_block, extend_block, holders_in, message_block, oneof_block}
+use Rattle.proto_scenes.proofs.Holders.{found_before, found_in_holders, or_none}
+use Rattle.proto_extensions.specs.Common.{is_message_at, extension_ranges_at, ranges_within, AreRowsOf, IsOpenTable, IsRangeRowOf, index_of_row}
 
 abbrev is_it : ℕ → BlockOf → Bool
 is_it token b = is_message_at token b.header
-
-is_a_message : (token : ℕ) (h : Header) → is_message_at token h ≡ true → is_asked h ≡ true
-is_a_message token (header.Message h) e = refl
-is_a_message token (header.Extend x) e = refl
-is_a_message token whole e = e
 
 pub none_indexed : IsRangeIndexOf [] []
 none_indexed = record { sorted = []; same = IsPermutation-refl []; order = λ i j d le lt. absurd (omega (arith, lt)); raised = none_raised }
 
 module _ (scene : Scene) where
-  pub rows_of_blocks : {S : Type 0} → (tree : Tree) (rows : IndexMap ℕ (Vec RangeAt) S) → AreRowsOf scene (asked_in tree) rows → AreRowsOf scene (blocks_in tree) rows
-  rows_of_blocks tree rows h token = subst (λ (o : Option BlockOf). IsRangeRowOf scene o (get nat_eq rows token)) (find_filter (is_it token) (λ b. is_asked b.header) (λ b. is_a_message token b.header) (blocks_in tree)) (h token)
+  pub rows_of_blocks : {S : Type 0} → (tree : Tree) (rows : IndexMap ℕ (Vec RangeAt) S) → AreRowsOf scene (holders_in tree) rows → AreRowsOf scene (blocks_in tree) rows
+  rows_of_blocks tree rows h token = subst (λ (o : Option BlockOf). IsRangeRowOf scene o (get nat_eq rows token)) (found_in_holders (is_message_at token) (λ h. refl) (λ s. refl) tree) (h token)
 
   pub no_rows : {S : Type 0} → (rows : IndexMap ℕ (Vec RangeAt) S) → IsEmpty rows → AreRowsOf scene [] rows
   no_rows rows e token = subst (λ (o : Option (Vec RangeAt)). IsRangeRowOf scene None o) (sym (ap (λ (es : List (ℕ × Vec RangeAt)). lookup (nat_eq token) es) e)) tt
 
   -- ---- one block more
 
-  or_none : (o : Option BlockOf) → o ≡ option_or o None
-  or_none None = refl
-  or_none (Some x) = refl
+  pub oneof_added : {S : Type 0} → (blocks : List BlockOf) (o : Braced Field) (rows : IndexMap ℕ (Vec RangeAt) S) → AreRowsOf scene blocks rows → AreRowsOf scene (blocks ++ oneof_block o ∷ []) rows
+  oneof_added blocks o rows h token = subst (λ (o : Option BlockOf). IsRangeRowOf scene o (get nat_eq rows token)) (found_before (is_it token) blocks (oneof_block o) refl) (h token)
+
+  pub enum_added : {S : Type 0} → (blocks : List BlockOf) (e : Braced EnumItem) (rows : IndexMap ℕ (Vec RangeAt) S) → AreRowsOf scene blocks rows → AreRowsOf scene (blocks ++ enum_block e ∷ []) rows
+  enum_added blocks e rows h token = subst (λ (o : Option BlockOf). IsRangeRowOf scene o (get nat_eq rows token)) (found_before (is_it token) blocks (enum_block e) refl) (h token)
 
   pub extend_added : {S : Type 0} → (blocks : List BlockOf) (x : Extend) (rows : IndexMap ℕ (Vec RangeAt) S) → AreRowsOf scene blocks rows → AreRowsOf scene (blocks ++ extend_block x ∷ []) rows
-  extend_added blocks x rows h token =
-      subst (λ (o : Option BlockOf). IsRangeRowOf scene o (get nat_eq rows token)) (or_none (find (is_it token) blocks) ∙ sym (find-append (is_it token) blocks (extend_block x ∷ []))) (h token)
+  extend_added blocks x rows h token = subst (λ (o : Option BlockOf). IsRangeRowOf scene o (get nat_eq rows token)) (found_before (is_it token) blocks (extend_block x) refl) (h token)
 
   no_row : (o : Option (Vec RangeAt)) → is_some o ≡ true → IsRangeRowOf scene None o → ⊥
   no_row None t h = absurd (cc)

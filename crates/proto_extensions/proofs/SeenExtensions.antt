@@ -1,11 +1,11 @@
 -- Which extensions were seen before, as a set of keys tells.
-use Rattle.std.proofs.Common.{◌≡◌, ℕ, ◌+◌, ◌<◌, Bool, true, false, not, ◌||◌, ◌&&◌, if◌then◌else◌, List, [], ◌∷◌, ◌++◌, length, get_or, take, map, flat_map, refl, sym, ap, subst, ◌∙◌, append_assoc, bytes_eq, int_eq}
+use Rattle.std.proofs.Common.{◌≡◌, ℕ, ◌+◌, ◌<◌, Bool, true, false, not, ◌||◌, ◌&&◌, if◌then◌else◌, List, [], ◌∷◌, ◌++◌, length, get_or, take, map, flat_map, refl, sym, ap, ◌∙◌, append_assoc, bytes_eq, int_eq}
 use Rattle.proto_faults.proofs.Common.{list_any, list_any-append, map-append, take_more}
 use Rattle.indexmap.specs.IndexSet.{IndexSet, contains}
 use Rattle.proto_faults.specs.declared.fault.FaultKind.{FaultKind}
 use Rattle.proto_faults.specs.declared.fault.FaultKind.TheVariants as kind
 use Rattle.proto_numbers.specs.declared.flaw.Flaw.{Flaw}
-use Rattle.proto_numbers.proofs.Common.{earlier, flaw_if, marked, repeats_length}
+use Rattle.proto_numbers.proofs.Common.{earlier, flaw_if, marked}
 use Rattle.proto_numbers.proofs.FlawLists.{repeats_snoc, new_is}
 use Rattle.proto_extensions.specs.Common.{ExtensionAt, HasSeen, Key, Told, again, are_one, is_key_of, is_same_key, outside_ranges, told_by}
 

@@ -1,6 +1,6 @@
 -- The extensions of a file, block by block, as they are told.
-use Rattle.std.proofs.Common.{◌≡◌, ℕ, ◌+◌, ◌<◌, Bool, true, false, cond, List, [], ◌∷◌, ◌++◌, length, get_or, take, map, flat_map, Option, Some, None, option_and_then, refl, sym, ap, subst, ◌∙◌, filter, true≢false}
-use Rattle.proto_faults.proofs.Common.{flat_map_more, map-append, map_more, take_more}
+use Rattle.std.proofs.Common.{◌≡◌, ℕ, ◌+◌, ◌<◌, false, List, [], ◌∷◌, ◌++◌, length, get_or, take, map, flat_map, Option, Some, None, option_and_then, refl, sym, ap, ◌∙◌, true≢false}
+use Rattle.proto_faults.proofs.Common.{flat_map_more, map-append, take_more}
 use Rattle.proto_tree.specs.declared.piece.Header.{Header}
 use Rattle.proto_tree.specs.declared.piece.Header.TheVariants as header
 use Rattle.proto_tree.specs.declared.tree.Extend.{Extend}
@@ -13,7 +13,10 @@ use Rattle.proto_parts.specs.declared.ranges.RangeAt.{RangeAt}
 use Rattle.proto_numbers.specs.RangeIndex.{IsRangeIndexOf}
 use Rattle.proto_numbers.proofs.Common.{number_of_field}
 use Rattle.proto_scenes.specs.SceneOf.{scene_of}
-use Rattle.proto_extensions.specs.Common.{BlockAt, Extendee, ExtensionAt, ExtensionOf, IsExtendee, Told, asked_in, block_extensions, block_of, extend_block, extendee_in, extensions_of, is_asked, name_meant, ranges_named, told, told_by, told_number}
+use Rattle.proto_scenes.specs.Blocks.{block_of, extend_block, holders_in, may_hold}
+use Rattle.proto_scenes.specs.declared.blocks.BlockAt.{BlockAt}
+use Rattle.proto_scenes.proofs.Holders.{given_by_holders}
+use Rattle.proto_extensions.specs.Common.{Extendee, ExtensionAt, ExtensionOf, IsExtendee, Told, block_extensions, extendee_in, extensions_of, name_meant, ranges_named, told, told_by, told_number}
 
 module _ (files : List FileOf) (reads : List ReadOf) where
   told_fields : (scene : Scene) (name : List (List ℕ)) (fs : List FieldOf)
@@ -62,10 +65,10 @@ module _ (files : List FileOf) (reads : List ReadOf) where
       ∙ ap (map (told files reads)) (flat_map_more E [] front (block_of b))
       ∙ ap (λ (bs : List BlockOf). map (told files reads) (flat_map E bs)) (sym more)
 
-  not_asked : (file : ℕ) (b : BlockOf) → is_asked b.header ≡ false → block_extensions (Some past) files reads file b ≡ []
-  not_asked file b e = ap (λ (o : Option (List (List ℕ))). extensions_of (scene_of (Some past) files reads file) o b.within) (none b.header e)
+  no_holder : (file : ℕ) (b : BlockOf) → may_hold b.header ≡ false → block_extensions (Some past) files reads file b ≡ []
+  no_holder file b e = ap (λ (o : Option (List (List ℕ))). extensions_of (scene_of (Some past) files reads file) o b.within) (none b.header e)
     where
-      none : (h : Header) → is_asked h ≡ false → option_and_then (name_meant files reads file) (extendee_in h) ≡ None
+      none : (h : Header) → may_hold h ≡ false → option_and_then (name_meant files reads file) (extendee_in h) ≡ None
       none (header.Extend x) t = absurd (true≢false t)
       none (header.Message h) t = refl
       none (header.Oneof h) t = refl
@@ -73,17 +76,6 @@ module _ (files : List FileOf) (reads : List ReadOf) where
       none (header.Service h) t = refl
       none (header.Method s) t = refl
 
-  -- the blocks that are not asked have no extensions
-  pub asked_alone : (file : ℕ) (tree : Tree) → flat_map (block_extensions (Some past) files reads file) (asked_in tree) ≡ flat_map (block_extensions (Some past) files reads file) (blocks_in tree)
-  asked_alone file tree = all (blocks_in tree)
-    where
-      E : BlockOf → List ExtensionOf
-      E = block_extensions (Some past) files reads file
-
-      all : (bs : List BlockOf) → flat_map E (filter (λ b. is_asked b.header) bs) ≡ flat_map E bs
-      all [] = refl
-      all (b ∷ bs) = go (all bs) (is_asked b.header) refl
-        where
-          go : flat_map E (filter (λ b. is_asked b.header) bs) ≡ flat_map E bs → (t : Bool) → is_asked b.header ≡ t → flat_map E (cond t (b ∷ filter (λ b. is_asked b.header) bs) (filter (λ b. is_asked b.header) bs)) ≡ E b ++ flat_map E bs
-          go on true e = ap (λ (xs : List ExtensionOf). E b ++ xs) on
-          go on false e = on ∙ ap (λ (xs : List ExtensionOf). xs ++ flat_map E bs) (sym (not_asked file b e))
+  -- the blocks that are listed have all extensions
+  pub from_holders : (file : ℕ) (tree : Tree) → flat_map (block_extensions (Some past) files reads file) (holders_in tree) ≡ flat_map (block_extensions (Some past) files reads file) (blocks_in tree)
+  from_holders file = given_by_holders (block_extensions (Some past) files reads file) (no_holder file)

@@ -11,7 +11,7 @@ use Rattle.proto_checks.proofs.FlawTokens.{flaw_within}
 use Rattle.proto_checks.proofs.Phases.{flaws_are_of_checks}
 use Rattle.proto_scenes.specs.SceneOf.{scene_of}
 use Rattle.proto_extensions.specs.Common.{all_flaws, workspace_flaws}
-use Rattle.proto_extensions.proofs.WrittenExtensions.{Written, again_of, flaws_written, from_flat, outside_of, written_in, written_number, wrong_there}
+use Rattle.proto_extensions.proofs.WrittenExtensions.{Written, again_of, flaws_written, from_flat, outside_of, written_in, wrong_there}
 use Rattle.proto_parts.proofs.Common.{Scene, number_value, text}
 
 of_if : (b : Bool) (k : FaultKind) (t : ℕ) (f : Flaw) → Contains (flaw_if b k t) f → flaw k t ≡ f

@@ -78,7 +78,8 @@ extensions_before cap files reads (suc file) =
 
 -- ---- what messages leave to extensions
 
--- the header is that of a message whose name is at this token
+-- the header is that of a message whose name is at this token (as `is_enum_at` of proto_scenes is
+-- of an enum: each lists all headers, so that a further one is asked in both)
 abbrev pub is_message_at : ℕ → Header → Bool
 is_message_at token (header.Message h) = h.name == token
 is_message_at token (header.Oneof h) = false

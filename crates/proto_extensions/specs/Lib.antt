@@ -1,4 +1,3 @@
-pub mod Blocks
 pub mod Capped
 pub mod Common
 pub mod Extends

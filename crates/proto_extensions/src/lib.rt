@@ -2,7 +2,6 @@
 //! and extensions of other files.
 #![tactic(auto)]
 
-mod blocks;
 mod extends;
 mod flaws;
 pub mod laws;

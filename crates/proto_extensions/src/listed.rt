@@ -8,21 +8,20 @@ ghost use Rattle.proto_parts.specs.Parts.{fields_in};
 ghost use Rattle.proto_parts.specs.declared.ranges.RangeAt.{RangeAt as RangeOf};
 ghost use Rattle.proto_numbers.specs.NumberFlaws.{number_of_field};
 ghost use Rattle.proto_numbers.specs.RangeIndex.{IsRangeIndexOf};
+ghost use Rattle.proto_scenes.specs.Blocks.{block_of};
 ghost use Rattle.proto_scenes.specs.LinkOfFiles.{IsLinkOf};
 ghost use Rattle.proto_scenes.specs.Scenes.{IsSceneOf};
-ghost use Rattle.proto_extensions.specs.Blocks.{block_of};
 ghost use Rattle.proto_extensions.specs.Extensions.{block_extensions};
 ghost use Rattle.proto_extensions.specs.Listed.{AreExtensionsOf, IsExtendee, told, told_by, told_number};
 ghost use Rattle.proto_extensions.specs.OpenTables.{IsOpenTable};
 
-use crate::blocks::{BlockAt, blocks_of};
 use crate::open_table::index_at;
 use indexmap::IndexMap;
 use proto_faults::NoMemory;
 use proto_files::Files;
 use proto_numbers::{NumberAt, RangeAt, field_numbers, is_covered};
 use proto_parts::{Scene, extension_fields};
-use proto_scenes::Link;
+use proto_scenes::{BlockAt, Link, blocks_of};
 use proto_tree::{Extend, Reference};
 use std::alloc::Global;
 
@@ -128,11 +127,13 @@ fn push_block<'a>(
         (block_extensions (Some past) files.now reads file (block_of block.entry))) }
 {
     match block {
-        BlockAt::Message(_) => Ok(()),
         BlockAt::Extend(extend) => match extendee_of(files, link, table, file, &extend.extendee) {
             Some(extendee) => push_fields(alloc, found, scene, extendee, extend),
             None => Ok(()),
         },
+        BlockAt::Message(_) => Ok(()),
+        BlockAt::Oneof(_) => Ok(()),
+        BlockAt::Enum(_) => Ok(()),
     }
 }
 

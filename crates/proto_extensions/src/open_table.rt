@@ -7,17 +7,17 @@ ghost use Rattle.proto_tree.specs.File.{tree_of_file};
 ghost use Rattle.proto_meaning.specs.Grown.{at};
 ghost use Rattle.proto_parts.specs.Parts.{BlockOf, blocks_in};
 ghost use Rattle.proto_numbers.specs.RangeIndex.{IsRangeIndexOf};
+ghost use Rattle.proto_scenes.specs.Blocks.{block_of, message_block};
 ghost use Rattle.proto_scenes.specs.Scenes.{AreScenes};
-ghost use Rattle.proto_extensions.specs.Blocks.{block_of, message_block};
 ghost use Rattle.proto_extensions.specs.Extensions.{ranges_within};
 ghost use Rattle.proto_extensions.specs.OpenTables.{AreRowsOf, IsOpenTable, index_in};
 
-use crate::blocks::{BlockAt, blocks_of};
 use indexmap::IndexMap;
 use proto_faults::NoMemory;
 use proto_files::Files;
 use proto_numbers::{RangeAt, field_ranges, index_of};
 use proto_parts::{Scene, extension_ranges};
+use proto_scenes::{BlockAt, blocks_of};
 use proto_tree::{File, Message};
 use std::alloc::Global;
 
@@ -50,7 +50,6 @@ fn add_message(
 }
 
 /// Adds a block, if it is a message.
-#[tactic(auto, using(crate::proofs::OpenRows::extend_added))]
 fn add(
     alloc: Global,
     rows: &mut IndexMap<u32, Vec<RangeAt>>,
@@ -62,6 +61,8 @@ fn add(
 {
     match block {
         BlockAt::Message(message) => add_message(alloc, rows, scene, message),
+        BlockAt::Oneof(_) => Ok(()),
+        BlockAt::Enum(_) => Ok(()),
         BlockAt::Extend(_) => Ok(()),
     }
 }

@@ -1,4 +1,5 @@
--- What proofs of this crate name of its own definitions, passed on from one place.
+-- What proofs of this crate name of its own definitions, and of those of blocks, passed on from one
+-- place.
 -- Declares nothing.
-pub use Rattle.proto_members.specs.Blocks.{block_of, extend_block, holders_in, may_hold, message_block, oneof_block}
+pub use Rattle.proto_scenes.specs.Blocks.{block_of, extend_block, holders_in, may_hold, oneof_block}
 pub use Rattle.proto_members.specs.Members.{IsReadAs, fields_by, has_field, has_member, has_value, holds_value, name_token, reserves, says_word}

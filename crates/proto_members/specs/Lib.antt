@@ -1,3 +1,3 @@
-pub mod Blocks
 pub mod Common
 pub mod Members
+pub use Rattle.proto_scenes.specs.Blocks

@@ -6,18 +6,18 @@ ghost use Rattle.proto_tree.specs.File.{tree_of_file};
 ghost use Rattle.proto_files.specs.FilesRead.{AreRead, ReadOf};
 ghost use Rattle.proto_meaning.specs.Joined.{joined};
 ghost use Rattle.proto_meaning.specs.declared.kind.Kind.TheVariants.{Value};
+ghost use Rattle.proto_scenes.specs.Blocks.{block_of, holders_in};
 ghost use Rattle.proto_captures.specs.Targets.{Target};
 ghost use Rattle.proto_captures.specs.Aims.{IsAimOf, IsAimedAt};
-ghost use Rattle.proto_members.specs.Blocks.{block_of, holders_in};
 ghost use Rattle.proto_members.specs.Members.{holds_value, name_token};
 
-use crate::blocks::{BlockAt, blocks_of};
 use crate::members::has_value;
 use proto_captures::{Aim, beside, front};
 use proto_faults::NoMemory;
 use proto_files::{Files, Words, are_read};
 use proto_meaning::Kind;
 use proto_parts::values;
+use proto_scenes::{BlockAt, blocks_of};
 use proto_tree::File;
 use std::alloc::Global;
 

@@ -5,19 +5,19 @@ ghost use Rattle.std.specs.List.{list_any};
 ghost use Rattle.proto_tree.specs.File.{enum_item_tree, member_tree, trees};
 ghost use Rattle.proto_files.specs.FilesRead.{AreRead, ReadOf};
 ghost use Rattle.proto_parts.specs.Parts.{fields_in, reserved_names_in, values_in};
+ghost use Rattle.proto_scenes.specs.Blocks.{block_of};
 ghost use Rattle.proto_captures.specs.Cases.{ReservesWord};
 ghost use Rattle.proto_captures.specs.Targets.{Target};
 ghost use Rattle.proto_captures.specs.Aims.{IsAimOf, IsAimedAt};
-ghost use Rattle.proto_members.specs.Blocks.{block_of};
 ghost use Rattle.proto_members.specs.Members.{has_field, has_value, reserves, says_word};
 
-use crate::blocks::{BlockAt, blocks_of};
 use crate::members::{has_field, has_value};
 use crate::scenes::scene;
 use proto_captures::Aim;
 use proto_faults::NoMemory;
 use proto_files::{Files, are_read};
 use proto_parts::{Scene, enum_reserved_names, fields_of, reserved_names, values};
+use proto_scenes::{BlockAt, blocks_of};
 use proto_tree::{EnumItem, Member};
 use std::alloc::Global;
 

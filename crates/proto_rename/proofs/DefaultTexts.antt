@@ -1,5 +1,5 @@
 -- Defaults that mean a value, told by the texts of a link.
-use Rattle.std.proofs.Common.{◌≡◌, ℕ, ◌+◌, ◌<◌, ◌==◌, ◌&&◌, Bool, true, false, cond, if◌then◌else◌, List, [], ◌∷◌, ◌++◌, length, map, get_or, drop, flat_map, Option, Some, None, option_map, refl, sym, ap, subst, ◌∙◌, inl, inr, filter, find, option_and_then, bytes_eq, true≢false}
+use Rattle.std.proofs.Common.{◌≡◌, ℕ, ◌+◌, ◌<◌, ◌==◌, ◌&&◌, Bool, true, false, cond, if◌then◌else◌, List, [], ◌∷◌, ◌++◌, length, map, get_or, drop, flat_map, Option, Some, None, option_map, refl, sym, ap, subst, ◌∙◌, inl, inr, find, option_and_then, bytes_eq, true≢false}
 use Rattle.proto_faults.proofs.Common.{cases_Bool, none-some, flat_map-append, fails_from, same_from_word, word_from_same, listed_turn}
 use Rattle.proto_text.proofs.Common.{word_at, Lexeme}
 use Rattle.proto_tree.specs.declared.piece.Header.{Header}
@@ -14,7 +14,7 @@ use Rattle.proto_names.proofs.Common.{IsLinkRead, TextMeant, meant_by_link, mean
 use Rattle.proto_names.specs.declared.references.Meant.{Meant}
 use Rattle.proto_parts.proofs.Common.{BlockOf, FieldOf, blocks_in, Scene, text}
 use Rattle.proto_rename_laws.proofs.Common.{meaning_of, default_words, fields_of_block, fields_of_file, meaning_from, means_value, renamed_default, type_meaning}
-use Rattle.proto_members.proofs.Common.{holders_in, may_hold, IsReadAs}
+use Rattle.proto_members.proofs.Common.{given_by_holders, holders_in, may_hold, IsReadAs}
 use Rattle.proto_rename.specs.Defaults.{defaults_in, defaults_of, is_found_name, spelled, type_means}
 
 -- ---- lists
@@ -38,15 +38,6 @@ spelled_turn text old part view xs i x found next whole lt is new before =
 flat_flat : {X Y Z : Type 0} (g : Y → List Z) (f : X → List Y) (xs : List X) → flat_map g (flat_map f xs) ≡ flat_map (λ x. flat_map g (f x)) xs
 flat_flat g f [] = refl
 flat_flat g f (x ∷ xs) = flat_map-append g (f x) (flat_map f xs) ∙ ap (λ zs. flat_map g (f x) ++ zs) (flat_flat g f xs)
-
--- what fails the test gives nothing
-flat_filter : {X Y : Type 0} (p : X → Bool) (f : X → List Y) (xs : List X) → ((x : X) → p x ≡ false → f x ≡ []) → flat_map f (filter p xs) ≡ flat_map f xs
-flat_filter p f [] h = refl
-flat_filter {X} {Y} p f (x ∷ xs) h = go (p x) refl (flat_filter p f xs h)
-  where
-    go : (b : Bool) → p x ≡ b → flat_map f (filter p xs) ≡ flat_map f xs → flat_map f (cond b (x ∷ filter p xs) (filter p xs)) ≡ f x ++ flat_map f xs
-    go true e more = ap (λ ys. f x ++ ys) more
-    go false e more = more ∙ ap (λ (ys : List Y). ys ++ flat_map f xs) (sym (h x e))
 
 no_fields : (h : Header) (within : Tree) → may_hold h ≡ false → fields_of_block h within ≡ []
 no_fields (header.Message h) within e = absurd cc
@@ -121,8 +112,8 @@ module _ (files : List FileOf) (reads : List ReadOf) (are : AreRead files reads)
 
     pub defaults_are : flat_map (defaults_in (text scene) (type_means l file (joined enum)) old) (holders_in tree) ≡ flat_map (renamed_default files reads (Some enum) old file) (fields_of_file (read_at reads file).tree)
     defaults_are =
-        flat_filter (λ (b : BlockOf). may_hold b.header) (defaults_in (text scene) (type_means l file (joined enum)) old) (blocks_in tree)
-        (λ (b : BlockOf) e. ap (flat_map (defaults_of (text scene) (type_means l file (joined enum)) old)) (no_fields b.header b.within e))
+        given_by_holders (defaults_in (text scene) (type_means l file (joined enum)) old)
+        (λ (b : BlockOf) e. ap (flat_map (defaults_of (text scene) (type_means l file (joined enum)) old)) (no_fields b.header b.within e)) tree
         ∙ sym (flat_flat (defaults_of (text scene) (type_means l file (joined enum)) old) (λ (b : BlockOf). fields_of_block b.header b.within) (blocks_in tree))
         ∙ flat_agree (defaults_of (text scene) (type_means l file (joined enum)) old) (renamed_default files reads (Some enum) old file) (fields_of_file tree) one_field
         ∙ ap (λ t. flat_map (renamed_default files reads (Some enum) old file) (fields_of_file t)) (sym (same_tree files reads file tree are within of_file))

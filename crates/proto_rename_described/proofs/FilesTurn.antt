@@ -37,7 +37,7 @@ use Rattle.proto_rename_described.proofs.FileStays.{file_options_stay, signed_st
 use Rattle.proto_rename_described.proofs.Mapped.{descriptors_are_mapped, joined_dotted, words_of_dotted}
 use Rattle.proto_rename_described.proofs.NamesKept.{empty_parts, none_flawed}
 use Rattle.proto_rename_described.proofs.ScenesTurn.{meanings_are_turned, named_some, names_are_turned, some_path, there}
-use Rattle.proto_rename_described.proofs.TreeTurns.{FieldNames, block_of, tree_turns}
+use Rattle.proto_rename_described.proofs.TreeTurns.{FieldNames, block_with, tree_turns}
 use Rattle.proto_rename_described.proofs.WrittenJson.{writes_json}
 
 -- ---- lists, tests and tokens
@@ -215,7 +215,7 @@ module _ (files : List FileOf) (reads : List ReadOf) (name to : List ℕ) (t : T
 
     -- ---- fields of messages, and extensions
 
-    module _ (path : List (Source ℕ)) (h : Header) (within : Tree) (f : FieldOf) (k : Kind) (cb : Contains (blocks_in (read_at reads file).tree) (block_of h within)) (cf : Contains (fields_of_block h within) f)
+    module _ (path : List (Source ℕ)) (h : Header) (within : Tree) (f : FieldOf) (k : Kind) (cb : Contains (blocks_in (read_at reads file).tree) (block_with h within)) (cf : Contains (fields_of_block h within) f)
         (cp : Contains (file_placed (items_in (read_at reads file).tree)) (place path (Token f.name) k)) where
       path_is : map (shifted_source (at file)) (path ++ Token f.name ∷ []) ≡ map (shifted_source (at file)) path ++ Token (at file f.name) ∷ []
       path_is = map_append (shifted_source (at file)) path (Token f.name ∷ [])
@@ -244,23 +244,23 @@ module _ (files : List FileOf) (reads : List ReadOf) (name to : List ℕ) (t : T
       json_is v (of_field d g i) q =
           let same_file : file ≡ t.token.file = ap (λ (x : At). x.file) q in
           let same_name : f.name ≡ g.name = ap (λ (x : At). x.token) q ∙ sym i.name in
-          let options : f.options ≡ g.options = (names_are_of_one_field tree (map (lexeme_at (file_at files file).bytes) (read_at reads file).tokens) (al.read.trees file l).spells (block_of h within) d f g cb (subst (λ n. Contains (blocks_in (read_at reads n).tree) d) (sym same_file) i.block) (of_block h within f cf) i.field same_name).options in
+          let options : f.options ≡ g.options = (names_are_of_one_field tree (map (lexeme_at (file_at files file).bytes) (read_at reads file).tokens) (al.read.trees file l).spells (block_with h within) d f g cb (subst (λ n. Contains (blocks_in (read_at reads n).tree) d) (sym same_file) i.block) (of_block h within f cf) i.field same_name).options in
           ap₂ json_at same_file options
       json_is v (of_another none) q =
           let same_file : file ≡ t.token.file = ap (λ (x : At). x.file) q in
-          absurd (none (block_of h within) f (record { block = subst (λ n. Contains (blocks_in (read_at reads n).tree) (block_of h within)) same_file cb; field = of_block h within f cf; name = ap (λ (x : At). x.token) q }))
+          absurd (none (block_with h within) f (record { block = subst (λ n. Contains (blocks_in (read_at reads n).tree) (block_with h within)) same_file cb; field = of_block h within f cf; name = ap (λ (x : At). x.token) q }))
 
       -- ---- defaults
 
-      block_clean : (g : Header) → Contains (blocks_in (read_at reads file).tree) (block_of g within) → block_flaws (scene_of None files reads file) g within ≡ []
+      block_clean : (g : Header) → Contains (blocks_in (read_at reads file).tree) (block_with g within) → block_flaws (scene_of None files reads file) g within ≡ []
       block_clean g cg =
           let all = (empty_parts (option_flaws a element.File (options_in tree)) (flaws_in_blocks a tree) (clean files reads name to t after seen al w file l)).1 in
-          empty_each (λ (x : BlockOf). block_flaws a x.header x.within) (blocks_in tree) all (block_of g within) cg
+          empty_each (λ (x : BlockOf). block_flaws a x.header x.within) (blocks_in tree) all (block_with g within) cg
 
       field_clean : (on : Element) × (field_flaws (scene_of None files reads file) on f ≡ [])
       field_clean = by h cb cf
         where
-          by : (g : Header) → Contains (blocks_in (read_at reads file).tree) (block_of g within) → Contains (fields_of_block g within) f → (on : Element) × (field_flaws (scene_of None files reads file) on f ≡ [])
+          by : (g : Header) → Contains (blocks_in (read_at reads file).tree) (block_with g within) → Contains (fields_of_block g within) f → (on : Element) × (field_flaws (scene_of None files reads file) on f ≡ [])
           by (header.Message x) cg c = (element.Field, empty_each (field_flaws a element.Field) (fields_in within) (empty_parts (flat_map (field_flaws a element.Field) (fields_in within)) _ (block_clean (header.Message x) cg)).0 f c)
           by (header.Extend x) cg c =
               let numbers = outside is_field_number (map (number_of_field a) (fields_in within)) in
@@ -278,7 +278,7 @@ module _ (files : List FileOf) (reads : List ReadOf) (name to : List ℕ) (t : T
           empty_parts (default_flaws a f) (proto3_defaults a f) r
 
       field_roles : HasDefaultRoles (renamed_words files reads t to) (text_of files reads) (text_of after seen) (meaning_from files reads file) t.enum (text_of files reads t.token) to file f
-      field_roles = (fields_have_roles files reads name to t after seen al w).defaults file (block_of h within) f l cb cf
+      field_roles = (fields_have_roles files reads name to t after seen al w).defaults file (block_with h within) f l cb cf
 
       -- by the field's type, where it is no map
       default_by : (o : OptionOf) → Contains f.options o → is_named (text (scene_of None files reads file)) (codes "default") o ≡ true → (k : FieldType) → f.kind ≡ k → (x : Constant) → o.value ≡ x → is_default_of (scene_of None files reads file) k x ≡ true

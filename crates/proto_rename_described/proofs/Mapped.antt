@@ -176,7 +176,7 @@ module _ (e : Renaming) (taken : Taken) (a b : Scene) (strings : (t : ℕ) → v
     fields_after : (fs : List FieldOf) → ((f : FieldOf) → Contains fs f → FieldTurns e taken a b path f) → map (field_described b fb) fs ≡ map (mapped_field e taken x) (map (field_described a fa) fs)
     fields_after fs h = map_agree (field_described b fb) (λ f. mapped_field e taken x (field_described a fa f)) fs (λ f c. field_after f (h f c)) ∙ sym (map_map (field_described a fa) (mapped_field e taken x) fs)
 
-    -- ---- extensions
+    -- ---- extensions (as fields, but for the type's name, the extendee, the default and the JSON name, each with a proof of its own)
 
     module _ (r : Reference) (f : FieldOf) (t : ExtensionTurns e taken a b path f) where
       no_map_after : field_type_name b [] f ≡ option_map (mapped_name e) (field_type_name a [] f)

@@ -30,8 +30,8 @@ use Rattle.proto_rename_described.proofs.FileStays.{enum_options_stay, enum_rese
 no : false ≡ true → ⊥
 no h = cc
 
-abbrev pub block_of : Header → Tree → BlockOf
-block_of h within = record { header = h; within = within }
+abbrev pub block_with : Header → Tree → BlockOf
+block_with h within = record { header = h; within = within }
 
 -- ---- what is declared of fields and values
 
@@ -118,7 +118,7 @@ module _ (e : Renaming) (taken : Taken) (named : ℕ → Bool) (a b : Scene) (di
     (names : (p : Placed) → Contains (file_placed (items_in root)) p → Turned e taken a b p.above p.last)
     (plain : (p : Placed) → Contains (file_placed (items_in root)) p → ArePlain (full e taken a b (p.above ++ p.last ∷ [])))
     (no_given : (path : List (Source ℕ)) (w : List ℕ) → Contains (file_placed (items_in root)) (place path (Given w) EntryField) → is_target e taken a b path w ≡ false)
-    (fields : (path : List (Source ℕ)) (h : Header) (within : Tree) (f : FieldOf) (k : NameKind) → Contains (blocks_in root) (block_of h within) → Contains (fields_of_block h within) f
+    (fields : (path : List (Source ℕ)) (h : Header) (within : Tree) (f : FieldOf) (k : NameKind) → Contains (blocks_in root) (block_with h within) → Contains (fields_of_block h within) f
     → Contains (file_placed (items_in root)) (place path (Token f.name) k) → FieldNames e taken a b path f) where
   abbrev Inside : List Placed → Type 0
   Inside ps = (p : Placed) → Contains ps p → Contains (file_placed (items_in root)) p
@@ -133,18 +133,18 @@ module _ (e : Renaming) (taken : Taken) (named : ℕ → Bool) (a b : Scene) (di
   InRoot t = (x : BlockOf) → Contains (blocks_in t) x → Contains (blocks_in root) x
 
   module _ (h : Header) (opens : ℕ) (within : Tree) (closes : ℕ) (rest : Tree) (r : InRoot (Block h opens within closes rest)) where
-    block_there : Contains (blocks_in root) (block_of h within)
-    block_there = r (block_of h within) (contains_head (block_of h within) (blocks_in within ++ blocks_in rest))
+    block_there : Contains (blocks_in root) (block_with h within)
+    block_there = r (block_with h within) (contains_head (block_with h within) (blocks_in within ++ blocks_in rest))
 
     within_there : InRoot within
-    within_there x c = r x (contains_later (block_of h within) x (blocks_in within ++ blocks_in rest) (Contains-append_left (blocks_in within) (blocks_in rest) x c))
+    within_there x c = r x (contains_later (block_with h within) x (blocks_in within ++ blocks_in rest) (Contains-append_left (blocks_in within) (blocks_in rest) x c))
 
     rest_there : InRoot rest
-    rest_there x c = r x (contains_later (block_of h within) x (blocks_in within ++ blocks_in rest) (Contains-append_right (blocks_in within) (blocks_in rest) x c))
+    rest_there x c = r x (contains_later (block_with h within) x (blocks_in within ++ blocks_in rest) (Contains-append_right (blocks_in within) (blocks_in rest) x c))
 
-  module _ (h : Header) (within : Tree) (cb : Contains (blocks_in root) (block_of h within)) where
-    block_kept : (t : ℕ) → Contains (block_tokens a (block_of h within)) t → named t ≡ false
-    block_kept t ct = asked t (Contains-append_right (flat_map (option_tokens a) (options_in root)) (flat_map (block_tokens a) (blocks_in root)) t (to_flat_map (block_tokens a) (blocks_in root) (block_of h within) t cb ct))
+  module _ (h : Header) (within : Tree) (cb : Contains (blocks_in root) (block_with h within)) where
+    block_kept : (t : ℕ) → Contains (block_tokens a (block_with h within)) t → named t ≡ false
+    block_kept t ct = asked t (Contains-append_right (flat_map (option_tokens a) (options_in root)) (flat_map (block_tokens a) (blocks_in root)) t (to_flat_map (block_tokens a) (blocks_in root) (block_with h within) t cb ct))
 
     header_kept : (t : ℕ) → Contains (header_tokens a h within) t → named t ≡ false
     header_kept t ct = block_kept t (Contains-append_left (header_tokens a h within) (flat_map (option_tokens a) (options_in within)) t ct)
@@ -154,7 +154,7 @@ module _ (e : Renaming) (taken : Taken) (named : ℕ → Bool) (a b : Scene) (di
 
   -- ---- fields and map fields
 
-  field_turns : (path : List (Source ℕ)) (h : Heading) (within : Tree) → IsWellFormed context.Message within → Contains (blocks_in root) (block_of (header.Message h) within) → Inside (all_placed path (members_in within))
+  field_turns : (path : List (Source ℕ)) (h : Heading) (within : Tree) → IsWellFormed context.Message within → Contains (blocks_in root) (block_with (header.Message h) within) → Inside (all_placed path (members_in within))
       → (f : FieldOf) → Contains (fields_in within) f → FieldTurns e taken a b path f
   field_turns path h within w cb i f cf =
       let d = field_declared path 0 within w f cf in
@@ -188,7 +188,7 @@ module _ (e : Renaming) (taken : Taken) (named : ℕ → Bool) (a b : Scene) (di
 
   -- ---- extensions
 
-  extensions_turn : (path : List (Source ℕ)) (g : Extending) (within : Tree) → IsWellFormed context.Extend within → Contains (blocks_in root) (block_of (header.Extend g) within) → Inside (placed path (extend (picked field_names no_names within)))
+  extensions_turn : (path : List (Source ℕ)) (g : Extending) (within : Tree) → IsWellFormed context.Extend within → Contains (blocks_in root) (block_with (header.Extend g) within) → Inside (placed path (extend (picked field_names no_names within)))
       → (f : FieldOf) → Contains (fields_in within) f → ExtensionTurns e taken a b path f
   extensions_turn path g within w cb i f cf =
       let d = extension_declared 0 within w f cf in
@@ -203,7 +203,7 @@ module _ (e : Renaming) (taken : Taken) (named : ℕ → Bool) (a b : Scene) (di
 
   -- ---- enums
 
-  enum_turns : (path : List (Source ℕ)) (h : Heading) (within : Tree) → Contains (blocks_in root) (block_of (header.Enum h) within) → Inside (placed path (enum h.name (picked value_names no_names within))) → EnumTurns e taken a b path within
+  enum_turns : (path : List (Source ℕ)) (h : Heading) (within : Tree) → Contains (blocks_in root) (block_with (header.Enum h) within) → Inside (placed path (enum h.name (picked value_names no_names within))) → EnumTurns e taken a b path within
   enum_turns path h within cb i =
       let vs = picked value_names no_names within in
       let k = header_kept (header.Enum h) within cb in
@@ -241,7 +241,7 @@ module _ (e : Renaming) (taken : Taken) (named : ℕ → Bool) (a b : Scene) (di
 
   -- ---- messages
 
-  message_turns : (path : List (Source ℕ)) (h : Heading) (within : Tree) → IsWellFormed context.Message within → Contains (blocks_in root) (block_of (header.Message h) within) → Inside (all_placed path (members_in within)) → MessageTurns e taken a b path within
+  message_turns : (path : List (Source ℕ)) (h : Heading) (within : Tree) → IsWellFormed context.Message within → Contains (blocks_in root) (block_with (header.Message h) within) → Inside (all_placed path (members_in within)) → MessageTurns e taken a b path within
   message_turns path h within w cb i =
       let k = header_kept (header.Message h) within cb in
       record {
@@ -252,7 +252,7 @@ module _ (e : Renaming) (taken : Taken) (named : ℕ → Bool) (a b : Scene) (di
       }
 
   -- the tokens of the map fields right in a message
-  map_fields_kept : (h : Heading) (within : Tree) → Contains (blocks_in root) (block_of (header.Message h) within) → (f : MapField) → Contains (statements within) (statement.MapField f) → (t : ℕ) → Contains (field_tokens a (field_of_map f)) t → named t ≡ false
+  map_fields_kept : (h : Heading) (within : Tree) → Contains (blocks_in root) (block_with (header.Message h) within) → (f : MapField) → Contains (statements within) (statement.MapField f) → (t : ℕ) → Contains (field_tokens a (field_of_map f)) t → named t ≡ false
   map_fields_kept h within cb f c = field_tokens_kept e taken named a b differ strings within (header_kept (header.Message h) within cb) (field_of_map f) (map_field_there 0 within f c)
 
   members_turn : (path : List (Source ℕ)) (t : Tree) → IsWellFormed context.Message t → Inside (all_placed path (members_in t)) → InRoot t

@@ -11,8 +11,8 @@ use Rattle.proto_tree.specs.declared.piece.Header.TheVariants as header
 use Rattle.proto_parts.specs.Parts.{BlockOf, blocks_in, statement_values, values_in}
 use Rattle.proto_scenes.specs.SceneOf.{is_enum_at}
 
-abbrev block_of : Header → Tree → BlockOf
-block_of h t = record { header = h; within = t }
+abbrev block_with : Header → Tree → BlockOf
+block_with h t = record { header = h; within = t }
 
 num_left : (n : ℕ) (xs ys : List Mark) → Numbered n (xs ++ ys) → Numbered n xs
 num_left n [] ys h = tt
@@ -155,7 +155,7 @@ one_block (Block k i within j rest) n b d v w h cb cd cv cw e =
     s : Stands n k i within j rest
     s = block_stands n k i within j rest h
 
-    sides : (x : BlockOf) → Contains (blocks_in (Block k i within j rest)) x → (block_of k within ≡ x) ⊎ (Contains (blocks_in within) x ⊎ Contains (blocks_in rest) x)
+    sides : (x : BlockOf) → Contains (blocks_in (Block k i within j rest)) x → (block_with k within ≡ x) ⊎ (Contains (blocks_in within) x ⊎ Contains (blocks_in rest) x)
     sides x c = elim (contains_cases (record { header = k; within = within }) x (blocks_in within ++ blocks_in rest) c) [
       | inl e ↦ inl e
       | inr d ↦ inr (Contains-append_cases (blocks_in within) (blocks_in rest) x d)
@@ -212,10 +212,10 @@ one_named (Block k i within j rest) n m b d h cb cd eb ed =
     s : Stands n k i within j rest
     s = block_stands n k i within j rest h
 
-    own : (x : BlockOf) → block_of k within ≡ x → is_enum_at m x.header ≡ true → (n ≤ m) × (m < n + length (flat_header k))
+    own : (x : BlockOf) → block_with k within ≡ x → is_enum_at m x.header ≡ true → (n ≤ m) × (m < n + length (flat_header k))
     own x q e = enum_stands n m k s.head (subst (λ (z : BlockOf). is_enum_at m z.header ≡ true) (sym q) e)
 
-    sides : (x : BlockOf) → Contains (blocks_in (Block k i within j rest)) x → (block_of k within ≡ x) ⊎ (Contains (blocks_in within) x ⊎ Contains (blocks_in rest) x)
+    sides : (x : BlockOf) → Contains (blocks_in (Block k i within j rest)) x → (block_with k within ≡ x) ⊎ (Contains (blocks_in within) x ⊎ Contains (blocks_in rest) x)
     sides x c = elim (contains_cases (record { header = k; within = within }) x (blocks_in within ++ blocks_in rest) c) [
       | inl e ↦ inl e
       | inr d ↦ inr (Contains-append_cases (blocks_in within) (blocks_in rest) x d)

@@ -19,4 +19,3 @@ pub mod Targets
 pub use Rattle.proto_checks_laws.specs.Imports
 pub use Rattle.proto_scenes.specs.SceneOf
 pub use Rattle.proto_checks_laws.specs.Renamed
-pub use Rattle.proto_scenes.specs.Enums

@@ -1,33 +1,19 @@
 -- The rows of a file's enums are those that its blocks give.
-use Rattle.std.proofs.Common.{◌≡◌, ℕ, ◌==◌, Bool, true, false, cond, List, [], ◌∷◌, ◌++◌, length, Option, Some, None, option_map, refl, sym, ap, subst, ◌∙◌, inl, inr, arith, nat_eq, is_some, option_and_then, filter, find, eqb-true}
+use Rattle.std.proofs.Common.{◌≡◌, ℕ, ◌==◌, Bool, true, false, cond, List, [], ◌∷◌, ◌++◌, length, Option, Some, None, option_map, refl, sym, ap, subst, ◌∙◌, inl, inr, arith, nat_eq, is_some, option_and_then, find, eqb-true}
 use Rattle.proto_faults.proofs.Common.{option_or, get_or_past, find-append, slice_get_cases, lookup}
 use Rattle.indexmap.specs.IndexMap.{IndexMap, IsEmpty, get}
 use Rattle.proto_text.specs.Tokens.{Lexeme}
-use Rattle.proto_tree.specs.declared.piece.Header.{Header}
-use Rattle.proto_tree.specs.declared.piece.Header.TheVariants as header
 use Rattle.proto_tree.specs.declared.tree.Block.{Block as Braced}
 use Rattle.proto_tree.specs.declared.tree.EnumItem.{EnumItem}
+use Rattle.proto_tree.specs.declared.tree.Extend.{Extend}
+use Rattle.proto_tree.specs.declared.tree.Field.{Field}
+use Rattle.proto_tree.specs.declared.tree.Member.{Member}
 use Rattle.proto_tree.proofs.Common.{enum_item_tree, trees, Tree, End}
 use Rattle.proto_files.proofs.Common.{FileOf, Each, ReadOf, AreRead}
 use Rattle.proto_meaning.specs.Grown.{at}
 use Rattle.proto_parts.proofs.Common.{BlockOf, blocks_in, EnumOf}
-use Rattle.proto_scenes.specs.Common.{AreEnumsOf, IsEnumTable, enum_among, enum_block, enum_of_row, enums_in, is_enum, enum_row_at, enum_at, enum_within, is_enum_at, is_proto3_file, lexemes_of, EnumRow}
-
--- ---- finding among those that pass another test
-
-turn : {A : Type 0} (p q : A → Bool) (x : A) (xs : List A) → (p x ≡ true → q x ≡ true) → find p (filter q xs) ≡ find p xs → (b : Bool) → q x ≡ b → (c : Bool) → p x ≡ c → find p (cond b (x ∷ filter q xs) (filter q xs)) ≡ cond c (Some x) (find p xs)
-turn p q x xs h on true e true f = ap (λ (z : Bool). cond z (Some x) (find p (filter q xs))) f
-turn p q x xs h on true e false f = ap (λ (z : Bool). cond z (Some x) (find p (filter q xs))) f ∙ on
-turn p q x xs h on false e true f = let t : q x ≡ true = h f in absurd (cc)
-turn p q x xs h on false e false f = on
-
-pub find_filter : {A : Type 0} (p q : A → Bool) → ((x : A) → p x ≡ true → q x ≡ true) → (xs : List A) → find p (filter q xs) ≡ find p xs
-find_filter p q h [] = refl
-find_filter p q h (x ∷ xs) = turn p q x xs (h x) (find_filter p q h xs) (q x) refl (p x) refl
-
-is_an_enum : (token : ℕ) (h : Header) → is_enum_at token h ≡ true → is_enum h ≡ true
-is_an_enum token (header.Enum h) e = refl
-is_an_enum token whole e = e
+use Rattle.proto_scenes.proofs.Holders.{found_before, found_in_holders, or_none}
+use Rattle.proto_scenes.specs.Common.{AreEnumsOf, IsEnumTable, enum_among, enum_block, enum_of_row, extend_block, holders_in, message_block, oneof_block, enum_row_at, enum_at, enum_within, is_enum_at, is_proto3_file, lexemes_of, EnumRow}
 
 module _ (lexemes : List Lexeme) (proto3 : Bool) where
   abbrev here : BlockOf → EnumOf
@@ -36,11 +22,22 @@ module _ (lexemes : List Lexeme) (proto3 : Bool) where
   abbrev is_it : ℕ → BlockOf → Bool
   is_it token b = is_enum_at token b.header
 
-  pub rows_of_blocks : {S : Type 0} → (tree : Tree) (rows : IndexMap ℕ EnumRow S) → AreEnumsOf lexemes proto3 (enums_in tree) rows → AreEnumsOf lexemes proto3 (blocks_in tree) rows
-  rows_of_blocks tree rows h token = h token ∙ ap (option_map here) (find_filter (is_it token) (λ b. is_enum b.header) (λ b. is_an_enum token b.header) (blocks_in tree))
+  pub rows_of_blocks : {S : Type 0} → (tree : Tree) (rows : IndexMap ℕ EnumRow S) → AreEnumsOf lexemes proto3 (holders_in tree) rows → AreEnumsOf lexemes proto3 (blocks_in tree) rows
+  rows_of_blocks tree rows h token = h token ∙ ap (option_map here) (found_in_holders (is_enum_at token) (λ h. refl) (λ s. refl) tree)
 
   pub no_rows : {S : Type 0} → (rows : IndexMap ℕ EnumRow S) → IsEmpty rows → AreEnumsOf lexemes proto3 [] rows
   no_rows rows e token = ap (λ (es : List (ℕ × EnumRow)). option_map enum_of_row (lookup (nat_eq token) es)) e
+
+  -- ---- one block more
+
+  pub message_added : {S : Type 0} → (blocks : List BlockOf) (m : Braced Member) (rows : IndexMap ℕ EnumRow S) → AreEnumsOf lexemes proto3 blocks rows → AreEnumsOf lexemes proto3 (blocks ++ message_block m ∷ []) rows
+  message_added blocks m rows h token = h token ∙ ap (option_map here) (found_before (is_it token) blocks (message_block m) refl)
+
+  pub oneof_added : {S : Type 0} → (blocks : List BlockOf) (o : Braced Field) (rows : IndexMap ℕ EnumRow S) → AreEnumsOf lexemes proto3 blocks rows → AreEnumsOf lexemes proto3 (blocks ++ oneof_block o ∷ []) rows
+  oneof_added blocks o rows h token = h token ∙ ap (option_map here) (found_before (is_it token) blocks (oneof_block o) refl)
+
+  pub extend_added : {S : Type 0} → (blocks : List BlockOf) (x : Extend) (rows : IndexMap ℕ EnumRow S) → AreEnumsOf lexemes proto3 blocks rows → AreEnumsOf lexemes proto3 (blocks ++ extend_block x ∷ []) rows
+  extend_added blocks x rows h token = h token ∙ ap (option_map here) (found_before (is_it token) blocks (extend_block x) refl)
 
   -- ---- one enum more
 
@@ -78,10 +75,6 @@ module _ (lexemes : List Lexeme) (proto3 : Bool) where
       no_row None t = refl
       no_row (Some r) t = absurd (cc)
 
-      or_none : (o : Option BlockOf) → option_map here o ≡ option_map here (option_or o None)
-      or_none None = refl
-      or_none (Some x) = refl
-
       first : (o : Option BlockOf) → option_map here o ≡ None → Some (enum_of_row r) ≡ option_map here (option_or o (Some (enum_block b)))
       first None n = ap Some is
       first (Some x) n = absurd (cc)
@@ -91,7 +84,7 @@ module _ (lexemes : List Lexeme) (proto3 : Bool) where
           let same : b.name ≡ token = eqb-true b.name token f in
           let none : option_map here (find (is_it token) blocks) ≡ None = sym (h token) ∙ ap (λ (t : ℕ). option_map enum_of_row (get nat_eq rows t)) (sym same) ∙ no_row (get nat_eq rows b.name) lacks in
           first (find (is_it token) blocks) none
-      go false f = h token ∙ or_none (find (is_it token) blocks)
+      go false f = h token ∙ ap (option_map here) (or_none (find (is_it token) blocks))
 
 -- ---- the table of all files
 

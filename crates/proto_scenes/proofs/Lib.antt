@@ -1,5 +1,6 @@
+pub mod BlockTrees
 pub mod EnumRows
-pub mod EnumTrees
+pub mod Holders
 pub mod MeantEnums
 pub mod MeantPlaces
 pub mod ReadScenes

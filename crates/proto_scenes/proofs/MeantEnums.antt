@@ -1,18 +1,15 @@
 -- What the references of a file mean, with the enums, as the link and the table of enums say it.
-use Rattle.std.proofs.Common.{◌≡◌, ◌≢◌, ℕ, suc, ◌<◌, Bool, true, false, cond, if◌then◌else◌, List, [], ◌∷◌, length, get_or, map, Option, Some, None, option_map, refl, sym, ap, ◌∙◌, inl, inr, arith, option_and_then, All, AllPairs, Contains, find}
-use Rattle.proto_faults.proofs.Common.{none-some, same_Some, slice_get-get_or, or_nothing, contains_cases, contains_head, contains_later, contains_map, from_map}
+use Rattle.std.proofs.Common.{◌≡◌, ℕ, suc, ◌<◌, Bool, false, if◌then◌else◌, List, [], ◌∷◌, length, get_or, map, Option, Some, None, option_map, refl, sym, ap, ◌∙◌, arith, option_and_then, All, AllPairs}
+use Rattle.proto_faults.proofs.Common.{or_nothing}
 use Rattle.proto_files.proofs.Common.{FileOf, ReadOf}
-use Rattle.proto_case.specs.Camel.{entry_name}
-use Rattle.proto_meaning.proofs.Common.{place_of, At, at, joined, is_package, Symbol, is_type, same_name, Declared, Used, name_of, symbol_of, name_from_same, same_from_name, meant}
-use Rattle.proto_names.specs.Links.{uses_of, link_skeleton, names_of_files, text_of, used_named}
-use Rattle.proto_names.proofs.Common.{IsLinkRead, TextMeant, meant_by_link, meant_by_use, LinkOf, NameOf, name_at, own_file, own_token, name_declared_as as stands_at}
-use Rattle.proto_meaning.specs.declared.kind.Kind.{Kind}
-use Rattle.proto_meaning.specs.declared.kind.Kind.TheVariants.{Package, Message, Entry, Enum, Service, Field, EntryField, Oneof, Value, Method}
+use Rattle.proto_meaning.proofs.Common.{place_of, At, at, joined, is_package, Declared, Used, meant}
+use Rattle.proto_names.specs.Links.{uses_of}
+use Rattle.proto_names.proofs.Common.{IsLinkRead, meant_by_link, meant_by_use, LinkOf, NameOf, name_at, own_file, own_token}
 use Rattle.proto_names.specs.declared.references.Meant.{Meant}
 use Rattle.proto_names.proofs.LinkMeanings.{rising_by}
 use Rattle.proto_parts.specs.declared.scene.MeantAt.{MeantAt}
 use Rattle.proto_parts.specs.Scenes.{EnumOf, MeantOf}
-use Rattle.proto_scenes.proofs.MeantPlaces.{place_meant}
+use Rattle.proto_scenes.proofs.MeantPlaces.{place_meant, row_means}
 use Rattle.proto_scenes.specs.Common.{enum_of_name, meant_in_table, enum_at, enum_named, meaning_of, meant_as, means_of}
 
 -- as the tokens of other elements rise, so do these
@@ -37,20 +34,14 @@ module _ (files : List FileOf) (reads : List ReadOf) (l : LinkOf) (link : IsLink
 
   one_meant : (file : ℕ) (m : Meant) (u : Used ℕ) → meant_by_link l m ≡ meant_by_use files reads file u → m.row < length l.names → meant_in_table l enum m ≡ meant_as files reads u.first (meaning_of files reads file u)
   one_meant file m u e within =
-      let n : NameOf = get_or l.names m.row (record { text = []; kind = Package; files = []; token = 0 }) in
-      let there : name_at l m.row ≡ Some n = slice_get-get_or l.names m.row (record { text = []; kind = Package; files = []; token = 0 }) within in
-      let text : Some n.text ≡ option_map joined (meaning_of files reads file u) = sym (ap (option_map (λ (y : NameOf). y.text)) there) ∙ ap (λ (z : TextMeant). z.text) e in
-      go n there text (meaning_of files reads file u) refl
-    where
-      go : (n : NameOf) → name_at l m.row ≡ Some n → Some n.text ≡ option_map joined (meaning_of files reads file u) → (o : Option (List (List ℕ))) → meaning_of files reads file u ≡ o → meant_in_table l enum m ≡ meant_as files reads u.first o
-      go n there text None none = absurd (none-some n.text (sym (text ∙ ap (option_map joined) none)))
-      go n there text (Some name) means =
-          let same : n.text ≡ joined name = same_Some n.text (joined name) (text ∙ ap (option_map joined) means) in
-          λ i. record {
-            token = (e i).token;
-            name = (ap (λ (o : Option NameOf). or_nothing (option_map (λ (y : NameOf). y.text) o)) there ∙ same) i;
-            enum = enum_meant file u name means m.row n there same i;
-          }
+      let n = row_means files reads l link file m u e within in
+      let named : meant_in_table l enum m ≡ meant_as files reads u.first (Some n.name) =
+      λ i. record {
+        token = (e i).token;
+        name = (ap (λ (o : Option NameOf). or_nothing (option_map (λ (y : NameOf). y.text) o)) n.there ∙ n.text) i;
+        enum = enum_meant file u n.name n.means m.row n.has n.there n.text i;
+      } in
+      named ∙ ap (meant_as files reads u.first) (sym n.means)
 
   pub means_are : (file : ℕ) → file < length files → map (meant_in_table l enum) (get_or l.meant file []) ≡ means_of files reads file
   means_are file within = go (get_or l.meant file []) (uses_of reads file) (link.means file within).texts (link.means file within).within

@@ -85,6 +85,28 @@ module _ (files : List FileOf) (reads : List ReadOf) (l : LinkOf) (link : IsLink
         plain = subst ArePlain t.2 (link.by.names.plain t.0 t.1);
       }
 
+  -- ---- what the link has for a reference
+
+  -- what a reference of a file means by the rules of names, and the row that the link has for it
+  pub record MeansRow (file : ℕ) (u : Used ℕ) (m : Meant) : Type 0 where
+    pub name : List (List ℕ)
+    pub means : meaning_of files reads file u ≡ Some name
+    pub has : NameOf
+    pub there : name_at l m.row ≡ Some has
+    pub text : has.text ≡ joined name
+
+  pub row_means : (file : ℕ) (m : Meant) (u : Used ℕ) → meant_by_link l m ≡ meant_by_use files reads file u → m.row < length l.names → MeansRow file u m
+  row_means file m u e within =
+      let blank : NameOf = record { text = []; kind = Package; files = []; token = 0 } in
+      let n : NameOf = get_or l.names m.row blank in
+      let there : name_at l m.row ≡ Some n = slice_get-get_or l.names m.row blank within in
+      let text : Some n.text ≡ option_map joined (meaning_of files reads file u) = sym (ap (option_map (λ (y : NameOf). y.text)) there) ∙ ap (λ (z : TextMeant). z.text) e in
+      go n there text (meaning_of files reads file u) refl
+    where
+      go : (n : NameOf) → name_at l m.row ≡ Some n → Some n.text ≡ option_map joined (meaning_of files reads file u) → (o : Option (List (List ℕ))) → meaning_of files reads file u ≡ o → MeansRow file u m
+      go n there text None none = absurd (none-some n.text (sym (text ∙ ap (option_map joined) none)))
+      go n there text (Some name) means = record { name = name; means = means; has = n; there = there; text = same_Some n.text (joined name) (text ∙ ap (option_map joined) means) }
+
   -- ---- the reference that begins at a token
 
   -- what the link has for the reference that begins at a token, and what this means by the rules of names
@@ -124,15 +146,8 @@ module _ (files : List FileOf) (reads : List ReadOf) (l : LinkOf) (link : IsLink
 
     named_by : (m : Meant) (u : Used ℕ) → meant_by_link l m ≡ meant_by_use files reads file u → m.row < length l.names → find of_file (uses_of reads file) ≡ Some u → Named file token m
     named_by m u e within is =
-        let blank : NameOf = record { text = []; kind = Package; files = []; token = 0 } in
-        let n : NameOf = get_or l.names m.row blank in
-        let there : name_at l m.row ≡ Some n = slice_get-get_or l.names m.row blank within in
-        let text : Some n.text ≡ option_map joined (meaning_of files reads file u) = sym (ap (option_map (λ (y : NameOf). y.text)) there) ∙ ap (λ (z : TextMeant). z.text) e in
-        go n there text (meaning_of files reads file u) refl
-      where
-        go : (n : NameOf) → name_at l m.row ≡ Some n → Some n.text ≡ option_map joined (meaning_of files reads file u) → (o : Option (List (List ℕ))) → meaning_of files reads file u ≡ o → Named file token m
-        go n there text None none = absurd (none-some n.text (sym (text ∙ ap (option_map joined) none)))
-        go n there text (Some name) means = record { reference = u; is = is; name = name; means = means; has = n; there = there; text = same_Some n.text (joined name) (text ∙ ap (option_map joined) means) }
+        let n = row_means file m u e within in
+        record { reference = u; is = is; name = n.name; means = n.means; has = n.has; there = n.there; text = n.text }
 
     one_among : (ms : List Meant) (us : List (Used ℕ)) → map (meant_by_link l) ms ≡ map (meant_by_use files reads file) us → All (λ m. m.row < length l.names) ms → (m : Meant) → find of_link ms ≡ Some m → find of_file us ≡ find of_file (uses_of reads file) → Named file token m
     one_among [] us e rows m h whole = absurd (none-some m h)

@@ -1,43 +1,15 @@
 -- The enums of files, found by the tokens of their names.
-use Rattle.std.specs.Prelude.{◌≡◌, ℕ, Bool, true, false, nat_eq, List, filter, find, slice_get, Option, option_map}
+use Rattle.std.specs.Prelude.{◌≡◌, ℕ, Bool, nat_eq, List, find, slice_get, Option, option_map}
 use Rattle.std.specs.Option.{option_and_then}
 use Rattle.indexmap.specs.IndexMap.{IndexMap, get}
 use Rattle.proto_text.specs.Tokens.{Lexeme}
-use Rattle.proto_tree.specs.declared.piece.Header.{Header}
-use Rattle.proto_tree.specs.declared.piece.Header.TheVariants as header
-use Rattle.proto_tree.specs.declared.tree.Block.{Block as Braced}
-use Rattle.proto_tree.specs.declared.tree.EnumItem.{EnumItem}
-use Rattle.proto_tree.specs.File.{enum_item_tree, trees}
-use Rattle.proto_tree.specs.Tree.{Tree}
 use Rattle.proto_files.specs.GivenFiles.{FileOf}
 use Rattle.proto_meaning.specs.Grown.{At}
 use Rattle.proto_files.specs.FilesRead.{ReadOf, AreRead}
-use Rattle.proto_parts.specs.Parts.{BlockOf, blocks_in}
+use Rattle.proto_parts.specs.Parts.{BlockOf}
 use Rattle.proto_parts.specs.Scenes.{EnumOf}
 use Rattle.proto_scenes.specs.SceneOf.{enum_at, enum_within, is_enum_at}
 use Rattle.proto_scenes.specs.declared.enum_table.EnumRow.{EnumRow}
-
--- ---- the enums of a tree
-
--- an enum as a block: its header, and the trees of what stands in its braces
-abbrev pub enum_block : Braced EnumItem → BlockOf
-enum_block e = record {
-  header = header.Enum (record { keyword = e.keyword; name = e.name });
-  within = trees enum_item_tree e.members.items;
-}
-
--- a block with such a header is an enum
-abbrev pub is_enum : Header → Bool
-is_enum (header.Enum h) = true
-is_enum (header.Message h) = false
-is_enum (header.Oneof h) = false
-is_enum (header.Service h) = false
-is_enum (header.Method s) = false
-is_enum (header.Extend e) = false
-
--- the blocks of a tree that are enums, in messages and outside them, in order
-abbrev pub enums_in : Tree → List BlockOf
-enums_in tree = filter (λ b. is_enum b.header) (blocks_in tree)
 
 -- the first enum among these blocks whose name is at the token, if there is one
 abbrev pub enum_among : List Lexeme → Bool → List BlockOf → ℕ → Option EnumOf

@@ -1,3 +1,4 @@
+pub mod Blocks
 pub mod Common
 pub mod Enums
 pub mod Meanings

@@ -6,10 +6,11 @@ ghost use Rattle.proto_tree.specs.File.{enum_item_tree, tree_of_file, trees};
 ghost use Rattle.proto_meaning.specs.Grown.{at};
 ghost use Rattle.proto_parts.specs.Parts.{BlockOf, blocks_in};
 ghost use Rattle.proto_parts.specs.Views.{enum_of};
-ghost use Rattle.proto_scenes.specs.Enums.{AreEnumsOf, IsEnumTable, enum_block, enum_in, enum_of_row};
+ghost use Rattle.proto_scenes.specs.Blocks.{block_of, enum_block};
+ghost use Rattle.proto_scenes.specs.Enums.{AreEnumsOf, IsEnumTable, enum_in, enum_of_row};
 ghost use Rattle.proto_scenes.specs.SceneOf.{enum_within, starts_past_zero};
 
-use crate::enum_blocks::enums_of;
+use crate::blocks::{BlockAt, blocks_of};
 use indexmap::IndexMap;
 use proto_faults::NoMemory;
 use proto_files::{Files, Words};
@@ -81,7 +82,7 @@ fn row<'a>(
 
 /// Adds an enum, where none has its token.
 #[tactic(auto, using(crate::proofs::EnumRows::row_kept, crate::proofs::EnumRows::row_added))]
-fn add<'a>(
+fn add_enum<'a>(
     alloc: Global,
     rows: &mut IndexMap<u32, EnumRow<'a>>,
     words: &Words<'a>,
@@ -98,6 +99,25 @@ fn add<'a>(
     Ok(())
 }
 
+/// Adds a block, if it is an enum.
+fn add<'a>(
+    alloc: Global,
+    rows: &mut IndexMap<u32, EnumRow<'a>>,
+    words: &Words<'a>,
+    is_proto3: bool,
+    block: BlockAt,
+) -> Result<(), NoMemory>
+    ensures { OnOk result ((blocks : List BlockOf) → AreEnumsOf words.now is_proto3 blocks rows.old
+        → AreEnumsOf words.now is_proto3 (blocks ++ block_of block.entry ∷ []) rows.new) }
+{
+    match block {
+        BlockAt::Enum(enumeration) => add_enum(alloc, rows, words, is_proto3, enumeration),
+        BlockAt::Message(_) => Ok(()),
+        BlockAt::Oneof(_) => Ok(()),
+        BlockAt::Extend(_) => Ok(()),
+    }
+}
+
 /// The enums of a file.
 #[tactic(auto, using(crate::proofs::EnumRows::rows_of_blocks, crate::proofs::EnumRows::no_rows))]
 fn file_enums<'a>(
@@ -109,10 +129,10 @@ fn file_enums<'a>(
     ensures { IfOk result (λ rows. AreEnumsOf words.now is_proto3
         (blocks_in (tree_of_file file.now)) rows) }
 {
-    let enums = enums_of(alloc, file)?;
+    let blocks = blocks_of(alloc, file)?;
     let mut rows = IndexMap::new(alloc);
-    for enumeration in &enums {
-        add(alloc, &mut rows, words, is_proto3, enumeration)?;
+    for block in &blocks {
+        add(alloc, &mut rows, words, is_proto3, *block)?;
     }
     Ok(rows)
 }

@@ -2,8 +2,9 @@
 //! reference means.
 #![tactic(auto)]
 
-mod enum_blocks;
+mod blocks;
 pub mod enum_table;
 pub mod scenes;
 
+pub use blocks::{BlockAt, blocks_of};
 pub use proto_names::Link;

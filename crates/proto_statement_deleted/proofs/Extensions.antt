@@ -30,15 +30,15 @@ Meant = Reference → Option (List (List ℕ))
 abbrev listed : Scene → Meant → Tree → List Saying
 listed scene name t = flat_map (block_says scene name) (blocks_in t)
 
-abbrev block_of : Header → Tree → BlockOf
-block_of h t = record { header = h; within = t }
+abbrev block_with : Header → Tree → BlockOf
+block_with h t = record { header = h; within = t }
 
 -- a block, what is in it and what is behind it
-parted : (scene : Scene) (name : Meant) (h : Header) (i : ℕ) (t : Tree) (j : ℕ) (rest : Tree) → listed scene name (Block h i t j rest) ≡ block_says scene name (block_of h t) ++ (listed scene name t ++ listed scene name rest)
-parted scene name h i t j rest = ap (λ (z : List Saying). block_says scene name (block_of h t) ++ z) (flat_map-append (block_says scene name) (blocks_in t) (blocks_in rest))
+parted : (scene : Scene) (name : Meant) (h : Header) (i : ℕ) (t : Tree) (j : ℕ) (rest : Tree) → listed scene name (Block h i t j rest) ≡ block_says scene name (block_with h t) ++ (listed scene name t ++ listed scene name rest)
+parted scene name h i t j rest = ap (λ (z : List Saying). block_says scene name (block_with h t) ++ z) (flat_map-append (block_says scene name) (blocks_in t) (blocks_in rest))
 
 module _ (g : Move) (a b : Scene) (is : IsMoved g a b) (was now : Meant) (same : (q : Reference) → now (move_reference g q) ≡ was q) where
-  joint : (h : Header) (i j : ℕ) (t x s rest : Tree) → block_says b now (block_of (move_header g h) t) ≡ block_says a was (block_of h x) → listed b now t ≡ listed a was x → listed b now s ≡ listed a was rest
+  joint : (h : Header) (i j : ℕ) (t x s rest : Tree) → block_says b now (block_with (move_header g h) t) ≡ block_says a was (block_with h x) → listed b now t ≡ listed a was x → listed b now s ≡ listed a was rest
       → listed b now (Block (move_header g h) (g i) t (g j) s) ≡ listed a was (Block h i x j rest)
   joint h i j t x s rest own inner behind =
       parted b now (move_header g h) (g i) t (g j) s
@@ -55,7 +55,7 @@ module _ (g : Move) (a b : Scene) (is : IsMoved g a b) (was now : Meant) (same :
   among f _ _ (Found rest) = in_moved rest
   among f _ _ (FurtherOn s x t at) = among f x t at
 
--- of the three trees: no message and no oneof says anything
+-- of the three trees: no message and no oneof says anything (the walk is that of `FoundBlocks`; here all blocks of a tree are joined, there the first that passes is read)
 module _ (g k : Move) (w : WrittenField) (r : Reservation) (middle old new : Scene) (is_old : IsMoved g middle old) (is_new : IsMoved k middle new) (name was now : Meant)
     (by_old : (q : Reference) → was (move_reference g q) ≡ name q) (by_new : (q : Reference) → now (move_reference k q) ≡ name q) where
   abbrev SayTheSame : Tree → Tree → Tree → Type 0

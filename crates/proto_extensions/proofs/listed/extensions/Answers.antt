@@ -3,8 +3,10 @@ use Rattle.proto_tree.specs.File.{tree_of_file}
 use Rattle.proto_tree.specs.Tree.{Tree}
 use Rattle.proto_files.proofs.Common.{same_tree}
 use Rattle.proto_parts.proofs.Common.{BlockOf, blocks_in, past}
-use Rattle.proto_extensions.specs.Common.{BlockAt, ExtensionOf, block_extensions, block_of, told}
-use Rattle.proto_extensions.proofs.ToldExtensions.{asked_alone, told_turn}
+use Rattle.proto_scenes.specs.Blocks.{block_of}
+use Rattle.proto_scenes.specs.declared.blocks.BlockAt.{BlockAt}
+use Rattle.proto_extensions.specs.Common.{block_extensions, told}
+use Rattle.proto_extensions.proofs.ToldExtensions.{from_holders, told_turn}
 use Rattle.proto_extensions.proofs.listed.extensions.Goals as goal
 
 pub loop-block-preserved : goal.loop-block-preserved
@@ -21,5 +23,5 @@ returns c = λ reads are.
     c.loop-block.invariant reads are
     ∙ ap (λ (bs : List BlockAt). map (told files reads) (flat_map E (map block_of bs))) whole
     ∙ ap (λ (bs : List BlockOf). map (told files reads) (flat_map E bs)) c.in_ok-blocks.ensures
-    ∙ ap (map (told files reads)) (asked_alone files reads c.args.file tree)
+    ∙ ap (map (told files reads)) (from_holders files reads c.args.file tree)
     ∙ ap (λ (t : Tree). map (told files reads) (flat_map E (blocks_in t))) (sym (same_tree files reads c.args.file tree are c.requires.file c.tree.ensures)))

@@ -1,7 +1,8 @@
 use Rattle.std.proofs.Common.{◌≡◌, List, Some, map, take, flat_map}
 use Rattle.proto_files.specs.FilesRead.{AreRead, ReadOf}
 use Rattle.proto_parts.specs.Numbers.{past}
-use Rattle.proto_extensions.specs.Common.{block_extensions, block_of, told, told_by}
+use Rattle.proto_scenes.specs.Blocks.{block_of}
+use Rattle.proto_extensions.specs.Common.{block_extensions, told, told_by}
 use Rattle.proto_extensions.proofs.listed.extensions.Given as goal
 
 abbrev pub invariant-loop-block : goal.invariant-loop-block

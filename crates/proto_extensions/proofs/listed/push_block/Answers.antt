@@ -1,6 +1,6 @@
 use Rattle.std.proofs.Common.{ap}
 use Rattle.proto_faults.proofs.Common.{on_ok_weaker}
-use Rattle.proto_extensions.specs.Common.{block_of}
+use Rattle.proto_scenes.specs.Blocks.{block_of}
 use Rattle.proto_extensions.proofs.ToldExtensions.{pushed_block}
 use Rattle.proto_extensions.proofs.listed.push_block.Goals as goal
 

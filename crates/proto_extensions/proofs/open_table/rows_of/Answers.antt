@@ -1,7 +1,8 @@
 use Rattle.std.proofs.Common.{List, map, ap, subst, ◌∙◌, arith, take_all}
 use Rattle.proto_tree.specs.File.{tree_of_file}
 use Rattle.proto_parts.specs.Parts.{BlockOf}
-use Rattle.proto_extensions.specs.Common.{AreRowsOf, block_of}
+use Rattle.proto_scenes.specs.Blocks.{block_of}
+use Rattle.proto_extensions.specs.Common.{AreRowsOf}
 use Rattle.proto_extensions.proofs.OpenRows.{rows_of_blocks}
 use Rattle.proto_extensions.proofs.open_table.rows_of.Goals as goal
 

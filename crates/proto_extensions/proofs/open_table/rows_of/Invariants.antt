@@ -1,5 +1,6 @@
 use Rattle.std.proofs.Common.{map, take}
-use Rattle.proto_extensions.specs.Common.{AreRowsOf, block_of}
+use Rattle.proto_scenes.specs.Blocks.{block_of}
+use Rattle.proto_extensions.specs.Common.{AreRowsOf}
 use Rattle.proto_extensions.proofs.open_table.rows_of.Given as goal
 
 abbrev pub invariant-loop-block : goal.invariant-loop-block

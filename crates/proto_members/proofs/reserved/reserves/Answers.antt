@@ -1,6 +1,6 @@
 use Rattle.std.proofs.Common.{sym, ap, ◌∙◌}
 use Rattle.proto_members.specs.Common.{block_of, reserves}
-use Rattle.proto_members.proofs.BlockTrees.{extend_reserves, oneof_reserves}
+use Rattle.proto_members.proofs.UnreservedBlocks.{extend_reserves, oneof_reserves}
 use Rattle.proto_members.proofs.reserved.reserves.Goals as goal
 
 pub returns-in-Oneof : goal.returns-in-Oneof

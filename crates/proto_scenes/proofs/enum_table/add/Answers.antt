@@ -1,11 +1,20 @@
-use Rattle.std.proofs.Common.{List, ap, ◌∙◌, arith}
-use Rattle.proto_tree.specs.declared.tree.EnumItem.{EnumItem}
-use Rattle.proto_tree.specs.File.{enum_item_tree, trees}
-use Rattle.proto_scenes.specs.SceneOf.{enum_within}
-use Rattle.proto_scenes.proofs.EnumRows.{row_added}
+use Rattle.std.proofs.Common.{[], ◌∷◌, ◌++◌, sym, ap, subst}
+use Rattle.proto_parts.specs.Parts.{BlockOf}
+use Rattle.proto_scenes.specs.Common.{AreEnumsOf, block_of}
+use Rattle.proto_scenes.proofs.EnumRows.{extend_added, message_added, oneof_added}
 use Rattle.proto_scenes.proofs.enum_table.add.Goals as goal
 
-pub returns-in_ok-insert : goal.returns-in_ok-insert
-returns-in_ok-insert c = λ blocks h.
-    row_added c.args.words.now c.args.is_proto3 blocks c.args.enumeration.now c.args.rows.now c.insert.new.self c.in_ok-row.row (grind (arith, c.contains_key.ensures, c.if-not-contains_key.true)) c.in_ok-insert.ensures.updates.0
-    (c.in_ok-row.ensures ∙ ap (λ (items : List EnumItem). enum_within c.args.words.now c.args.is_proto3 (trees enum_item_tree items)) c.deref.ensures.value) h
+pub returns-in-Message : goal.returns-in-Message
+returns-in-Message c = λ blocks h.
+    subst (λ (b : BlockOf). AreEnumsOf c.args.words.now c.args.is_proto3 (blocks ++ b ∷ []) c.args.rows.now) (sym (ap block_of c.in-Message.is))
+    (message_added c.args.words.now c.args.is_proto3 blocks c.in-Message.field-0.now c.args.rows.now h)
+
+pub returns-in-Oneof : goal.returns-in-Oneof
+returns-in-Oneof c = λ blocks h.
+    subst (λ (b : BlockOf). AreEnumsOf c.args.words.now c.args.is_proto3 (blocks ++ b ∷ []) c.args.rows.now) (sym (ap block_of c.in-Oneof.is))
+    (oneof_added c.args.words.now c.args.is_proto3 blocks c.in-Oneof.field-0.now c.args.rows.now h)
+
+pub returns-in-Extend : goal.returns-in-Extend
+returns-in-Extend c = λ blocks h.
+    subst (λ (b : BlockOf). AreEnumsOf c.args.words.now c.args.is_proto3 (blocks ++ b ∷ []) c.args.rows.now) (sym (ap block_of c.in-Extend.is))
+    (extend_added c.args.words.now c.args.is_proto3 blocks c.in-Extend.field-0.now c.args.rows.now h)

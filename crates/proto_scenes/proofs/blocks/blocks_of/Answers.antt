@@ -1,9 +1,9 @@
 use Rattle.std.proofs.Common.{refl, ap, ◌∙◌, arith}
 use Rattle.proto_tree.specs.File.{item_tree, trees}
 use Rattle.proto_parts.proofs.ItemBlocks.{wanted_turn}
-use Rattle.proto_members.specs.Blocks.{holders_in, may_hold}
+use Rattle.proto_scenes.specs.Blocks.{holders_in, may_hold}
 use Rattle.proto_faults.proofs.Turns.{all_listed}
-use Rattle.proto_members.proofs.blocks.blocks_of.Goals as goal
+use Rattle.proto_scenes.proofs.blocks.blocks_of.Goals as goal
 
 pub loop-item-preserved : goal.loop-item-preserved
 loop-item-preserved c = wanted_turn may_hold item_tree c.deref-item-items.result.now c.loop-item.item-index c.item-item.result _ _ _ c.loop-item-test.true c.item-item.is c.in_ok-push_item.ensures c.loop-item.invariant

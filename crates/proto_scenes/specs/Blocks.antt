@@ -4,15 +4,15 @@ use Rattle.std.specs.List.{filter}
 use Rattle.proto_tree.specs.declared.piece.Header.{Header}
 use Rattle.proto_tree.specs.declared.piece.Header.TheVariants as header
 use Rattle.proto_tree.specs.declared.tree.Block.{Block as Braced}
+use Rattle.proto_tree.specs.declared.tree.EnumItem.{EnumItem}
 use Rattle.proto_tree.specs.declared.tree.Extend.{Extend}
 use Rattle.proto_tree.specs.declared.tree.Field.{Field}
 use Rattle.proto_tree.specs.declared.tree.Member.{Member}
-use Rattle.proto_tree.specs.File.{extension_tree, field_tree, member_tree, trees}
+use Rattle.proto_tree.specs.File.{enum_item_tree, extension_tree, field_tree, member_tree, trees}
 use Rattle.proto_tree.specs.Tree.{Tree}
 use Rattle.proto_parts.specs.Parts.{BlockOf, blocks_in}
-use Rattle.proto_captures.specs.Enums.{enum_block}
-use Rattle.proto_members.specs.declared.blocks.BlockAt.{BlockAt}
-use Rattle.proto_members.specs.declared.blocks.BlockAt.TheVariants as block_at
+use Rattle.proto_scenes.specs.declared.blocks.BlockAt.{BlockAt}
+use Rattle.proto_scenes.specs.declared.blocks.BlockAt.TheVariants as block_at
 
 -- a message, a oneof, an enum or an `extend`; no other block has fields or values
 abbrev pub may_hold : Header → Bool
@@ -39,6 +39,13 @@ abbrev pub oneof_block : Braced Field → BlockOf
 oneof_block o = record {
   header = header.Oneof (record { keyword = o.keyword; name = o.name });
   within = trees field_tree o.members.items;
+}
+
+-- an enum as a block
+abbrev pub enum_block : Braced EnumItem → BlockOf
+enum_block e = record {
+  header = header.Enum (record { keyword = e.keyword; name = e.name });
+  within = trees enum_item_tree e.members.items;
 }
 
 -- an `extend` as a block

@@ -2,7 +2,7 @@
 
 ghost use Rattle.std.specs.Prelude.{◌≡◌, ◌++◌, map, IfOk, OnOk};
 ghost use Rattle.proto_tree.specs.File.{item_tree, member_tree, message_tree, tree_of_file, trees};
-ghost use Rattle.proto_members.specs.Blocks.{block_of, holders_in};
+ghost use Rattle.proto_scenes.specs.Blocks.{block_of, holders_in};
 
 use proto_faults::NoMemory;
 use proto_tree::{Enum, Extend, File, Item, Member, Message, Oneof};
@@ -54,6 +54,7 @@ fn push_member<'a>(found: &mut Vec<BlockAt<'a>>, member: &'a Member) -> Result<(
     Ok(())
 }
 
+// As `push_member`: what stands in a file is a type of its own.
 #[tactic(auto, using(crate::proofs::BlockTrees::enum_alone, crate::proofs::BlockTrees::extend_alone, crate::proofs::BlockTrees::no_holders))]
 fn push_item<'a>(found: &mut Vec<BlockAt<'a>>, item: &'a Item) -> Result<(), NoMemory>
     ensures { OnOk result (map block_of found.new.items

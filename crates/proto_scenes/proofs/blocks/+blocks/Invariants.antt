@@ -1,7 +1,7 @@
 use Rattle.std.proofs.Common.{◌≡◌, ◌+◌, ◌*◌, ◌++◌, map, drop}
 use Rattle.proto_tree.specs.File.{trees, member_tree}
-use Rattle.proto_members.specs.Blocks.{block_of, holders_in}
-use Rattle.proto_members.proofs.blocks.+blocks.Given as goal
+use Rattle.proto_scenes.specs.Blocks.{block_of, holders_in}
+use Rattle.proto_scenes.proofs.blocks.+blocks.Given as goal
 
 abbrev pub invariant-push_members-loop-member : goal.invariant-push_members-loop-member
 invariant-push_members-loop-member l = map block_of l.found.items ++ holders_in (trees member_tree (drop l.member-index l.members)) ≡ map block_of l.fn.found.items ++ holders_in (trees member_tree l.members)
