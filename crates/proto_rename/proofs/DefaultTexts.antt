@@ -1,6 +1,6 @@
 -- Defaults that mean a value, told by the texts of a link.
-use Rattle.std.proofs.Common.{◌≡◌, ℕ, ◌+◌, ◌<◌, ◌==◌, ◌&&◌, Bool, true, false, cond, if◌then◌else◌, List, [], ◌∷◌, ◌++◌, length, map, get_or, drop, flat_map, Option, Some, None, option_map, refl, sym, ap, subst, ◌∙◌, inl, inr, find, option_and_then, bytes_eq, true≢false}
-use Rattle.proto_faults.proofs.Common.{cases_Bool, none-some, flat_map-append, fails_from, same_from_word, word_from_same, listed_turn}
+use Rattle.std.proofs.Common.{◌≡◌, ℕ, ◌+◌, ◌<◌, ◌==◌, ◌&&◌, Bool, true, false, cond, if◌then◌else◌, List, [], ◌∷◌, ◌++◌, length, map, get_or, drop, flat_map, Option, Some, None, option_map, refl, sym, ap, subst, ◌∙◌, inl, inr, find, option_and_then, bytes_eq, true≢false, filter}
+use Rattle.proto_faults.proofs.Common.{cases_Bool, none-some, flat_map-append, fails_from, same_from_word, word_from_same, listed_turn, any_from, list_any}
 use Rattle.proto_text.proofs.Common.{word_at, Lexeme}
 use Rattle.proto_tree.specs.declared.piece.Header.{Header}
 use Rattle.proto_tree.specs.declared.piece.Header.TheVariants as header
@@ -13,7 +13,7 @@ use Rattle.proto_imports.proofs.Common.{names_of_files, text_of, used_named, use
 use Rattle.proto_names.proofs.Common.{IsLinkRead, TextMeant, meant_by_link, meant_by_use, LinkOf, row_at, name_text}
 use Rattle.proto_names.specs.declared.references.Meant.{Meant}
 use Rattle.proto_parts.proofs.Common.{BlockOf, FieldOf, blocks_in, Scene, text}
-use Rattle.proto_rename_laws.proofs.Common.{meaning_of, default_words, fields_of_block, fields_of_file, meaning_from, means_value, renamed_default, type_meaning}
+use Rattle.proto_rename_laws.proofs.Common.{meaning_of, default_words, fields_of_block, fields_of_file, meaning_from, means_value, renamed_default, type_meaning, find_there}
 use Rattle.proto_members.proofs.Common.{given_by_holders, holders_in, may_hold, IsReadAs}
 use Rattle.proto_rename.specs.Defaults.{defaults_in, defaults_of, is_found_name, spelled, type_means}
 
@@ -43,6 +43,28 @@ no_fields : (h : Header) (within : Tree) → may_hold h ≡ false → fields_of_
 no_fields (header.Message h) within e = absurd cc
 no_fields (header.Extend x) within e = absurd cc
 no_fields whole within e = refl
+
+-- ---- references that do not mean the enum
+
+module _ (l : LinkOf) (file : ℕ) (name : List ℕ) (none : list_any (λ (m : Meant). is_found_name name (name_text l m.row)) (get_or l.meant file []) ≡ false) where
+  -- then no type does
+  no_type : (kind : FieldType) → type_means l file name kind ≡ false
+  no_type (field_type.Scalar t) = refl
+  no_type (field_type.Reference r) = go (find (λ (m : Meant). m.token == first_of r.dot r.words) (get_or l.meant file [])) refl
+    where
+      go : (o : Option Meant) → find (λ (m : Meant). m.token == first_of r.dot r.words) (get_or l.meant file []) ≡ o
+          → is_found_name name (option_and_then (name_text l) (option_map (λ (m : Meant). m.row) o)) ≡ false
+      go None e = refl
+      go (Some m) e =
+          let c = find_there (λ (x : Meant). x.token == first_of r.dot r.words) (get_or l.meant file []) m e in
+          fails_from (is_found_name name (name_text l m.row)) (λ t. true≢false (sym (any_from (λ (x : Meant). is_found_name name (name_text l x.row)) (get_or l.meant file []) m c.0 t) ∙ none))
+
+  -- and no field has a default that does
+  pub no_defaults : (text : ℕ → List ℕ) (old : List ℕ) (bs : List BlockOf) → flat_map (defaults_in text (type_means l file name) old) bs ≡ []
+  no_defaults text old bs =
+      flat_agree (defaults_in text (type_means l file name) old) (λ b. []) bs
+      (λ b. flat_agree (defaults_of text (type_means l file name) old) (λ f. []) (fields_of_block b.header b.within) (λ f. ap (λ t. if t then spelled text old (default_words text f) else []) (no_type f.kind)) ∙ flat_none (fields_of_block b.header b.within))
+      ∙ flat_none bs
 
 -- ---- names by their texts
 

@@ -24,6 +24,11 @@ as_many (suc n) = ap suc (as_many n)
 abbrev pub chosen : List Token → List ℕ → List Token
 chosen tokens places = marked_tokens tokens (marked_from (replicate (length tokens) false) places)
 
+-- at no places none
+pub none_chosen : (tokens : List Token) → chosen tokens [] ≡ []
+none_chosen [] = refl
+none_chosen (t ∷ ts) = none_chosen ts
+
 pub marks_are_as_many : (tokens : List Token) (places : List ℕ) → length (marked_from (replicate (length tokens) false) places) ≡ length tokens
 marks_are_as_many tokens places = marked_length (replicate (length tokens) false) places ∙ as_many (length tokens)
 

@@ -1,6 +1,6 @@
 -- The words that stand for a target, by counting, are those by the front at the hit.
-use Rattle.std.proofs.Common.{◌≡◌, ◌≢◌, ◌↔◌, ℕ, ◌+◌, ◌<◌, true, List, [], ◌∷◌, ◌++◌, length, get_or, map, option_map, flat_map, Option, Some, None, refl, sym, ap, subst, ◌∙◌, inl, inr, arith, append_assoc, length-append, if◌then◌else◌, option_to_list, Contains, option_and_then, append-nil}
-use Rattle.proto_faults.proofs.Common.{length-map, Contains-append_left, Contains-append_right, Contains-append_cases, contains_cases, contains_head, contains_later, contains_map}
+use Rattle.std.proofs.Common.{◌≡◌, ◌≢◌, ◌↔◌, ℕ, ◌+◌, ◌<◌, true, false, is_some, List, [], ◌∷◌, ◌++◌, length, get_or, map, option_map, flat_map, Option, Some, None, refl, sym, ap, subst, ◌∙◌, inl, inr, arith, append_assoc, length-append, if◌then◌else◌, option_to_list, Contains, option_and_then, append-nil}
+use Rattle.proto_faults.proofs.Common.{any_from, both_ways, from_map, list_any, length-map, Contains-append_left, Contains-append_right, Contains-append_cases, contains_cases, contains_head, contains_later, contains_map}
 use Rattle.proto_case.specs.Camel.{entry_name}
 use Rattle.proto_tree.proofs.Common.{dotted, Reads, Tree}
 use Rattle.proto_files.proofs.Common.{HasNoFault, FileOf, file_at, ReadOf, AreRead, read_at, one_reading}
@@ -11,7 +11,7 @@ use Rattle.proto_imports.proofs.Common.{LinkFaults, link_skeleton, names_in, nam
 use Rattle.proto_names.proofs.Common.{from_use, use_there, IsLinkRead, TextMeant, meant_by_link, meant_by_use, LinkOf, name_text}
 use Rattle.proto_names.specs.declared.references.Meant.{Meant}
 use Rattle.proto_rename_laws.proofs.Common.{front_of, standing, stands, Target, IsNamed, name_map, files_are_linked, from_flat_map, stands_at, to_flat_map, meaning_parts}
-use Rattle.proto_rename.specs.StandingTokens.{counted, from_end, standing_tokens, words_behind}
+use Rattle.proto_rename.specs.StandingTokens.{counted, from_end, goes_on, standing_tokens, words_behind}
 use Rattle.proto_rename.proofs.EndTokens.{cons_parts, end_split, is_listed, listed_is, same_fronts, split_end, split_map}
 use Rattle.proto_rename.proofs.NameTexts.{behind_is, is_behind}
 
@@ -172,6 +172,23 @@ module _ (files : List FileOf) (reads : List ReadOf) (are : AreRead files reads)
         let own : v.0 ≡ file = omega (arith, same) in
         (v.1, subst (λ (z : ℕ). Contains (uses_of reads z) v.1) own v.3, subst (λ (z : ℕ). Contains (standing text k e (used_in z v.1)) (at file i)) same c1)
 
+    -- where no reference means what goes on from the name, none of them stands for it
+    nothing_stands : list_any (λ (m : Meant). goes_on l name m.row) (get_or l.meant file []) ≡ false → (i : ℕ) → Contains (flat_map (standing text k e) k.used) (at file i) → ⊥
+    nothing_stands none i c =
+        let f = of_file i c in
+        let x = means f.0 f.1 in
+        let here = one_back f.0 x.0 x.1 x.2 i f.2 in
+        let ms = get_or l.meant file [] in
+        let there = subst (λ z. Contains z (meant_by_use files reads file f.0)) (sym (link.means file within).texts) (contains_map (meant_by_use files reads file) (uses_of reads file) f.0 f.1) in
+        let m = from_map (meant_by_link l) ms (meant_by_use files reads file f.0) there in
+        let said : name_text l m.0.row ≡ Some (joined x.0) = ap (λ (z : TextMeant). z.text) m.2 ∙ ap (option_map joined) x.1 in
+        by (joined x.0) f.0.tokens (words_behind name (joined x.0)) refl here (λ n q. both_ways (list_any (λ (z : Meant). goes_on l name z.row) ms) none
+        (any_from (λ (z : Meant). goes_on l name z.row) ms m.0 m.1 (ap (λ (o : Option (List ℕ)). is_some (option_and_then (words_behind name) o)) said ∙ ap is_some q)))
+      where
+        by : (text tokens : List ℕ) (o : Option ℕ) → words_behind name text ≡ o → Contains (option_to_list (option_and_then (λ n. from_end n tokens) o)) i → ((n : ℕ) → words_behind name text ≡ Some n → ⊥) → ⊥
+        by text tokens None q c h = absurd (omega (arith, c.1))
+        by text tokens (Some n) q c h = h n q
+
     all_standing : (us : List Use) → map (used_by ds) us ≡ uses_of reads file → (i : ℕ) → Contains (standing_tokens l name us (get_or l.meant file [])) i ↔ Contains (flat_map (standing text k e) k.used) (at file i)
     all_standing us is i =
         let ok : (u : Use) → Contains us u → Contains (uses_of reads file) (used_by ds u) = λ u c. subst (λ z. Contains z (used_by ds u)) is (contains_map (used_by ds) us u c) in
@@ -193,3 +210,7 @@ meant_are_as_many files reads l link file within =
 pub counted_are_standing : (files : List FileOf) (reads : List ReadOf) (are : AreRead files reads) (clean : HasNoFault (LinkFaults files)) (l : LinkOf) (link : IsLinkRead files reads l) (name to : List ℕ) (t : Target) (named : IsNamed files reads name t) (file : ℕ) (within : file < length files)
     (ds : List Placed) (us : List Use) → map (used_by ds) us ≡ uses_of reads file → (i : ℕ) → Contains (standing_tokens l name us (get_or l.meant file [])) i ↔ Contains (flat_map (standing (text_of files reads) (link_skeleton files reads) (name_map files reads t to)) (link_skeleton files reads).used) (at file i)
 counted_are_standing files reads are clean l link name to t named file within ds us is i = all_standing files reads are clean l link name to t named file within ds us is i
+
+pub none_goes_on : (files : List FileOf) (reads : List ReadOf) (are : AreRead files reads) (clean : HasNoFault (LinkFaults files)) (l : LinkOf) (link : IsLinkRead files reads l) (name to : List ℕ) (t : Target) (named : IsNamed files reads name t) (file : ℕ) (within : file < length files)
+    (ds : List Placed) → list_any (λ (m : Meant). goes_on l name m.row) (get_or l.meant file []) ≡ false → (i : ℕ) → Contains (flat_map (standing (text_of files reads) (link_skeleton files reads) (name_map files reads t to)) (link_skeleton files reads).used) (at file i) → ⊥
+none_goes_on files reads are clean l link name to t named file within ds none i c = nothing_stands files reads are clean l link name to t named file within ds none i c

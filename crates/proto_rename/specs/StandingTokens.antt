@@ -1,5 +1,5 @@
 -- The tokens of a file's references that stand for what a rename aims at.
-use Rattle.std.specs.Prelude.{◌↔◌, ℕ, ◌+◌, ◌==◌, if◌then◌else◌, List, [], ◌∷◌, ◌++◌, length, flat_map, Option, Some, None, option_to_list}
+use Rattle.std.specs.Prelude.{◌↔◌, ℕ, ◌+◌, Bool, ◌==◌, if◌then◌else◌, List, [], ◌∷◌, ◌++◌, length, flat_map, Option, Some, None, is_some, option_to_list}
 use Rattle.std.specs.List.{Contains}
 use Rattle.std.specs.Option.{option_and_then}
 use Rattle.proto_faults.specs.Ascii as ascii
@@ -52,6 +52,14 @@ words_in (b ∷ rest) = if b == ascii.dot then Some (points (b ∷ rest)) else N
 -- the front and does not go on from it
 abbrev pub words_behind : Text → Text → Option ℕ
 words_behind front name = option_and_then words_in (behind front name)
+
+-- how many words the name in this row of a link has behind this one
+abbrev pub words_after : LinkOf → Text → ℕ → Option ℕ
+words_after l name row = option_and_then (words_behind name) (name_text l row)
+
+-- the name in this row is this one, or goes on from it
+abbrev pub goes_on : LinkOf → Text → ℕ → Bool
+goes_on l name row = is_some (words_after l name row)
 
 -- ---- tokens by the words behind them
 

@@ -60,6 +60,10 @@ pub(crate) fn change_of_file(
     let source = files.source(place);
     let before = source.as_bytes().len() as u32;
     let tokens = files.tokens(place);
+    // Most files have none: their tokens are neither marked nor gone through.
+    if places.is_empty() {
+        return Ok(None);
+    }
     let found = marked_at(alloc, tokens, places)?;
     let changed = found.as_slice();
     if changed.is_empty() {

@@ -1,6 +1,7 @@
 //! Defaults that mean a value of an enum.
 
 ghost use Rattle.std.specs.Prelude.{◌≡◌, ◌<◌, ◌++◌, ℕ, List, [], Some, flat_map, map, length, option_to_list, if◌then◌else◌, codes, IfOk, OnOk};
+ghost use Rattle.std.specs.List.{list_any};
 ghost use Rattle.proto_tree.specs.declared.tree.FieldType.TheVariants as field_type;
 ghost use Rattle.proto_files.specs.FilesRead.{AreRead, ReadOf, read_at};
 ghost use Rattle.proto_meaning.specs.Joined.{ArePlain, joined};
@@ -17,7 +18,7 @@ ghost use Rattle.proto_rename.specs.Defaults.{asked_defaults, asked_type, defaul
 use proto_faults::NoMemory;
 use proto_files::Files;
 use proto_members::{BlockAt, blocks_of, scene};
-use proto_names::{Link, SymbolId};
+use proto_names::{Link, Meant, SymbolId};
 use proto_parts::{FieldAt, OptionAt, Scene, extension_fields, fields_of, options_between};
 use proto_tree::{Constant, FieldType, Reference};
 use std::alloc::Global;
@@ -41,6 +42,13 @@ fn has_name(link: &Link, id: SymbolId, name: &str) -> bool
         Some(text) => text == name,
         None => false,
     }
+}
+
+/// Whether one of these means the name.
+fn one_means(link: &Link, name: &str, meant: &[Meant]) -> bool
+    ensures { result ≡ list_any (λ m. is_found_name name.now (name_text link.now m.row)) meant.now }
+{
+    meant.iter().any(|m| has_name(link, m.symbol(), name))
 }
 
 /// Whether the reference with this first token means the name.
@@ -226,7 +234,12 @@ pub(crate) fn renamed_defaults_in<'a>(
         (fields_of_file (read_at reads file).tree)) }
 {
     let scene = scene(alloc, files, file);
-    let blocks = blocks_of(alloc, files.tree(file as usize))?;
+    let tree = files.tree(file as usize);
+    // Most files do not use the enum: their fields are not gone through.
+    if !one_means(link, enum_name, link.meant_in(file)) {
+        return Ok(Vec::new(alloc));
+    }
+    let blocks = blocks_of(alloc, tree)?;
     let asked = Asked {
         link,
         file,

@@ -1,14 +1,14 @@
 //! The tokens of references that stand for what a rename aims at.
 
 ghost use Rattle.std.specs.Prelude.{◌≡◌, ◌==◌, ◌<◌, ◌++◌, length, IfOk, OnOk, option_to_list};
-ghost use Rattle.std.specs.List.{count_by};
+ghost use Rattle.std.specs.List.{count_by, list_any};
 ghost use Rattle.proto_faults.specs.Ascii as ascii;
 ghost use Rattle.proto_tree.specs.References.{dotted};
 ghost use Rattle.proto_files.specs.Faults.{HasNoFault};
 ghost use Rattle.proto_imports.specs.Links.{LinkFaults};
 ghost use Rattle.proto_names.specs.Linking.{name_text};
 ghost use Rattle.proto_names.specs.LinkOfFiles.{IsLinkOf};
-ghost use Rattle.proto_rename.specs.StandingTokens.{IsStandingIn, words_in, words_behind, from_end, counted, standing_tokens};
+ghost use Rattle.proto_rename.specs.StandingTokens.{IsStandingIn, goes_on, words_after, words_in, words_behind, from_end, counted, standing_tokens};
 
 use proto_captures::Aim;
 use proto_faults::NoMemory;
@@ -38,9 +38,21 @@ pub(crate) fn standing_in(
     if !aim.kind.is_outer() {
         return Ok(Vec::new(alloc));
     }
+    // Nor is a file listed whose references mean nothing of it: most are such.
+    let meant = link.meant_in(file);
+    if !one_goes_on(link, aim.name, meant) {
+        return Ok(Vec::new(alloc));
+    }
     are_read(files);
     let listing = list_file(alloc, files.tree(file as usize))?;
-    standing_words(alloc, link, aim.name, &listing.used, link.meant_in(file))
+    standing_words(alloc, link, aim.name, &listing.used, meant)
+}
+
+/// Whether one of these means the name, or one that goes on from it.
+fn one_goes_on(link: &Link, name: &str, meant: &[Meant]) -> bool
+    ensures { result ≡ list_any (λ m. goes_on link.now name.now m.row) meant.now }
+{
+    meant.iter().any(|m| words_after(link, name, *m).is_some())
 }
 
 /// The words of references that stand for the name; the references come with what each means.
@@ -76,9 +88,17 @@ fn push_some(found: &mut Vec<u32>, token: Option<u32>) -> Result<(), NoMemory>
 fn standing_word(link: &Link, name: &str, words: &Dotted, meant: Meant) -> Option<u32>
     ensures { result ≡ counted name.now (dotted words.now) (name_text link.now meant.row) }
 {
-    let text = link.name_of(meant.symbol())?;
-    let behind = words_behind(name.as_bytes(), text.as_bytes())?;
+    let behind = words_after(link, name, meant)?;
     from_end(words, behind)
+}
+
+/// How many words what is meant has behind the name; none where it is not the name and does not go
+/// on from it.
+fn words_after(link: &Link, name: &str, meant: Meant) -> Option<usize>
+    ensures { result ≡ words_after link.now name.now meant.row }
+{
+    let text = link.name_of(meant.symbol())?;
+    words_behind(name.as_bytes(), text.as_bytes())
 }
 
 /// How many words a name has behind a front; none where it does not go on from it and is not it.

@@ -14,6 +14,7 @@ mod MoreOrLess
 mod NamedImports
 mod Needed
 mod NoImportFault
+mod SeenMore
 mod SeenThen
 mod Spliced
 mod StandsParts

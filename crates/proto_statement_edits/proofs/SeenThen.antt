@@ -1,13 +1,13 @@
--- What files see with other imports.
-use Rattle.std.proofs.Common.{◌≡◌, ◌↔◌, ℕ, ◌<◌, Bool, false, List, [], ◌∷◌, ◌++◌, length, get_or, map, filter, not, ◌==◌, refl, sym, ap, subst, ◌∙◌, arith, slice_set, Result, Ok, Err, IfOk, Contains, length-set}
+-- What files see with an import less.
+use Rattle.std.proofs.Common.{◌≡◌, ◌↔◌, ℕ, ◌<◌, Bool, List, [], length, get_or, map, filter, not, ◌==◌, refl, sym, ap, subst, ◌∙◌, arith, slice_set, Result, Ok, Err, IfOk, Contains, length-set}
 use Rattle.proto_faults.proofs.Common.{Vec, length-map, map-set}
 use Rattle.proto_files.proofs.Common.{ReadOf, AreRead, FileOf}
-use Rattle.proto_imports.proofs.Common.{all_imports, import_from, link_imports, names_in, names_of_files}
+use Rattle.proto_imports.proofs.Common.{all_imports, names_in, names_of_files}
 use Rattle.proto_imports.specs.declared.import.FileImport.{FileImport}
-use Rattle.proto_meaning.proofs.Common.{import_of, with_imports, MarksSeen, Import, Workspace}
-use Rattle.proto_statement_names.proofs.Common.{IsPlaceOf, with_added, with_dropped, same_marks}
+use Rattle.proto_meaning.proofs.Common.{with_imports, MarksSeen, Import, Workspace}
+use Rattle.proto_statement_names.proofs.Common.{IsPlaceOf, with_dropped, same_marks}
 use Rattle.proto_statement_edits.specs.Steps.{AreImportsOf, AreSeenIn}
-use Rattle.proto_statement_edits.proofs.MoreOrLess.{one_less, one_more}
+use Rattle.proto_statement_edits.proofs.MoreOrLess.{one_less}
 
 pub if_both : {A E : Type 0} {P Q R : A → Type 0} (r : Result A E) → IfOk r P → IfOk r Q → ((x : A) → P x → Q x → R x) → IfOk r R
 if_both (Ok x) p q f = f x p q
@@ -40,16 +40,6 @@ module _ (files : List FileOf) (reads : List ReadOf) (are : AreRead files reads)
       λ f l. same_marks (names_of_files files reads) (all_imports 0 (lists_of after)) others same f (get_or (map (λ v. v.items) seen) f [])
           (exact (with_imports (names_of_files files reads) (all_imports 0 (lists_of after))) (files_are ∙ sym long) refl f (subst (λ n. f < n) (sym long) l)),
     )
-
-    pub seen_more : (to : ℕ) (new : FileImport) → new ≡ (let i : FileImport = record { to = to; is_public = false } in i) → now.items ≡ get_or (lists_of items) file [] ++ new ∷ [] → AreSeenIn files (with_added files reads file to) seen
-    seen_more to new is pushed = seen_by (link_imports files reads ++ import_of file to ∷ []) same
-      where
-        same : (i : Import) → Contains (all_imports 0 (lists_of after)) i ↔ Contains (link_imports files reads ++ import_of file to ∷ []) i
-        same i =
-            subst (λ z. Contains (all_imports 0 z) i ↔ Contains (link_imports files reads ++ import_of file to ∷ []) i) (sym (lists ∙ ap (slice_set (lists_of items) file) pushed))
-            (subst (λ z. Contains (all_imports 0 (slice_set (lists_of items) file (get_or (lists_of items) file [] ++ new ∷ []))) i ↔ Contains (z ++ import_of file to ∷ []) i) (imports.are reads are)
-            (subst (λ z. Contains (all_imports 0 (slice_set (lists_of items) file (get_or (lists_of items) file [] ++ new ∷ []))) i ↔ Contains (all_imports 0 (lists_of items) ++ z ∷ []) i) (ap (import_from file) is)
-            (one_more (lists_of items) file new listed i)))
 
     pub seen_less : (to : ℕ) (path : List ℕ) → IsPlaceOf files path to → now.items ≡ filter (λ x. not (x.to == to)) (get_or (lists_of items) file []) → AreSeenIn files (with_dropped files reads file path) seen
     seen_less to path place left = seen_by (with_dropped files reads file path).imports same

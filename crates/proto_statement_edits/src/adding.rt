@@ -11,18 +11,21 @@ ghost use Rattle.proto_statement_names.specs.Cases.{IsPlaceOf};
 ghost use Rattle.proto_statement_laws.specs.Imports.{added_text};
 ghost use Rattle.proto_statement_edits.specs.ImportPlaces.{place_behind};
 ghost use Rattle.proto_statement_edits.specs.Spliced.{IsChangeOfAddition};
+ghost use Rattle.proto_statement_edits.specs.Steps.{AreImportsOf};
 
 use crate::import_places::end_before_import;
 use crate::imported::import_named;
-use crate::imports::seen_with;
+use crate::imports::linked_imports;
 use crate::leading::leads;
 use crate::only::only;
 use crate::paths::Paths;
+use crate::seeing::seen_with;
 use crate::splicing::splice_change;
 use proto_captures::{captured_refusal, first_overtaken};
 use proto_entries::{Change, Refusal};
 use proto_faults::NoMemory;
 use proto_files::{Files, are_read, file_named};
+use proto_imports::import::FileImport;
 use proto_names::Link;
 use proto_statement_laws::laws::additions_are_read;
 use proto_text::Span;
@@ -33,12 +36,14 @@ fn check_captured(
     alloc: Global,
     files: &Files,
     link: &Link,
+    imports: &[Vec<FileImport>],
     paths: Paths,
     file: u32,
     to: u32,
 ) -> Result<(), Refusal>
     requires link { IsLinkOf files.now link.now }
     requires linked { HasNoFault (LinkFaults files.now) }
+    requires imports { AreImportsOf files.now imports.now }
     requires file { IsPlaceOf files.now paths.file.now file }
     requires to { IsPlaceOf files.now paths.path.now to }
     ensures free { IfOk result (λ _. (n : ℕ)
@@ -47,16 +52,23 @@ fn check_captured(
         (IsAdditionRefusal files.now paths.entry.file.now paths.entry.path.now) }
 {
     are_read(files);
-    let seen = seen_with(alloc, files, file, to)?;
-    match first_overtaken(alloc, files, link, file, &seen[file as usize])? {
+    let seen = seen_with(alloc, imports, file, to)?;
+    match first_overtaken(alloc, files, link, file, &seen)? {
         None => Ok(()),
         Some(token) => Err(captured_refusal(alloc, files, file, token)?),
     }
 }
 
 /// Cases 12 and 14: the file does not import the path, which does not lead to it.
-fn check_new(alloc: Global, files: &Files, paths: Paths, file: u32, to: u32) -> Result<(), Refusal>
-    requires linked { HasNoFault (LinkFaults files.now) }
+fn check_new(
+    alloc: Global,
+    files: &Files,
+    imports: &[Vec<FileImport>],
+    paths: Paths,
+    file: u32,
+    to: u32,
+) -> Result<(), Refusal>
+    requires imports { AreImportsOf files.now imports.now }
     requires file { IsPlaceOf files.now paths.file.now file }
     requires to { IsPlaceOf files.now paths.path.now to }
     requires before { (n : ℕ) → n < 11 → IsAdditionCase files.now paths.file.now paths.path.now n
@@ -70,7 +82,7 @@ fn check_new(alloc: Global, files: &Files, paths: Paths, file: u32, to: u32) -> 
     if import_named(files, file, paths.path).is_some() {
         return Err(Refusal::AlreadyImported);
     }
-    if leads(alloc, files, to, file)? {
+    if leads(alloc, imports, to, file)? {
         return Err(Refusal::Cycle);
     }
     Ok(())
@@ -167,7 +179,8 @@ pub fn add_import(
         return Err(Refusal::UnknownFile);
     };
     let (from, to) = (from as u32, to as u32);
-    check_captured(alloc, files, link, paths, from, to)?;
-    check_new(alloc, files, paths, from, to)?;
+    let imports = linked_imports(alloc, files)?;
+    check_captured(alloc, files, link, &imports, paths, from, to)?;
+    check_new(alloc, files, &imports, paths, from, to)?;
     changes_of_addition(alloc, files, paths, from)
 }

@@ -1,11 +1,11 @@
-//! The imports of linked files, with one more or one less, and what is seen then.
+//! The imports of linked files, and what is seen with one less.
 
 ghost use Rattle.std.specs.Prelude.{◌≡◌, ◌<◌, ℕ, List, length, filter, not, ◌==◌, IfOk};
 ghost use Rattle.proto_files.specs.Faults.{HasNoFault};
 ghost use Rattle.proto_files.specs.FilesRead.{ReadOf, AreRead};
 ghost use Rattle.proto_imports.specs.Links.{LinkFaults};
 ghost use Rattle.proto_statement_edits.specs.Steps.{AreImportsOf, AreSeenIn};
-ghost use Rattle.proto_statement_names.specs.Cases.{IsPlaceOf, with_added, with_dropped};
+ghost use Rattle.proto_statement_names.specs.Cases.{IsPlaceOf, with_dropped};
 
 use proto_faults::NoMemory;
 use proto_files::{Files, all_paths, are_read};
@@ -30,27 +30,6 @@ pub(crate) fn linked_imports(alloc: Global, files: &Files) -> Result<Vec<Vec<Fil
         Err(ImportError::Fault(_)) => unreachable!(),
         Err(ImportError::NoMemory) => Err(NoMemory),
     }
-}
-
-/// What each file sees with one import more.
-pub(crate) fn seen_with(
-    alloc: Global,
-    files: &Files,
-    file: u32,
-    to: u32,
-) -> Result<Vec<Vec<bool>>, NoMemory>
-    requires linked { HasNoFault (LinkFaults files.now) }
-    requires file { file < length files.now }
-    requires to { to < length files.now }
-    ensures { IfOk result (λ seen. (reads : List ReadOf) → AreRead files.now reads
-        → AreSeenIn files.now (with_added files.now reads file to) seen.items) }
-{
-    // A workspace has few files.
-    files.len();
-    let mut imports = linked_imports(alloc, files)?;
-    let is_public = false;
-    imports[file as usize].push(FileImport { to, is_public })?;
-    all_seen(alloc, &imports)
 }
 
 /// These imports without that of one file.

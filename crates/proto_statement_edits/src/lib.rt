@@ -13,6 +13,7 @@ mod leading;
 mod needing;
 mod only;
 mod paths;
+mod seeing;
 mod splicing;
 
 pub use adding::add_import;

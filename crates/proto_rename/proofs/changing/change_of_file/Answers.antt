@@ -1,10 +1,11 @@
-use Rattle.std.proofs.Common.{◌≡◌, ◌≢◌, ℕ, List, All, length, map, sym, ap, subst, ◌∙◌, arith, eq-eqb, eqb-true}
+use Rattle.std.proofs.Common.{◌≡◌, ◌≢◌, ℕ, List, [], All, length, map, refl, sym, ap, subst, ◌∙◌, arith, eq-eqb, eqb-true}
 use Rattle.std.proofs.lemmas.Bool.{both_ways}
+use Rattle.proto_faults.proofs.Common.{nil_from_length}
 use Rattle.proto_text.specs.declared.lexer.Token.{Token}
 use Rattle.proto_text.specs.SourceFacts.{IsSpan}
 use Rattle.proto_files.specs.GivenFiles.{file_at}
 use Rattle.proto_rename.specs.MadeChanges.{marked_from, StandInOrder, word_put}
-use Rattle.proto_rename.proofs.FileChanges.{chosen, chosen_in_order, none_made, one_made, too_large_made}
+use Rattle.proto_rename.proofs.FileChanges.{chosen, chosen_in_order, none_chosen, none_made, one_made, too_large_made}
 use Rattle.proto_rename.proofs.PlacedWords.{marked_all}
 use Rattle.proto_rename.proofs.TokensInOrder.{words_are_short}
 use Rattle.proto_rename.proofs.changing.change_of_file.Goals as goal
@@ -12,17 +13,25 @@ use Rattle.proto_rename.proofs.changing.change_of_file.Goals as goal
 pub returns-then-is_empty-clause-change : goal.returns-then-is_empty-clause-change
 returns-then-is_empty-clause-change c =
     let tokens = c.tokens-tokens.result.now in
+    let short = c.as_bytes.ensures.short in
+    let same = ap length (c.as_bytes.ensures.value ∙ c.source-source.ensures) in
+    let none : c.args.places.now ≡ [] = nil_from_length c.args.places.now (eqb-true (length c.args.places.now) 0 (sym c.is_empty.ensures ∙ c.if-is_empty.true)) in
+    none_made c.args.files.now c.args.file c.requires tokens c.tokens-tokens.ensures.tokens c.args.places.now c.args.to.now [] (sym (ap (chosen tokens) none ∙ none_chosen tokens)) refl (omega (arith, short, same))
+
+pub returns-then-is_empty-2-clause-change : goal.returns-then-is_empty-2-clause-change
+returns-then-is_empty-2-clause-change c =
+    let tokens = c.tokens-tokens.result.now in
     let changed = c.as_slice-changed.result.now in
     let is : changed ≡ chosen tokens c.args.places.now = c.as_slice-changed.ensures.value ∙ c.in_ok-found.ensures in
     let short = c.as_bytes.ensures.short in
     let same = ap length (c.as_bytes.ensures.value ∙ c.source-source.ensures) in
-    let none : length changed ≡ 0 = eqb-true (length changed) 0 (sym c.is_empty.ensures ∙ c.if-is_empty.true) in
+    let none : length changed ≡ 0 = eqb-true (length changed) 0 (sym c.is_empty-2.ensures ∙ c.if-is_empty-2.true) in
     none_made c.args.files.now c.args.file c.requires tokens c.tokens-tokens.ensures.tokens c.args.places.now c.args.to.now changed is none (omega (arith, short, same))
 
 pub len_after-requires-clause-some : goal.len_after-requires-clause-some
 len_after-requires-clause-some c =
     let changed = c.as_slice-changed.result.now in
-    let some : length changed ≢ 0 = λ e. both_ways c.is_empty.result c.if-is_empty.false (c.is_empty.ensures ∙ eq-eqb (length changed) 0 e) in
+    let some : length changed ≢ 0 = λ e. both_ways c.is_empty-2.result c.if-is_empty-2.false (c.is_empty-2.ensures ∙ eq-eqb (length changed) 0 e) in
     omega (arith, some)
 
 pub len_after-requires-clause-order : goal.len_after-requires-clause-order
@@ -67,7 +76,7 @@ returns-clause-change c =
     let is : changed ≡ chosen tokens c.args.places.now = c.as_slice-changed.ensures.value ∙ c.in_ok-found.ensures in
     let long = ap length text in
     let same = ap length c.as_bytes.ensures.value in
-    let some : length changed ≢ 0 = λ e. both_ways c.is_empty.result c.if-is_empty.false (c.is_empty.ensures ∙ eq-eqb (length changed) 0 e) in
+    let some : length changed ≢ 0 = λ e. both_ways c.is_empty-2.result c.if-is_empty-2.false (c.is_empty-2.ensures ∙ eq-eqb (length changed) 0 e) in
     let after = c.in-Some.ensures.0 in
     let fits = c.in-Some.ensures.1 in
     one_made c.args.files.now c.args.file c.requires tokens c.tokens-tokens.ensures.tokens c.args.places.now c.args.to.now changed is (omega (arith, some)) (omega (arith, fits, long)) _ (c.in_ok-to_string.ensures.ok ∙ c.path.ensures)

@@ -1,10 +1,10 @@
-use Rattle.std.proofs.Common.{[], refl, sym, ◌∙◌, ap, arith, subst, ◌<◌, length}
-use Rattle.std.proofs.lemmas.List.{get_or-map}
+use Rattle.std.proofs.Common.{refl, sym, ◌∙◌, arith, subst}
 use Rattle.proto_meaning.specs.Marks.{MarksSeen}
 use Rattle.proto_captures.specs.Overtaking.{IsFirstOvertaken}
 use Rattle.proto_statement_names.specs.Cases.{with_added}
 use Rattle.proto_statement_edits.proofs.Additions.{free_7, refused_7}
 use Rattle.proto_statement_edits.proofs.MoreOrLess.{place_within}
+use Rattle.proto_statement_edits.proofs.SeenMore.{sees_added}
 use Rattle.proto_statement_edits.proofs.adding.check_captured.Goals as goal
 
 pub returns-in-None-clause-free : goal.returns-in-None-clause-free
@@ -14,13 +14,9 @@ returns-in-None-clause-free c =
     let are = c.are_read.ensures.1 in
     let file = c.args.file in
     let v = with_added files reads file c.args.to in
-    let seen = c.in_ok-seen.seen.items in
     let within = place_within files c.args.paths.file.now file c.requires.file in
-    let sees = c.in_ok-seen.ensures reads are in
-    let count = sees.0 in
-    let inside : file < length seen = omega (arith, within, count) in
-    let marks = c.deref.ensures.value ∙ ap (λ v. v.items) c.index.ensures ∙ sym (get_or-map (λ v. v.items) seen file c.index.result.now [] inside) in
-    let first = c.in_ok-first_overtaken.ensures reads are v (record { imports = refl; seen = subst (MarksSeen v file) (sym marks) (sees.1 file within) }) in
+    let sees = sees_added files reads are c.args.imports.now c.requires.imports file c.args.to c.in_ok-seen.seen.items c.in_ok-seen.ensures in
+    let first = c.in_ok-first_overtaken.ensures reads are v (record { imports = refl; seen = subst (MarksSeen v file) (sym c.deref.ensures.value) sees }) in
     free_7 files reads are c.args.paths.file.now c.args.paths.path.now file c.args.to c.requires.file c.requires.to within (subst (IsFirstOvertaken files reads v file) c.in-None.is first)
 
 pub returns-clause-err : goal.returns-clause-err
@@ -30,12 +26,12 @@ returns-clause-err c =
     let are = c.are_read.ensures.1 in
     let file = c.args.file in
     let v = with_added files reads file c.args.to in
-    let seen = c.in_ok-seen.seen.items in
     let within = place_within files c.args.paths.file.now file c.requires.file in
-    let sees = c.in_ok-seen.ensures reads are in
-    let count = sees.0 in
-    let inside : file < length seen = omega (arith, within, count) in
-    let marks = c.deref.ensures.value ∙ ap (λ v. v.items) c.index.ensures ∙ sym (get_or-map (λ v. v.items) seen file c.index.result.now [] inside) in
-    let first = c.in_ok-first_overtaken.ensures reads are v (record { imports = refl; seen = subst (MarksSeen v file) (sym marks) (sees.1 file within) }) in
+    let sees = sees_added files reads are c.args.imports.now c.requires.imports file c.args.to c.in_ok-seen.seen.items c.in_ok-seen.ensures in
+    let first = c.in_ok-first_overtaken.ensures reads are v (record { imports = refl; seen = subst (MarksSeen v file) (sym c.deref.ensures.value) sees }) in
     refused_7 files reads are c.args.paths.file.now c.args.paths.path.now file c.args.to c.requires.file c.requires.to within c.in-Some.token (subst (IsFirstOvertaken files reads v file) c.in-Some.is first)
     c.in_ok-captured_refusal-in-Some.field-0 c.in_ok-captured_refusal-in-Some.ensures
+
+pub seen_with-seen-requires-clause-within : goal.seen_with-seen-requires-clause-within
+seen_with-seen-requires-clause-within c =
+    subst (λ n. All (λ v. All (λ (i : FileImport). i.to < n) v.items) c.args.imports.now) (sym c.requires.imports.len) c.requires.imports.within

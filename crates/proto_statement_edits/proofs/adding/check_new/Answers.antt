@@ -1,5 +1,6 @@
-use Rattle.std.proofs.Common.{sym, ◌∙◌}
+use Rattle.std.proofs.Common.{sym, subst, ◌∙◌}
 use Rattle.std.proofs.lemmas.Bool.{both_ways}
+use Rattle.proto_meaning.specs.Cycles.{Leads}
 use Rattle.proto_statement_edits.proofs.Additions.{free_14, refused_12, refused_14}
 use Rattle.proto_statement_edits.proofs.MoreOrLess.{place_within}
 use Rattle.proto_statement_edits.proofs.NamedImports.{is_imported, not_imported}
@@ -25,7 +26,7 @@ returns-then-branch-clause-err c =
     let path = c.args.paths.path.now in
     let within = place_within files c.args.paths.file.now file c.requires.file in
     refused_14 files reads are c.args.paths.file.now path file c.args.to c.requires.file c.requires.to within c.requires.before
-    (not_imported files reads file path c.import_named.result (c.import_named.ensures reads are) (sym c.is_some.ensures ∙ c.if-is_some.false)) ((c.in_ok-leads.ensures reads are).0 c.if-branch.true)
+    (not_imported files reads file path c.import_named.result (c.import_named.ensures reads are) (sym c.is_some.ensures ∙ c.if-is_some.false)) (subst (λ z. Leads z c.args.to file) (c.requires.imports.are reads are) (c.in_ok-leads.ensures.0 c.if-branch.true))
 
 pub returns-clause-free : goal.returns-clause-free
 returns-clause-free c =
@@ -37,4 +38,4 @@ returns-clause-free c =
     let within = place_within files c.args.paths.file.now file c.requires.file in
     free_14 files reads are c.args.paths.file.now path file c.args.to c.requires.file c.requires.to within c.requires.before
     (not_imported files reads file path c.import_named.result (c.import_named.ensures reads are) (sym c.is_some.ensures ∙ c.if-is_some.false))
-    (λ h. both_ways c.in_ok-leads.field-0 c.if-branch.false ((c.in_ok-leads.ensures reads are).1 h))
+    (λ h. both_ways c.in_ok-leads.field-0 c.if-branch.false (c.in_ok-leads.ensures.1 (subst (λ z. Leads z c.args.to file) (sym (c.requires.imports.are reads are)) h)))
