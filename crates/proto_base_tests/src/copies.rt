@@ -1,7 +1,7 @@
 //! Files that are copied, and files of which one gets another text.
 
 use crate::expect::source_of;
-use crate::files::{Given, given, put_file, read};
+use crate::files::{Given, given_files, put_file, read};
 use proto_faults::SchemaFault;
 use proto_files::{Files, Paths};
 use proto_text::lex;
@@ -10,8 +10,8 @@ use std::alloc::Global;
 use std::process::Abort;
 
 // Whether the file at a place is the same in both.
-fn is_same_file(files: &Files, copy: &Files, place: usize) -> bool {
-    if place >= files.len() || place >= copy.len() {
+fn is_same_file(files: &Files, copy: &Files, place: u32) -> bool {
+    if place as usize >= files.len() || place as usize >= copy.len() {
         return false;
     }
     files.path(place) == copy.path(place)
@@ -20,7 +20,7 @@ fn is_same_file(files: &Files, copy: &Files, place: usize) -> bool {
 }
 
 fn are_same(files: &Files, copy: &Files) -> bool {
-    for place in 0..files.len() {
+    for place in 0..files.len() as u32 {
         if !is_same_file(files, copy, place) {
             return false;
         }
@@ -58,7 +58,7 @@ const TEXTS: &[&str] = &[
 #[test]
 fn copies_are_the_same(rt: HostRuntime) {
     for texts in TEXTS {
-        let files = read(&rt, None, given(&rt, texts)).expect(&rt, "files");
+        let files = read(&rt, None, given_files(&rt, texts)).expect(&rt, "files");
         let is_so = is_copied(&rt, &files);
         files.release();
         assert!(rt; is_so, "{texts}");
@@ -101,7 +101,7 @@ const NEW: &str = "message N { optional M m = 1; }";
 #[test]
 fn one_gets_another_text(rt: HostRuntime) {
     let texts = "a.proto:message M {}|b.proto:message N {}";
-    let mut files = read(&rt, None, given(&rt, texts)).expect(&rt, "files");
+    let mut files = read(&rt, None, given_files(&rt, texts)).expect(&rt, "files");
     let before = files.copy(rt.alloc()).expect(&rt, "memory");
     let is_other = is_set(&rt, &mut files, OLD, NEW)
         && is_same_file(&files, &before, 0)

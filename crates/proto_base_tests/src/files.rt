@@ -82,9 +82,9 @@ enum Answer {
     /// All paths.
     Paths(&'static [&'static str]),
     /// A path, and the place of its file.
-    Place(&'static str, Option<usize>),
+    Place(&'static str, Option<u32>),
     /// A file, its path, and how many bytes and tokens it has.
-    File(usize, &'static str, usize, usize),
+    File(u32, &'static str, usize, usize),
     /// A file, a token, where that begins, its text, and its value if it is a string. A token behind the last one begins at 0
     /// and has no text.
     Token(u32, u32, u32, &'static str, Option<&'static str>),
@@ -96,8 +96,8 @@ enum Answer {
 type Row = (Option<usize>, &'static str, Answer);
 
 // Whether a file has this path, so many bytes and so many tokens.
-fn is_file(files: &Files, file: usize, path: &str, length: usize, tokens: usize) -> bool {
-    if file >= files.len() {
+fn is_file(files: &Files, file: u32, path: &str, length: usize, tokens: usize) -> bool {
+    if file as usize >= files.len() {
         return false;
     }
     let _tree = files.tree(file);
@@ -106,17 +106,28 @@ fn is_file(files: &Files, file: usize, path: &str, length: usize, tokens: usize)
         && files.tokens(file).len() == tokens
 }
 
+// Whether a loop over the files meets these paths, in their order.
+fn meets(files: &Files, paths: &[&str]) -> bool {
+    let mut left = paths;
+    for file in files {
+        let Some((path, rest)) = left.split_first() else {
+            return false;
+        };
+        if file.path.as_str() != *path {
+            return false;
+        }
+        left = rest;
+    }
+    left.is_empty()
+}
+
 // Whether the file with this path has this place, wherever the search begins.
-fn is_place(files: &Files, path: &str, place: Option<usize>) -> bool {
+fn is_place(files: &Files, path: &str, place: Option<u32>) -> bool {
     are_read(files);
-    let is_found = match files.place_of_path(path) {
-        Some(found) => place == Some(found as usize),
-        None => place.is_none(),
-    };
-    if !is_found {
+    if files.place_of_path(path) != place {
         return false;
     }
-    for start in 0..5usize {
+    for start in 0..5 {
         if file_named(files, start, path) != place {
             return false;
         }
@@ -129,12 +140,12 @@ fn has_text(files: &Files, file: u32, token: u32, offset: u32, text: &str) -> bo
     if file as usize >= files.len() {
         return false;
     }
-    let tokens = files.tokens(file as usize);
+    let tokens = files.tokens(file);
     let is_text = match tokens.get(token as usize) {
         Some(_) => files.token_text(file, token) == text,
         None => text.is_empty(),
     };
-    let word = Words::new(files, file as usize).get(token);
+    let word = Words::new(files, file).get(token);
     is_text && word == text && offset_of(tokens, token) == offset
 }
 
@@ -149,7 +160,7 @@ fn has_value<R: AllocGlobal + Abort>(
     if file as usize >= files.len() {
         return false;
     }
-    match files.tokens(file as usize).get(token as usize) {
+    match files.tokens(file).get(token as usize) {
         Some(
             Token {
                 kind: TokenKind::Text,
@@ -176,7 +187,7 @@ fn is_token<R: AllocGlobal + Abort>(
     if file as usize >= files.len() {
         return false;
     }
-    let words = Words::new(files, file as usize);
+    let words = Words::new(files, file);
     let said = match value {
         Some(value) => words.says(token, value.as_bytes()) && !words.says(token, b"proto"),
         None => !words.says(token, words.get(token).as_bytes()),
@@ -192,6 +203,7 @@ fn is_given<R: AllocGlobal + Abort>(rt: &R, files: &Files, answer: &Answer) -> b
         Answer::Count(count) => files.len() == *count && files.is_empty() == (*count == 0),
         Answer::Paths(paths) => {
             all_paths(rt.alloc(), files).expect(rt, "memory").as_slice() == *paths
+                && meets(files, paths)
         }
         Answer::Place(path, place) => is_place(files, path, *place),
         Answer::File(file, path, length, tokens) => is_file(files, *file, path, *length, *tokens),

@@ -57,8 +57,8 @@ fn all_messages<'a>(
         → AreRead files.now reads → map (λ s. s.now) all.items ≡ all_messages files.now reads) }
 {
     let mut all = Vec::new(alloc);
-    for file in 0..files.len() {
-        let reading = Reading::of(files, link, file as u32);
+    for file in 0..files.len() as u32 {
+        let reading = Reading::of(files, link, file);
         add_file_messages(&mut all, &reading, files.tree(file))?;
     }
     Ok(all)

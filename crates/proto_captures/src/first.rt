@@ -74,8 +74,8 @@ fn first_in<'a>(
         → IsFirstIn files.now reads t to file first) }
 {
     visible_is_seen();
-    let words = Words::new(files, file as usize);
-    let listing = list_file(alloc, files.tree(file as usize))?;
+    let words = Words::new(files, file);
+    let listing = list_file(alloc, files.tree(file))?;
     first_of(
         alloc,
         link,
@@ -106,10 +106,9 @@ pub fn first_captured<'a>(
         → IsAimedAt files.now reads aim.now t → IsFirstCaptured files.now reads t to.now first) }
 {
     are_read(files);
-    let own = Words::new(files, aim.file as usize);
+    let own = Words::new(files, aim.file);
     let names = NewNames::new(alloc, &own, aim, to)?;
-    for place in 0..files.len() {
-        let file = place as u32;
+    for file in 0..files.len() as u32 {
         if let Some(token) = first_in(alloc, files, link, &names, file)? {
             return Ok(Some(RefId { file, token }));
         }

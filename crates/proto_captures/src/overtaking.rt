@@ -71,8 +71,8 @@ fn packages(alloc: Global, files: &Files, marks: &[bool]) -> Result<HashSet<Stri
     ensures { IfOk result (λ packages. TellsPackages files.now marks.now (contains_text packages)) }
 {
     let mut packages = HashSet::new(alloc);
-    for file in 0..files.len() {
-        if is_marked(marks, file as u32) {
+    for file in 0..files.len() as u32 {
+        if is_marked(marks, file) {
             let words = Words::new(files, file);
             let tokens = package(alloc, files.tree(file))?;
             add_fronts(&mut packages, alloc, &words, &tokens)?;
@@ -220,7 +220,7 @@ pub fn first_overtaken(
 {
     let packages = packages(alloc, files, marks)?;
     let seen = Seen { marks, packages };
-    let words = Words::new(files, file as usize);
-    let listing = list_file(alloc, files.tree(file as usize))?;
+    let words = Words::new(files, file);
+    let listing = list_file(alloc, files.tree(file))?;
     first_in_list(alloc, link, &seen, &words, &listing, link.meant_in(file))
 }

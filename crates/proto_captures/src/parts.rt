@@ -18,7 +18,7 @@ pub(crate) fn word<'a>(files: &'a Files, file: u32, token: u32) -> &'a str
     ensures { (reads : List ReadOf) → AreRead files.entry.now reads
         → result.now ≡ text_of files.entry.now reads (at file token) }
 {
-    Words::new(files, file as usize).get(token)
+    Words::new(files, file).get(token)
 }
 
 /// What stands before the last word of a full name: nothing, or what it is declared in and a dot.

@@ -19,9 +19,8 @@ pub fn captured_refusal(
     requires { file < length files.now }
     ensures { IfOk result (IsCapturedPlace files.now file token) }
 {
-    let place = file as usize;
     Ok(Refusal::Captured {
-        path: files.path(place).to_string(alloc)?,
-        offset: offset_of(files.tokens(place), token),
+        path: files.path(file).to_string(alloc)?,
+        offset: offset_of(files.tokens(file), token),
     })
 }

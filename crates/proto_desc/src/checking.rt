@@ -29,13 +29,11 @@ use proto_tree::File;
 use std::alloc::Global;
 
 /// A flaw as a fault of its file.
-fn fault(alloc: Global, files: &Files, file: usize, flaw: Flaw) -> SchemaFault
+fn fault(alloc: Global, files: &Files, file: u32, flaw: Flaw) -> SchemaFault
     requires { file < length files.now }
     ensures { IsFaultOf files.now file flaw result }
 {
-    // There are at most 4,096 files.
-    let _count = files.len();
-    fault_at_token(alloc, files, file as u32, flaw.token, flaw.kind)
+    fault_at_token(alloc, files, file, flaw.token, flaw.kind)
 }
 
 /// The least flaw of a file, beside those that its workspace decides.
@@ -59,7 +57,7 @@ fn check_file(
     files: &Files,
     scene: &Scene,
     of_workspace: &[Flaw],
-    file: usize,
+    file: u32,
 ) -> Result<(), SchemaFault>
     requires file { file < length files.now }
     requires scene { IsSceneOf files.now file scene.now }
@@ -90,8 +88,9 @@ fn check_each(
     // workspace.
     are_read(files);
     let _count = files.len();
-    for file in 0..files.len() {
-        check_file(alloc, files, &scenes[file], &of_workspace[file], file)?;
+    for file in 0..files.len() as u32 {
+        let place = file as usize;
+        check_file(alloc, files, &scenes[place], &of_workspace[place], file)?;
     }
     Ok(())
 }
@@ -122,9 +121,9 @@ fn descriptors(
     ensures { IfOk result (λ ds. AreDescribed files.now (map file_desc ds.items)) }
 {
     let mut descriptors = Vec::with_capacity(alloc, files.len())?;
-    for file in 0..files.len() {
+    for file in 0..files.len() as u32 {
         let path = files.path(file);
-        descriptors.push(file_descriptor(alloc, &scenes[file], path, files.tree(file))?)?;
+        descriptors.push(file_descriptor(alloc, &scenes[file as usize], path, files.tree(file))?)?;
     }
     Ok(descriptors)
 }

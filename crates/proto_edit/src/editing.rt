@@ -163,7 +163,7 @@ impl Workspace {
     {
         let files = self.files();
         let mut list = Vec::new(alloc);
-        for place in 0..files.len() {
+        for place in 0..files.len() as u32 {
             let path = files.path(place).to_string(alloc)?;
             let bytes = Vec::from_slice(alloc, files.source(place).as_bytes())?;
             list.push((path, bytes))?;

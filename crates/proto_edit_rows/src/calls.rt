@@ -49,7 +49,7 @@ pub fn open(alloc: Global, texts: &[(&str, &str)]) -> Result<Workspace, SchemaFa
 }
 
 // Whether the file at a place has this path and text.
-fn is_text(files: &Files, place: usize, given: &(&str, &str)) -> bool
+fn is_text(files: &Files, place: u32, given: &(&str, &str)) -> bool
     requires { place < length files.now }
     ensures { result ≡ is_file (file_at files.now place)
         (row_file given.now.0.now given.now.1.now) }
@@ -68,7 +68,7 @@ pub fn are_texts(workspace: &Workspace, texts: &[(&str, &str)]) -> bool
         return false;
     }
     for place in 0..texts.len() {
-        if !is_text(files, place, &texts[place]) {
+        if !is_text(files, place as u32, &texts[place]) {
             return false;
         }
     }

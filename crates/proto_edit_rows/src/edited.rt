@@ -44,9 +44,9 @@ fn state(alloc: Global, workspace: &Workspace) -> Result<Vec<u8>, NoMemory> {
 }
 
 fn add_files(state: &mut Vec<u8>, files: &Files) -> Result<(), NoMemory> {
-    for place in 0..files.len() {
-        state.extend_from_slice(files.path(place).as_bytes())?;
-        state.extend_from_slice(files.source(place).as_bytes())?;
+    for file in files {
+        state.extend_from_slice(file.path.as_bytes())?;
+        state.extend_from_slice(file.source.as_bytes())?;
     }
     Ok(())
 }

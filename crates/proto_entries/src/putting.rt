@@ -66,7 +66,7 @@ pub fn put_all(
 {
     let mut list = Vec::new(alloc);
     let mut left = changes;
-    for place in 0..files.len() {
+    for place in 0..files.len() as u32 {
         let path = files.path(place);
         let text = files.source(place).as_bytes();
         let Some((bytes, rest)) = next_bytes(alloc, path, text, left)? else {

@@ -72,7 +72,7 @@ fn has_extend(file: &File) -> bool
 pub(crate) fn some_has_extend(files: &Files) -> bool
     ensures { (reads : List ReadOf) → AreRead files.now reads → result ≡ some_has_extend reads }
 {
-    for file in 0..files.len() {
+    for file in 0..files.len() as u32 {
         if has_extend(files.tree(file)) {
             return true;
         }

@@ -119,8 +119,9 @@ fn flaws_with(
 {
     let mut found = Vec::new(alloc);
     let mut seen = IndexSet::new(alloc);
-    for file in 0..files.len() {
-        let extensions = extensions(alloc, files, link, table, &scenes[file], file as u32)?;
+    for file in 0..files.len() as u32 {
+        let scene = &scenes[file as usize];
+        let extensions = extensions(alloc, files, link, table, scene, file)?;
         found.push(flaws_of(alloc, &mut seen, &extensions)?)?;
     }
     Ok(found)

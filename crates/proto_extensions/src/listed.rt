@@ -152,7 +152,7 @@ pub(crate) fn extensions<'a>(
     requires scene { IsSceneOf files.now file scene.now }
     ensures { IfOk result (λ found. AreExtensionsOf files.now file found.items) }
 {
-    let blocks = blocks_of(alloc, files.tree(file as usize))?;
+    let blocks = blocks_of(alloc, files.tree(file))?;
     let mut found = Vec::new(alloc);
     for block in &blocks {
         push_block(alloc, &mut found, files, link, table, scene, file, *block)?;

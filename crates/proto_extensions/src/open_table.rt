@@ -95,8 +95,8 @@ pub(crate) fn open_table(
     ensures { IfOk result (λ table. IsOpenTable files.now table.items) }
 {
     let mut table = Vec::new(alloc);
-    for file in 0..files.len() {
-        table.push(rows_of(alloc, &scenes[file], files.tree(file))?)?;
+    for file in 0..files.len() as u32 {
+        table.push(rows_of(alloc, &scenes[file as usize], files.tree(file))?)?;
     }
     Ok(table)
 }

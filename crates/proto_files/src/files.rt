@@ -1,6 +1,7 @@
 //! The files of a workspace, read.
 
 ghost use Rattle.std.specs.Prelude.{◌≡◌, ◌<◌, ◌==◌, List, length, slice_get, All, IfOk, IfErr, Some};
+ghost use Rattle.std.specs.Slice.Iter.{iter_rest};
 ghost use Rattle.proto_text.specs.declared.lexer.Token.{Token};
 ghost use Rattle.std.specs.String.{string_bytes};
 ghost use Rattle.proto_text.specs.SourceFacts.{IsSpan, text_at};
@@ -14,6 +15,8 @@ ghost use Rattle.proto_files.specs.FileTokens.{AreTokensOf, HasToken, HasString}
 ghost use Rattle.proto_files.specs.FilesRead.{AreRead, ReadOf};
 ghost use Rattle.proto_files.specs.GivenFiles.{AreWorkspaceFiles, file_at};
 ghost use Rattle.proto_files.specs.ReadFaults.{ReadFaults};
+ghost use Rattle.proto_files.specs.Reading.{IsReadFile};
+ghost use Rattle.proto_files.specs.Stages.{read_files};
 
 use crate::paths::Paths;
 use crate::reading::{lex_files, parse_files};
@@ -23,6 +26,7 @@ use proto_text::{Source, Token, string_value};
 use proto_tree::File;
 use std::alloc::Global;
 use std::marker::Model;
+use std::slice;
 
 /// Files at distinct workspace paths, in the order of their paths, each with its source, its tokens
 /// and its tree. Places of files count from 0.
@@ -76,39 +80,48 @@ impl Files {
         self.files.is_empty()
     }
 
+    /// The files, in the order of their paths.
+    pub fn iter(&self) -> slice::Iter<'_, ReadFile>
+        ensures files { read_files (iter_rest result) ≡ self.now }
+        // Each has the tokens of its source, and the tree that they spell.
+        ensures read { All IsReadFile (iter_rest result) }
+    {
+        self.files.iter()
+    }
+
     /// The path of the file at a place.
-    pub fn path(&self, place: usize) -> &str
+    pub fn path(&self, place: u32) -> &str
         requires { place < length self.now }
         ensures { result.now ≡ (file_at self.now place).path }
     {
-        self.files[place].path.as_str()
+        self.files[place as usize].path.as_str()
     }
 
     /// The text of the file at a place.
-    pub fn source(&self, place: usize) -> &Source
+    pub fn source(&self, place: u32) -> &Source
         requires { place < length self.now }
         ensures { result.now ≡ (file_at self.now place).bytes }
     {
-        &self.files[place].source
+        &self.files[place as usize].source
     }
 
     /// The tokens of the file at a place.
-    pub fn tokens(&self, place: usize) -> &[Token]
+    pub fn tokens(&self, place: u32) -> &[Token]
         requires { place < length self.now }
         ensures tokens { AreTokens (file_at self.now place).bytes result.now }
         // Each can be asked for its text.
         ensures spans { All (λ t. IsSpan (file_at self.now place).bytes t.span) result.now }
     {
-        self.files[place].tokens.as_slice()
+        self.files[place as usize].tokens.as_slice()
     }
 
     /// The tree of the file at a place.
-    pub fn tree(&self, place: usize) -> &File
+    pub fn tree(&self, place: u32) -> &File
         requires { place < length self.now }
         ensures { (tokens : List Token) → AreTokens (file_at self.now place).bytes tokens
             → Reads (file_at self.now place).bytes tokens (tree_of_file result.now) }
     {
-        &self.files[place].tree
+        &self.files[place as usize].tree
     }
 
     /// The text of a token of the file at a place: the part of its source at the token's span.
@@ -145,6 +158,19 @@ impl Files {
     /// Lets the files go. A crate that ends them by this call need not prove how each of their
     /// parts is dropped.
     pub fn release(self) {}
+}
+
+impl<'a> IntoIterator for &'a Files {
+    type Item = &'a ReadFile;
+
+    type IntoIter = slice::Iter<'a, ReadFile>;
+
+    ghost into_iter_gives = { λ files it.
+        (read_files (iter_rest it) ≡ files.now) × All IsReadFile (iter_rest it) };
+
+    fn into_iter(self) -> Self::IntoIter {
+        self.iter()
+    }
 }
 
 /// Answers nothing, and looks at no file: its contract says that each file has tokens and a tree.

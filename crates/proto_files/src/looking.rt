@@ -12,14 +12,14 @@ pub fn all_paths<'a>(alloc: Global, files: &'a Files) -> Result<Vec<&'a str>, No
     ensures { IfOk result (λ paths. map (λ p. p.now) paths.items ≡ paths_of files.now) }
 {
     let mut paths = Vec::new(alloc);
-    for file in 0..files.len() {
+    for file in 0..files.len() as u32 {
         paths.push(files.path(file))?;
     }
     Ok(paths)
 }
 
 // The first file with the path among those with places from `start` to `end`.
-fn file_between(files: &Files, start: usize, end: usize, path: &str) -> Option<usize>
+fn file_between(files: &Files, start: u32, end: u32, path: &str) -> Option<u32>
     requires { end ≤ length files.now }
     ensures within { IfSome result (λ file. file < length files.now) }
     ensures path { IfSome result (λ file. (file_at files.now file).path ≡ path.now) }
@@ -36,13 +36,13 @@ fn file_between(files: &Files, start: usize, end: usize, path: &str) -> Option<u
 
 /// The place of the file at a path, if there is one. The files from the place `start` on are looked
 /// at first: where files are asked for in the order of their paths, the next one is near.
-pub fn file_named(files: &Files, start: usize, path: &str) -> Option<usize>
+pub fn file_named(files: &Files, start: u32, path: &str) -> Option<u32>
     ensures within { IfSome result (λ file. file < length files.now) }
     ensures path { IfSome result (λ file. (file_at files.now file).path ≡ path.now) }
     ensures none { IfNone result ((file : ℕ)
         → file < length files.now → (file_at files.now file).path ≢ path.now) }
 {
-    let count = files.len();
+    let count = files.len() as u32;
     let start = start.min(count);
     match file_between(files, start, count, path) {
         Some(file) => Some(file),

@@ -18,7 +18,7 @@ pub struct LexedFile {
     pub tokens: Vec<Token>,
 }
 
-/// A file with the tree that its tokens spell.
+/// A file of a workspace, with the tokens of its source and the tree that they spell.
 #[derive(Drop)]
 pub struct ReadFile {
     pub path: String,

@@ -31,11 +31,10 @@ pub fn fault_at_token(
     requires { file < length files.now }
     ensures { IsAtToken files.now file token kind result }
 {
-    let place = file as usize;
-    match String::from_str(alloc, files.path(place)) {
+    match String::from_str(alloc, files.path(file)) {
         Ok(path) => SchemaFault::Schema(Fault {
             path,
-            offset: offset_of(files.tokens(place), token),
+            offset: offset_of(files.tokens(file), token),
             kind,
         }),
         Err(_) => SchemaFault::NoMemory,

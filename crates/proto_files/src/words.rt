@@ -46,7 +46,7 @@ fn is_string(kind: TokenKind) -> bool
 
 impl<'a> Words<'a> {
     /// The texts of the tokens of the file at a place, counted from 0. Takes no memory.
-    pub fn new(files: &'a Files, place: usize) -> Words<'a>
+    pub fn new(files: &'a Files, place: u32) -> Words<'a>
         requires { place < length files.now }
         // They are those of the file's tokens, of which there are some, and one list alone.
         ensures words { (tokens : List Token) → AreTokensOf files.entry.now place tokens
@@ -54,11 +54,9 @@ impl<'a> Words<'a> {
         ensures some { (tokens : List Token) × AreTokensOf files.entry.now place tokens
             × (result ≡ map (lexeme_at (file_at files.entry.now place).bytes) tokens) }
     {
-        // A workspace has so few files that the place fits.
-        let _count = files.len();
         Words {
             files,
-            file: place as u32,
+            file: place,
             tokens: files.tokens(place),
         }
     }

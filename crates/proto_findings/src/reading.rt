@@ -31,9 +31,8 @@ impl<'a> Reading<'a> {
         ensures read { (reads : List ReadOf) → AreRead files.now reads
             → reading_of result ≡ read_of_file files.now reads file }
     {
-        let place = file as usize;
-        let tokens = files.tokens(place);
-        let words = Words::new(files, place);
+        let tokens = files.tokens(file);
+        let words = Words::new(files, file);
         Reading {
             tokens,
             words,

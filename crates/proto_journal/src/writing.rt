@@ -11,7 +11,7 @@ use proto_files::Files;
 use proto_store::{Store, StoreFault};
 
 // Replaces the file at a place.
-fn put_file<S: Store>(store: &mut S, after: &Files, place: usize) -> Result<(), StoreFault>
+fn put_file<S: Store>(store: &mut S, after: &Files, place: u32) -> Result<(), StoreFault>
     requires room { S.failure_count store.old < 2 ^ 64 - 1 }
     requires is { place < length after.now }
     requires listed { IsListed (S.holds store.old) (file_at after.now place).path }
@@ -30,7 +30,7 @@ fn replace_file<'a, S: Store>(
     store: &mut S,
     before: &Files,
     after: &Files,
-    place: usize,
+    place: u32,
     left: &'a [Change],
 ) -> Result<&'a [Change], StoreFault>
     requires room { S.failure_count store.old < 2 ^ 64 - 1 }
@@ -72,7 +72,7 @@ fn replace_files<S: Store>(
     ensures count { Counts (S.failure_count store.old) (S.failure_count store.new) result }
 {
     let mut left = changes;
-    for place in 0..after.len() {
+    for place in 0..after.len() as u32 {
         left = replace_file(store, before, after, place, left)?;
     }
     Ok(())

@@ -183,7 +183,7 @@ fn first_offset(tokens: &[Token], chosen: &[u32]) -> u32
 
 impl<'a> FileHead<'a> {
     /// The head of a file.
-    fn of(alloc: Global, files: &'a Files, file: usize) -> Result<FileHead<'a>, NoMemory>
+    fn of(alloc: Global, files: &'a Files, file: u32) -> Result<FileHead<'a>, NoMemory>
         requires { file < length files.now }
         ensures { IfOk result (λ h. (reads : List ReadOf)
             → AreRead files.now reads → h ≡ head_of_file files.now reads file) }
@@ -211,7 +211,7 @@ fn all_heads<'a>(alloc: Global, files: &'a Files) -> Result<Vec<FileHead<'a>>, N
         → AreRead files.now reads → hs.items ≡ heads files.now reads) }
 {
     let mut all = Vec::new(alloc);
-    for file in 0..files.len() {
+    for file in 0..files.len() as u32 {
         all.push(FileHead::of(alloc, files, file)?)?;
     }
     Ok(all)
@@ -259,11 +259,11 @@ impl<'a> Heads<'a> {
     }
 
     /// The head of a file, by its number.
-    pub fn get(&self, file: usize) -> &FileHead<'a>
+    pub fn get(&self, file: u32) -> &FileHead<'a>
         requires { file < length self.now }
         ensures { (d : Head) → result.now ≡ get_or self.now file d }
     {
-        &self.heads[file]
+        &self.heads[file as usize]
     }
 
     /// The head of the first file of a directory.

@@ -105,7 +105,7 @@ fn public_of(
     alloc: Global,
     files: &Files,
     index: &IndexMap<String, u32>,
-    file: usize,
+    file: u32,
 ) -> Result<Vec<u32>, NoMemory>
     requires { file < length files.now }
     ensures { IfOk result (λ public. (paths : List (List ℕ))
@@ -132,7 +132,7 @@ fn all_public(
         (wanted_in (read_at reads k).tree)) public.items) }
 {
     let mut public = Vec::new(alloc);
-    for file in 0..files.len() {
+    for file in 0..files.len() as u32 {
         public.push(public_of(alloc, files, index, file)?)?;
     }
     Ok(public)
@@ -298,7 +298,7 @@ fn marks_for(
     rules: &RuleSet,
     files: &Files,
     link: &Link,
-    file: usize,
+    file: u32,
 ) -> Result<Vec<bool>, NoMemory>
     requires file { file < length files.now }
     requires link { IsLinkOf files.now link.now }
@@ -365,8 +365,7 @@ pub fn add_imports(
     } = linter;
     // Each file has tokens and a tree.
     are_read(files);
-    let file = reading.file as usize;
-    let marks = marks_for(alloc, rules, files, link, file)?;
-    let statements = import_statements(alloc, files.tree(file))?;
+    let marks = marks_for(alloc, rules, files, link, reading.file)?;
+    let statements = import_statements(alloc, files.tree(reading.file))?;
     add_statements(alloc, found, linter, reading, &marks, &statements)
 }

@@ -73,18 +73,17 @@ impl<'a> Linter<'a> {
             messages,
             ..
         } = self;
-        let place = file as usize;
         let reading = Reading::of(files, link, file);
         let mut found = Vec::new(alloc);
-        add_head(alloc, &mut found, rules, heads, place)?;
+        add_head(alloc, &mut found, rules, heads, file)?;
         add_imports(alloc, &mut found, self, &reading)?;
         let walk = Walk {
             rules,
             reading: &reading,
             messages,
         };
-        let scope = heads.get(place).package();
-        add_blocks(alloc, &mut found, &walk, scope, files.tree(place))?;
+        let scope = heads.get(file).package();
+        add_blocks(alloc, &mut found, &walk, scope, files.tree(file))?;
         Ok(found)
     }
 
@@ -96,8 +95,8 @@ impl<'a> Linter<'a> {
             ≡ findings self.now.rules.now.chosen self.now.files.now reads) }
     {
         let mut all = Vec::new(alloc);
-        for file in 0..self.files.len() {
-            let found = self.finds_in(alloc, file as u32)?;
+        for file in 0..self.files.len() as u32 {
+            let found = self.finds_in(alloc, file)?;
             add_findings(alloc, &mut all, self.files.path(file), found)?;
         }
         Ok(all)

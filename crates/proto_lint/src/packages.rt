@@ -208,7 +208,7 @@ pub fn add_head(
     found: &mut Vec<Found>,
     rules: &RuleSet,
     heads: &Heads,
-    file: usize,
+    file: u32,
 ) -> Result<(), NoMemory>
     requires { file < length heads.now }
     ensures { OnOk result ((d : Head) → map found_of found.new.items ≡ map found_of found.old.items

@@ -43,15 +43,14 @@ pub(crate) fn used_files(
     alloc: Global,
     files: &Files,
     link: &Link,
-    file: usize,
+    file: u32,
 ) -> Result<Vec<bool>, NoMemory>
     requires file { file < length files.now }
     requires link { IsLinkOf files.now link.now }
     ensures { IfOk result (λ marks. MarksUsed files.now file marks.items) }
 {
-    // There are at most 4,096 files.
     let count = files.len();
-    let marks = meant_files(alloc, link, file as u32, count)?;
+    let marks = meant_files(alloc, link, file, count)?;
     Ok(marks)
 }
 

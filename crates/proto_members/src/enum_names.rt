@@ -83,9 +83,8 @@ pub fn enum_name(alloc: Global, files: &Files, aim: Aim) -> Result<Option<String
     if !is_value(aim.kind) {
         return Ok(None);
     }
-    let place = aim.file as usize;
-    let words = Words::new(files, place);
-    match enum_in(alloc, files.tree(place), aim.token)? {
+    let words = Words::new(files, aim.file);
+    match enum_in(alloc, files.tree(aim.file), aim.token)? {
         Some(token) => {
             let front = front(aim.name, words.get(aim.token));
             let name = beside(alloc, front, words.get(token))?;

@@ -123,6 +123,6 @@ pub fn is_reserved(alloc: Global, files: &Files, aim: Aim, word: &str) -> Result
 {
     are_read(files);
     let scene = scene(alloc, files, aim.file);
-    let blocks = blocks_of(alloc, files.tree(aim.file as usize))?;
+    let blocks = blocks_of(alloc, files.tree(aim.file))?;
     one_reserves(alloc, &scene, &blocks, aim.token, word)
 }

@@ -15,8 +15,7 @@ pub fn scene<'a>(alloc: Global, files: &'a Files, file: u32) -> Scene<'a>
     ensures { (reads : List ReadOf) → AreRead files.entry.now reads
         → IsReadAs files.entry.now reads file result }
 {
-    let place = file as usize;
-    let words = Words::new(files, place);
-    let is_proto3 = is_proto3(&words, files.tree(place));
+    let words = Words::new(files, file);
+    let is_proto3 = is_proto3(&words, files.tree(file));
     Scene::new(words, is_proto3, Vec::new(alloc))
 }

@@ -93,6 +93,6 @@ fn file_meanings(
         → AreRead files.now reads → IsFileLinked table.now seen.now rows.now files.now reads file
         → IsFileReferenceError files.now reads file e) }
 {
-    let words = Words::new(files, file as usize);
+    let words = Words::new(files, file);
     meanings(alloc, table, seen, &words, file, rows, &listing.used)
 }

@@ -267,7 +267,7 @@ impl Link {
             (reference_in files.now reads file path reference.now) ≡ None) }
     {
         let seen = self.seen.get(file as usize)?;
-        let words = Words::new(files, file as usize);
+        let words = Words::new(files, file);
         let row = row_in_scope(&self.table, seen, &words, scope, reference)?;
         Some(SymbolId { row })
     }

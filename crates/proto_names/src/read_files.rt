@@ -29,7 +29,7 @@ pub(crate) fn listings<'a>(alloc: Global, files: &'a Files) -> Result<Vec<Listin
     ensures { IfOk result (λ ls. AreListings files.now ls.items) }
 {
     let mut listings = Vec::with_capacity(alloc, files.len())?;
-    for file in 0..files.len() {
+    for file in 0..files.len() as u32 {
         listings.push(list_file(alloc, files.tree(file))?)?;
     }
     Ok(listings)
@@ -54,9 +54,9 @@ pub(crate) fn all_spelled(
 {
     are_read(files);
     let mut all = Vec::new(alloc);
-    for file in 0..files.len() {
+    for file in 0..files.len() as u32 {
         let words = Words::new(files, file);
-        all.push(spelled_names(alloc, &words, &listings[file].declared)?)?;
+        all.push(spelled_names(alloc, &words, &listings[file as usize].declared)?)?;
     }
     Ok(all)
 }
@@ -69,7 +69,7 @@ pub fn all_written(alloc: Global, files: &Files) -> Result<Vec<Vec<WrittenImport
         (map (λ v. v.items) ws.items) ≡ all_wanted (text_of files.now reads) 0 reads) }
 {
     let mut all = Vec::new(alloc);
-    for file in 0..files.len() {
+    for file in 0..files.len() as u32 {
         let words = Words::new(files, file);
         let wanted = imports(alloc, files.tree(file))?;
         all.push(written_imports(alloc, &words, &wanted)?)?;

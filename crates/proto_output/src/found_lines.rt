@@ -55,7 +55,7 @@ fn add_line(
 // A file by its number, and a place of its text.
 #[derive(Clone, Copy)]
 pub(crate) struct Spot {
-    pub(crate) file: usize,
+    pub(crate) file: u32,
     pub(crate) cursor: Cursor,
 }
 
@@ -71,7 +71,7 @@ impl Spot {
     }
 
     // At an offset of the text of the file with a number.
-    pub(crate) fn in_file(self, files: &Files, file: usize, offset: u32) -> Spot
+    pub(crate) fn in_file(self, files: &Files, file: u32, offset: u32) -> Spot
         requires { IsCursorIn (file_at files.now self.file).bytes self.cursor }
         ensures file { result.file ≡ file }
         ensures there { IsCursorIn (file_at files.now file).bytes result.cursor }
@@ -104,10 +104,10 @@ impl Spot {
 }
 
 // The text of a file; empty where there is none with the number.
-fn text_of(files: &Files, file: usize) -> &[u8]
+fn text_of(files: &Files, file: u32) -> &[u8]
     ensures { result.now ≡ (file_at files.now file).bytes }
 {
-    if file < files.len() {
+    if (file as usize) < files.len() {
         files.source(file).as_bytes()
     } else {
         &[]
@@ -123,10 +123,10 @@ pub(crate) fn text_named<'a>(files: &'a Files, path: &str) -> &'a [u8]
 
 // The number of the file at a path, which is looked for from a number on and then before it; the
 // count of the files where there is none.
-fn number_of(files: &Files, start: usize, path: &str) -> usize
+fn number_of(files: &Files, start: u32, path: &str) -> u32
     ensures { (file_at files.now result).bytes ≡ text_of_path path.now files.now }
 {
-    let count = files.len();
+    let count = files.len() as u32;
     match file_named(files, start, path) {
         Some(file) => file,
         None => count,

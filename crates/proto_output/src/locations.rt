@@ -66,7 +66,7 @@ fn at_reference(spot: Spot, files: &Files, reference: RefId) -> Spot
         ≡ reference_location files.now reads reference }
 {
     let offset = offset_in(files, reference);
-    spot.in_file(files, reference.file as usize, offset)
+    spot.in_file(files, reference.file, offset)
 }
 
 // Where the first token of a reference begins; 0 where the files have no such token.
@@ -74,8 +74,8 @@ fn offset_in(files: &Files, reference: RefId) -> u32
     ensures { (reads : List ReadOf) → AreRead files.now reads
         → result ≡ offset_at (read_at reads reference.file).tokens reference.token }
 {
-    let file = reference.file as usize;
-    if file < files.len() {
+    let file = reference.file;
+    if (file as usize) < files.len() {
         offset_of(files.tokens(file), reference.token)
     } else {
         0
@@ -91,10 +91,10 @@ fn spot_location<'a>(spot: Spot, files: &'a Files) -> Location<'a>
 }
 
 // The path of a file; empty where there is none with the number.
-fn path_of(files: &Files, file: usize) -> &str
+fn path_of(files: &Files, file: u32) -> &str
     ensures { result.now ≡ (file_at files.now file).path }
 {
-    if file < files.len() {
+    if (file as usize) < files.len() {
         files.path(file)
     } else {
         ""

@@ -60,8 +60,8 @@ fn changes_with(alloc: Global, sought: &Sought, to: &str) -> Result<Vec<Change>,
     ensures err { IfErr result (IsChangesFault sought.now.files.now sought.now.aim to.now) }
 {
     let mut changes = Vec::new(alloc);
-    for file in 0..sought.files.len() {
-        let change = change_in(alloc, sought, file as u32, to)?;
+    for file in 0..sought.files.len() as u32 {
+        let change = change_in(alloc, sought, file, to)?;
         push_some(&mut changes, change)?;
     }
     Ok(changes)
@@ -85,7 +85,7 @@ pub(crate) fn changes<'a>(
     ensures err { IfErr result (IsChangesFault files.now aim.entry to.now) }
 {
     let enum_name = enum_name(alloc, files, aim)?;
-    let old = Words::new(files, aim.file as usize).get(aim.token);
+    let old = Words::new(files, aim.file).get(aim.token);
     let sought = Sought {
         files,
         link,

@@ -56,10 +56,9 @@ pub(crate) fn change_of_file(
     ensures change { IfOk result (λ found. IsChangeAt files.now file places.now to.now found) }
     ensures fault { IfErr result (IsRewordFault files.now file places.now to.now) }
 {
-    let place = file as usize;
-    let source = files.source(place);
+    let source = files.source(file);
     let before = source.as_bytes().len() as u32;
-    let tokens = files.tokens(place);
+    let tokens = files.tokens(file);
     // Most files have none: their tokens are neither marked nor gone through.
     if places.is_empty() {
         return Ok(None);
@@ -77,7 +76,7 @@ pub(crate) fn change_of_file(
     drop(found);
     let splices = splices?;
     Ok(Some(Change {
-        path: files.path(place).to_string(alloc)?,
+        path: files.path(file).to_string(alloc)?,
         before,
         after,
         splices,

@@ -234,7 +234,7 @@ pub(crate) fn renamed_defaults_in<'a>(
         (fields_of_file (read_at reads file).tree)) }
 {
     let scene = scene(alloc, files, file);
-    let tree = files.tree(file as usize);
+    let tree = files.tree(file);
     // Most files do not use the enum: their fields are not gone through.
     if !one_means(link, enum_name, link.meant_in(file)) {
         return Ok(Vec::new(alloc));

@@ -146,6 +146,6 @@ pub(crate) fn clashes(alloc: Global, files: &Files, aim: Aim, word: &str) -> Res
         return Ok(false);
     }
     let name = camel_from(alloc, false, word)?;
-    let blocks = blocks_of(alloc, files.tree(aim.file as usize))?;
+    let blocks = blocks_of(alloc, files.tree(aim.file))?;
     one_clashes(alloc, &scene, &blocks, aim.token, &name)
 }

@@ -44,7 +44,7 @@ pub(crate) fn standing_in(
         return Ok(Vec::new(alloc));
     }
     are_read(files);
-    let listing = list_file(alloc, files.tree(file as usize))?;
+    let listing = list_file(alloc, files.tree(file))?;
     standing_words(alloc, link, aim.name, &listing.used, meant)
 }
 

@@ -146,7 +146,7 @@ pub fn enum_table<'a>(
     ensures { IfOk result (λ table. IsEnumTable files.now table.items) }
 {
     let mut table = Vec::new(alloc);
-    for file in 0..files.len() {
+    for file in 0..files.len() as u32 {
         let words = Words::new(files, file);
         let tree = files.tree(file);
         let is_proto3 = is_proto3(&words, tree);

@@ -78,9 +78,8 @@ fn scene<'a>(
     requires table { IsEnumTable files.now table.now }
     ensures { IfOk result (IsSceneOf files.now file) }
 {
-    let place = file as usize;
-    let words = Words::new(files, place);
-    let is_proto3 = is_proto3(&words, files.tree(place));
+    let words = Words::new(files, file);
+    let is_proto3 = is_proto3(&words, files.tree(file));
     let means = means(alloc, link, table, file)?;
     Ok(Scene::new(words, is_proto3, means))
 }
@@ -98,8 +97,8 @@ pub fn scenes<'a>(
     ensures { IfOk result (λ scenes. AreScenes files.now scenes.items) }
 {
     let mut scenes = Vec::new(alloc);
-    for file in 0..files.len() {
-        scenes.push(scene(alloc, files, link, table, file as u32)?)?;
+    for file in 0..files.len() as u32 {
+        scenes.push(scene(alloc, files, link, table, file)?)?;
     }
     Ok(scenes)
 }

@@ -33,10 +33,10 @@ const ROWS: &[Row] = &[
 // Whether these are the files, in the order of their paths.
 fn are_texts(schema: &Schema, texts: &str) -> bool {
     let files = schema.files();
-    let mut place = 0;
+    let mut place: u32 = 0;
     for file in texts.split('|') {
         let (path, text) = file.split_once(' ').unwrap_or((file, ""));
-        if place >= files.len()
+        if place as usize >= files.len()
             || files.path(place) != path
             || files.source(place).as_bytes() != text.as_bytes()
         {
@@ -44,7 +44,7 @@ fn are_texts(schema: &Schema, texts: &str) -> bool {
         }
         place += 1;
     }
-    place == files.len()
+    place as usize == files.len()
 }
 
 fn findings_text(alloc: Global, found: &[Finding]) -> Result<String, NoMemory> {

@@ -117,12 +117,11 @@ fn change_of_file(
         → IsChangeOfAddition files.now reads file paths.entry.path.now found) }
 {
     additions_are_read();
-    let place = file as usize;
     // A text is UTF-8.
-    files.source(place).as_bytes();
-    let end = end_before_import(files.tree(place));
+    files.source(file).as_bytes();
+    let end = end_before_import(files.tree(file));
     let at = match end {
-        Some(token) => files.tokens(place)[token as usize].span.end,
+        Some(token) => files.tokens(file)[token as usize].span.end,
         None => 0,
     };
     let text = text_of(alloc, end, paths.path)?;
@@ -169,7 +168,7 @@ pub fn add_import(
     ensures err { IfErr result (IsAdditionRefusal files.now file.now path.now) }
 {
     are_read(files);
-    // The paths of a workspace are apart, and its files few.
+    // The paths of a workspace are apart.
     files.len();
     let paths = Paths { file, path };
     let Some(from) = file_named(files, 0, file) else {
@@ -178,7 +177,6 @@ pub fn add_import(
     let Some(to) = file_named(files, 0, path) else {
         return Err(Refusal::UnknownFile);
     };
-    let (from, to) = (from as u32, to as u32);
     let imports = linked_imports(alloc, files)?;
     check_captured(alloc, files, link, &imports, paths, from, to)?;
     check_new(alloc, files, &imports, paths, from, to)?;

@@ -86,12 +86,12 @@ fn text_between<'a>(files: &'a Files, file: u32, after: u32, last: u32) -> &'a s
         → result.now ≡ bytes_between (file_at files.entry.now file).bytes
         (end_before tokens (suc after)) (end_before tokens (suc last)) }
 {
-    let tokens = files.tokens(file as usize);
+    let tokens = files.tokens(file);
     let span = Span {
         start: tokens[after as usize].span.end,
         end: tokens[last as usize].span.end,
     };
-    files.source(file as usize).text(span)
+    files.source(file).text(span)
 }
 
 /// What comes in the place of the statement: the reservation, for a
@@ -126,7 +126,7 @@ fn span_of(files: &Files, file: u32, place: FieldPlace) -> Span
         → (result.start ≡ offset_at tokens place.first)
         × (result.end ≡ end_before tokens (suc (last_replaced place))) }
 {
-    let tokens = files.tokens(file as usize);
+    let tokens = files.tokens(file);
     let last = place.oneof.unwrap_or(place.semicolon);
     Span {
         start: tokens[place.first as usize].span.start,
@@ -151,7 +151,7 @@ fn change_of_file(
         → IsChangeOfDeletion files.now reads name.now found) }
 {
     are_read(files);
-    let words = Words::new(files, field.file as usize);
+    let words = Words::new(files, field.file);
     let number = number_of(words.get(place.number)) as u64;
     let reservation = reservation(alloc, number, words.get(field.token))?;
     let text = text_of(alloc, files, field.file, place, reservation.as_str())?;
@@ -204,7 +204,7 @@ pub fn delete_field(
     are_read(files);
     fields_are_one();
     let field = field_named(files, link, name)?;
-    let tree = files.tree(field.file as usize);
+    let tree = files.tree(field.file);
     if is_alone(tree, field.token) {
         return Err(Refusal::LastOfOneof);
     }

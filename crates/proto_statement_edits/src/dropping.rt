@@ -30,10 +30,9 @@ fn needed_refusal(alloc: Global, files: &Files, reference: RefId) -> Result<Refu
     requires { reference.file < length files.now }
     ensures { IfOk result (IsNeededAtToken files.now reference.file reference.token) }
 {
-    let place = reference.file as usize;
     Ok(Refusal::Needed {
-        path: files.path(place).to_string(alloc)?,
-        offset: offset_of(files.tokens(place), reference.token),
+        path: files.path(reference.file).to_string(alloc)?,
+        offset: offset_of(files.tokens(reference.file), reference.token),
     })
 }
 
@@ -82,8 +81,8 @@ fn changes_of_drop(
 {
     are_read(files);
     // A text is short.
-    files.source(file as usize).as_bytes();
-    let tokens = files.tokens(file as usize);
+    files.source(file).as_bytes();
+    let tokens = files.tokens(file);
     let span = Span {
         start: tokens[import.keyword as usize].span.start,
         end: tokens[import.semicolon as usize].span.end,
@@ -111,13 +110,12 @@ pub fn drop_import(
     ensures err { IfErr result (IsDropRefusal files.now file.now path.now) }
 {
     are_read(files);
-    // The paths of a workspace are apart, and its files few.
+    // The paths of a workspace are apart.
     files.len();
     let paths = Paths { file, path };
     let Some(from) = file_named(files, 0, file) else {
         return Err(Refusal::UnknownFile);
     };
-    let from = from as u32;
     let Some(import) = import_named(files, from, path) else {
         return Err(Refusal::NotImported);
     };
@@ -125,6 +123,6 @@ pub fn drop_import(
     let Some(to) = file_named(files, 0, path) else {
         unreachable!();
     };
-    check_needed(alloc, files, link, paths, from, to as u32)?;
+    check_needed(alloc, files, link, paths, from, to)?;
     changes_of_drop(alloc, files, paths, from, import)
 }

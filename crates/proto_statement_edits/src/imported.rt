@@ -26,8 +26,8 @@ pub(crate) fn import_named(files: &Files, file: u32, path: &str) -> Option<Impor
     ensures { (reads : List ReadOf) → AreRead files.now reads
         → IsImportNamed files.now reads file path.now result }
 {
-    let words = Words::new(files, file as usize);
-    for item in &files.tree(file as usize).items {
+    let words = Words::new(files, file);
+    for item in &files.tree(file).items {
         if let Some(import) = import_of(&words, item, path) {
             return Some(import);
         }

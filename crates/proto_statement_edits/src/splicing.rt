@@ -26,8 +26,7 @@ pub fn splice_change(
     ensures { IfOk result (λ found. IsSpliced (file_at files.now file)
         (splice (file_at files.now file).bytes span.start span.end new.now) found) }
 {
-    let place = file as usize;
-    let source = files.source(place);
+    let source = files.source(file);
     let before = source.as_bytes().len();
     let old = source.text(span);
     let kept = before - old.len();
@@ -35,7 +34,7 @@ pub fn splice_change(
         return Ok(None);
     }
     Ok(Some(Change {
-        path: files.path(place).to_string(alloc)?,
+        path: files.path(file).to_string(alloc)?,
         before: before as u32,
         after: (kept + new.len()) as u32,
         splices: one_splice(alloc, span.start, old, new)?,

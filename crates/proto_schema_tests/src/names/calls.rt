@@ -100,8 +100,7 @@ fn put<R: Abort>(rt: &R, out: &mut String, text: &str) {
 
 // A place as `path:offset`.
 fn tell_token<R: Abort>(rt: &R, out: &mut String, files: &Files, file: u32, token: u32) {
-    let file = file as usize;
-    if file >= files.len() {
+    if file as usize >= files.len() {
         put(rt, out, "no file");
         return;
     }

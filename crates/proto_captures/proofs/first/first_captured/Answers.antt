@@ -15,27 +15,27 @@ returns-in-Some c = λ reads are t aimed. (
     let l = aim_inside files aim c.are_read.ensures c.requires.aim in
     let r = rename_of files aim to reads are t aimed c.requires.linked c.requires.word (c.requires.free reads are t aimed) in
     let texts = names_of_aim files aim to reads are t aimed c.new-own.result (texts_of c.in_ok-names.names) l c.new-own.ensures.words c.in_ok-names.ensures in
-    let one = subst (IsFirstIn files reads t to c.loop-place.place) c.in-Some.is (c.in_ok-token.ensures reads t to r texts) in
-    first_of_all files reads are t to c.loop-place.place c.in-Some.token (λ k lk. c.loop-place.invariant k lk reads are t aimed) one)
+    let one = subst (IsFirstIn files reads t to c.loop-file.file) c.in-Some.is (c.in_ok-token.ensures reads t to r texts) in
+    first_of_all files reads are t to c.loop-file.file c.in-Some.token (λ k lk. c.loop-file.invariant k lk reads are t aimed) one)
 
-pub loop-place-preserved : goal.loop-place-preserved
-loop-place-preserved c = λ k lk reads are t aimed. (
+pub loop-file-preserved : goal.loop-file-preserved
+loop-file-preserved c = λ k lk reads are t aimed. (
     let files = c.args.files.now in
     let aim = c.args.aim.now in
     let to = c.args.to.now in
     let l = aim_inside files aim c.are_read.ensures c.requires.aim in
     let r = rename_of files aim to reads are t aimed c.requires.linked c.requires.word (c.requires.free reads are t aimed) in
     let texts = names_of_aim files aim to reads are t aimed c.new-own.result (texts_of c.in_ok-names.names) l c.new-own.ensures.words c.in_ok-names.ensures in
-    let none = subst (IsFirstIn files reads t to c.loop-place.place) (nothing c.in_ok-token.field-0 c.in_default.not-Some) (c.in_ok-token.ensures reads t to r texts) in
-    elim (cases_lt k c.loop-place.place) [
-      | inl before ↦ c.loop-place.invariant k before reads are t aimed
+    let none = subst (IsFirstIn files reads t to c.loop-file.file) (nothing c.in_ok-token.field-0 c.in_default.not-Some) (c.in_ok-token.ensures reads t to r texts) in
+    elim (cases_lt k c.loop-file.file) [
+      | inl before ↦ c.loop-file.invariant k before reads are t aimed
       | inr here ↦
-          let same : c.loop-place.place ≡ k = omega (arith, here, lk) in
+          let same : c.loop-file.file ≡ k = omega (arith, here, lk) in
           subst (λ i. IsFirstIn files reads t to i None) same none
     ])
 
 pub returns : goal.returns
 returns c = λ reads are t aimed. (
-    let n = c.len-place-end.ensures.len in
-    let end = c.loop-place-test.false in
-    none_in_all c.args.files.now reads are t c.args.to.now (λ k lk. c.loop-place.invariant k (omega (arith, lk, n, end)) reads are t aimed))
+    let n = c.len-file-end.ensures.len in
+    let end = c.loop-file-test.false in
+    none_in_all c.args.files.now reads are t c.args.to.now (λ k lk. c.loop-file.invariant k (omega (arith, lk, n, end)) reads are t aimed))

@@ -1,4 +1,3 @@
-use Rattle.std.proofs.Common.{arith}
 use Rattle.proto_statement_edits.proofs.Additions.{no_file, no_path}
 use Rattle.proto_statement_names.proofs.PathPlaces.{no_place_of, place_of_path}
 use Rattle.proto_statement_edits.proofs.adding.add_import.Goals as goal
@@ -8,12 +7,6 @@ returns-in_default-clause-err c = no_file c.args.files.now c.are_read.ensures.0 
 
 pub returns-in_default-file_named-clause-err : goal.returns-in_default-file_named-clause-err
 returns-in_default-file_named-clause-err c = no_path c.args.files.now c.are_read.ensures.0 c.are_read.ensures.1 c.args.file.now c.args.path.now (no_place_of c.args.files.now c.args.path.now c.in_default-file_named.ensures.none)
-
-pub overflow_cast-from : goal.overflow_cast-from
-overflow_cast-from c = let few = c.len.ensures.workspace.few in let l = c.in-Some.ensures.within in omega (arith, few, l)
-
-pub overflow_cast-to : goal.overflow_cast-to
-overflow_cast-to c = let few = c.len.ensures.workspace.few in let l = c.in-Some-file_named.ensures.within in omega (arith, few, l)
 
 pub check_captured-requires-clause-file : goal.check_captured-requires-clause-file
 check_captured-requires-clause-file c = place_of_path c.args.files.now c.len.ensures.workspace c.in-Some.from c.in-Some.ensures.within c.args.file.now c.in-Some.ensures.path

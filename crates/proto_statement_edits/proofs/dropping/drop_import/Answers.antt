@@ -1,4 +1,3 @@
-use Rattle.std.proofs.Common.{arith}
 use Rattle.proto_statement_edits.proofs.Drops.{free_13, no_file, refused_13}
 use Rattle.proto_statement_edits.proofs.NoImportFault.{none_missing}
 use Rattle.proto_statement_names.proofs.PathPlaces.{no_place_of, place_of_path}
@@ -6,9 +5,6 @@ use Rattle.proto_statement_edits.proofs.dropping.drop_import.Goals as goal
 
 pub returns-in_default-clause-err : goal.returns-in_default-clause-err
 returns-in_default-clause-err c = no_file c.args.files.now c.are_read.ensures.0 c.are_read.ensures.1 c.args.file.now c.args.path.now (no_place_of c.args.files.now c.args.file.now c.in_default.ensures.none)
-
-pub overflow_cast-from : goal.overflow_cast-from
-overflow_cast-from c = let few = c.len.ensures.workspace.few in let l = c.in-Some.ensures.within in omega (arith, few, l)
 
 pub returns-in_default-import_named-clause-err : goal.returns-in_default-import_named-clause-err
 returns-in_default-import_named-clause-err c =
@@ -22,9 +18,6 @@ unreachable-requires c =
     let reads = c.are_read.ensures.0 in
     let are = c.are_read.ensures.1 in
     none_missing files reads are c.requires.linked c.in-Some.from c.args.path.now (c.in-Some-import_named.ensures reads are).0 (no_place_of files c.args.path.now c.in_default-file_named.ensures.none)
-
-pub overflow_cast-to : goal.overflow_cast-to
-overflow_cast-to c = let few = c.len.ensures.workspace.few in let l = c.in-Some-file_named.ensures.within in omega (arith, few, l)
 
 pub check_needed-requires-clause-file : goal.check_needed-requires-clause-file
 check_needed-requires-clause-file c = place_of_path c.args.files.now c.len.ensures.workspace c.in-Some.from c.in-Some.ensures.within c.args.file.now c.in-Some.ensures.path

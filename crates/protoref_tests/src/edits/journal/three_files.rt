@@ -77,8 +77,8 @@ fn is_before(workspace: &Workspace) -> bool {
     let files = workspace.files();
     for (place, (path, old, _)) in FILES.iter().enumerate() {
         if place >= files.len()
-            || files.path(place) != *path
-            || files.source(place).as_bytes() != old.as_bytes()
+            || files.path(place as u32) != *path
+            || files.source(place as u32).as_bytes() != old.as_bytes()
         {
             return false;
         }
