@@ -1,4 +1,5 @@
 pub mod Common
+mod Copies
 mod EachFile
 pub mod FileLists
 mod FileMeanings
@@ -14,6 +15,7 @@ mod Linking
 mod MeantBy
 pub mod MeantNames
 mod NameErrors
+mod NamesOfRows
 mod Referring
 mod Scopes
 mod TableNames

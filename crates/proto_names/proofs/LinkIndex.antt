@@ -9,7 +9,7 @@ use Rattle.proto_tree.specs.References.{dotted}
 use Rattle.proto_meaning.proofs.Common.{joined, ArePlain, Reference, Symbol, Workspace, meaning, MarksSeen}
 use Rattle.proto_names.specs.Common.{HoldsNames, IsLinkBy, NameOf, LinkOf, name_of_row}
 use Rattle.proto_imports.proofs.Common.{names_in, text_of, link_skeleton, names_of_files, names_are_plain}
-use Rattle.proto_table.proofs.Common.{declaring_files, IsIndexOf, names_of, pick}
+use Rattle.proto_table.proofs.Common.{files_of, IsIndexOf, names_of, pick}
 use Rattle.proto_names.specs.Scopes.{reference_in}
 use Rattle.proto_table.specs.declared.table.Row.{Row}
 use Rattle.proto_table.specs.declared.table.Table.{Table}
@@ -30,14 +30,14 @@ link_index t l same w holds plain = record { plain = plain; row = row; symbol = 
     text_is : (k : ℕ) (d : Row) → k < length t.rows.items → get_or (names_of t) k [] ≡ string_bytes (get_or t.rows.items k d).name
     text_is k d lk = get_or-map (λ r. string_bytes r.name) t.rows.items k d [] lk
 
-    row : (s : Symbol) → Contains w.symbols s → (k : ℕ) × (k < length t.rows.items) × (get_or (names_of t) k [] ≡ joined s.name) × ((d : Row) → ((get_or t.rows.items k d).symbol.kind ≡ s.kind) × Contains (declaring_files (get_or t.rows.items k d)) s.file)
+    row : (s : Symbol) → Contains w.symbols s → (k : ℕ) × (k < length t.rows.items) × (get_or (names_of t) k [] ≡ joined s.name) × ((d : Row) → ((get_or t.rows.items k d).symbol.kind ≡ s.kind) × Contains (files_of (get_or t.rows.items k d)) s.file)
     row s c =
         let h = holds.there s c in
         let x = row_of t.rows.items h.0 h.1 (ap (λ (ns : List NameOf). slice_get ns h.0) same ∙ h.2) in
         let d = pick t.rows.items h.0 x.0 in
         (h.0, x.0, text_is h.0 d x.0 ∙ ap (λ (n : NameOf). n.text) (x.1 d) ∙ h.3, λ d. (ap (λ (n : NameOf). n.kind) (x.1 d) ∙ h.4, subst (λ (fs : List ℕ). Contains fs s.file) (sym (ap (λ (n : NameOf). n.files) (x.1 d))) h.5))
 
-    symbol : (k file : ℕ) (d : Row) → k < length t.rows.items → Contains (declaring_files (get_or t.rows.items k d)) file → (s : Symbol) × Contains w.symbols s × (joined s.name ≡ get_or (names_of t) k []) × (s.kind ≡ (get_or t.rows.items k d).symbol.kind) × (s.file ≡ file)
+    symbol : (k file : ℕ) (d : Row) → k < length t.rows.items → Contains (files_of (get_or t.rows.items k d)) file → (s : Symbol) × Contains w.symbols s × (joined s.name ≡ get_or (names_of t) k []) × (s.kind ≡ (get_or t.rows.items k d).symbol.kind) × (s.file ≡ file)
     symbol k file d lk c =
         let h = holds.only k file (name_of_row (get_or t.rows.items k d)) (ap (λ (ns : List NameOf). slice_get ns k) (sym same) ∙ name_is t.rows.items k d lk) c in
         (h.0, h.1, h.2 ∙ sym (text_is k d lk), h.3, h.4)

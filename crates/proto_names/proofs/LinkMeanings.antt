@@ -2,9 +2,10 @@
 use Rattle.std.proofs.Common.{◌≡◌, ℕ, suc, ◌<◌, List, [], ◌∷◌, length, get_or, map, option_map, Some, refl, sym, ◌∙◌, ap, subst, arith, All, AllPairs}
 use Rattle.proto_faults.proofs.Common.{Vec, get_or-map, length-map}
 use Rattle.proto_files.proofs.Common.{FileOf, file_at, ReadOf, AreRead, read_at}
-use Rattle.proto_names.specs.Common.{AreFileMeant, uses_of, IsLinkBy, IsLinkRead, meant_by_link, meant_by_use, LinkOf, name_of_row, Meant}
+use Rattle.proto_names.specs.LinkOfFiles.{IsMeantIn}
+use Rattle.proto_names.specs.Common.{AreFileMeant, uses_of, meant_by_link, meant_by_use, LinkOf, name_of_row, Meant}
 use Rattle.proto_meaning.proofs.Common.{joined, meaning, Used}
-use Rattle.proto_imports.specs.Links.{link_skeleton, names_of_files, text_of}
+use Rattle.proto_imports.specs.Links.{names_of_files, text_of}
 use Rattle.proto_table.proofs.Common.{used_named, IsTable, names_of, pick}
 use Rattle.proto_table.specs.declared.table.Table.{Table}
 use Rattle.proto_names.proofs.Linking.{text_from}
@@ -46,17 +47,12 @@ module _ (files : List FileOf) (reads : List ReadOf) (t : Table) (ok : IsTable t
       let text = text_from t ok l same m.row (get_or (names_of t) m.row []) (rows 0 m (omega arith)) refl ∙ here in
       λ i. record { token = token i; text = text i } ∷ same_texts file us ms tokens_on (λ k d n. rows (suc k) d (omega (arith, n))) names_on i
 
-  pub is_link_read : AreRead files reads → IsLinkBy (text_of files reads) (link_skeleton files reads) l → length l.meant ≡ length files → ((k : ℕ) → k < length files → AreFileMeant t files reads k (get_or l.meant k [])) → IsLinkRead files reads l
-  is_link_read are by sized means = record {
-    by = by;
-    lists = sized;
-    means = λ file m.
-        (let ms = get_or l.meant file [] in
-        let a = means file m in
-        let rows : length l.names ≡ length t.rows.items = ap length (sym same) ∙ length-map t.rows.items name_of_row in
-        record {
-          texts = same_texts file (uses_of reads file) ms a.places a.within a.names;
-          rising = tokens_rise t files reads are file m ms a;
-          within = λ k d n. (let w = a.within k d n in omega (arith, w, rows));
-        });
-  }
+  pub is_meant_in : AreRead files reads → (file : ℕ) → file < length files → AreFileMeant t files reads file (get_or l.meant file []) → IsMeantIn files reads l file
+  is_meant_in are file m a =
+      let ms = get_or l.meant file [] in
+      let rows : length l.names ≡ length t.rows.items = ap length (sym same) ∙ length-map t.rows.items name_of_row in
+      record {
+        texts = same_texts file (uses_of reads file) ms a.places a.within a.names;
+        rising = tokens_rise t files reads are file m ms a;
+        within = λ k d n. (let w = a.within k d n in omega (arith, w, rows));
+      }

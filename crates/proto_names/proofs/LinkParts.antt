@@ -8,6 +8,8 @@ use Rattle.proto_meaning.proofs.Common.{place_of, At, at, all_used, used_in, joi
 use Rattle.proto_names.specs.Common.{AreFileMeant, uses_of, AreNamesOf, HoldsNames, IsLinkBy, has_text, reference_id, LinkOf, MeantBy, NameOf, all_meant, meant_in_file, name_at, name_of_row, references_to, AreMeant, RefId, Meant}
 use Rattle.proto_imports.proofs.Common.{all_imports, link_imports, link_skeleton, names_in, names_of_files, text_of, import_in, imports_within}
 use Rattle.proto_table.proofs.Common.{used_named, IsIndexOf, IsTable, aboves_of, look, names_of, pick}
+use Rattle.proto_table.specs.Tables.{AreDeclared}
+use Rattle.proto_names.proofs.Linking.{first_file, has_file}
 use Rattle.proto_imports.specs.declared.import.FileImport.{FileImport}
 use Rattle.proto_table.specs.declared.table.Row.{Row}
 use Rattle.proto_table.specs.declared.table.Table.{Table}
@@ -42,12 +44,13 @@ module _ (t : Table) (ok : IsTable t) where
     one_row : (i j : ℕ) (n : NameOf) → name_at l i ≡ Some n → j < length t.rows.items → get_or (names_of t) j [] ≡ n.text → j ≡ i
     one_row i j n h lj e = let r = text_to i n h in apart j i lj r.0 (e ∙ sym r.1)
 
-    pub holds_names : (w : Workspace) → IsIndexOf t w.symbols → HoldsNames w l
-    holds_names w index = record {
+    pub holds_names : AreDeclared t.rows.items → (w : Workspace) → IsIndexOf t w.symbols → HoldsNames w l
+    holds_names alive w index = record {
       plain = index.plain;
       declared = λ row n h.
           (let r = name_to row n h in
-          subst (λ (y : NameOf). 0 < length y.files) (r.1 (pick t.rows.items row r.0)) (omega arith));
+          let d = pick t.rows.items row r.0 in
+          subst (λ (y : NameOf). 0 < length y.files) (r.1 d) (has_file (get_or t.rows.items row d) (alive row d r.0)));
       there = λ s c.
           (let x = index.row s c in
           let d = pick t.rows.items x.0 x.1 in (
@@ -156,7 +159,7 @@ files_between files reads are imports len within same i c =
     let n : (names_of_files files reads).files ≡ length files = length-map reads names_in ∙ are.same in
     (omega (arith, n, b, e, length-map imports (λ v. v.items), len), omega (arith, n, a))
 
-module _ (files : List FileOf) (reads : List ReadOf) (are : AreRead files reads) (t : Table) (ok : IsTable t) (rows : List (Vec ℕ)) (names : AreNamesOf files reads t rows) where
+module _ (files : List FileOf) (reads : List ReadOf) (are : AreRead files reads) (t : Table) (ok : IsTable t) (rows : List (Vec ℕ)) (names : AreNamesOf files reads t rows) (alive : AreDeclared t.rows.items) where
   abbrev text : At → List ℕ
   text = text_of files reads
 
@@ -171,14 +174,15 @@ module _ (files : List FileOf) (reads : List ReadOf) (are : AreRead files reads)
   is_link seen meant l same seen_is seen_len meant_len paired between marks meanings each =
       let sized : length (map names_in reads) ≡ length files = length-map reads names_in ∙ are.same in
       record {
-        names = holds_names t ok l same w names.index;
+        names = holds_names t ok l same alive w names.index;
         places = λ d c other row n h e.
             (let x = names.tokens d c other in
             let here : x.row ≡ row = one_row t ok l same row x.row n h x.within (x.name ∙ sym e) in
             let r = name_to t ok l same row n h in
             let r0 = pick t.rows.items row r.0 in
             let place = subst (λ (k : ℕ). at (get_or t.rows.items k r0).symbol.file (get_or t.rows.items k r0).symbol.token ≡ place_of d) here (x.place r0) in
-            ap (λ (y : NameOf). at (get_or y.files 0 0) y.token) (sym (r.1 r0)) ∙ place);
+            let own = get_or t.rows.items row r0 in
+            ap (λ (y : NameOf). at (get_or y.files 0 0) y.token) (sym (r.1 r0)) ∙ ap (λ (f : ℕ). at f own.symbol.token) (first_file own (alive row r0 r.0)) ∙ place);
         seen = λ file lt. subst (λ (s : List (List Bool)). MarksSeen w file (get_or s file [])) seen_is (marks file (omega (arith, lt, sized)));
         files = ap length (sym seen_is) ∙ seen_len ∙ sym sized;
         between = between;

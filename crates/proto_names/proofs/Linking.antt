@@ -1,7 +1,8 @@
 -- The names of a link are those of its table.
-use Rattle.std.proofs.Common.{◌≡◌, ◌≢◌, ◌⊎◌, ℕ, zero, suc, ◌<◌, ◌≤◌, Bool, true, false, ◌&&◌, ◌||◌, List, [], ◌∷◌, length, get_or, map, slice_get, Option, option_map, None, Some, refl, sym, ◌∙◌, ap, subst, inl, inr, arith, string_bytes, if◌then◌else◌, All, option_and_then, bytes_eq}
+use Rattle.std.proofs.Common.{◌≡◌, ◌≢◌, ◌⊎◌, ℕ, zero, suc, ◌<◌, ◌≤◌, Bool, true, false, ◌&&◌, ◌||◌, List, [], ◌∷◌, length, get_or, map, slice_get, Option, option_map, None, Some, refl, sym, ◌∙◌, ap, subst, inl, inr, arith, string_bytes, if◌then◌else◌, All, option_and_then, bytes_eq, cond}
 use Rattle.proto_faults.proofs.Common.{Vec, list_any, cases_Bool, false_from_ne_true, both_ways, and_parts, and_from, get_or-map, get_or_default, get_or_past, length-map, list_any_at, slice_get-get_or, slice_get_past, slice_get_read, none-some, same_Some, any_to, any_map, word_from_same, same_from_word}
 use Rattle.proto_meaning.proofs.Common.{joined, ArePlain, is_package, Workspace, shows, MarksSeen, names_apart}
+use Rattle.proto_table.specs.Tables.{AreDeclared, files_of}
 use Rattle.proto_table.proofs.Common.{IsIndexOf, is_seen, names_of, aboves_of, look, IsTable, shows_from, shows_to, pick}
 use Rattle.proto_names.specs.Linking.{NameOf, LinkOf, name_of_row, name_text, sees_one, shows_text, is_visible}
 use Rattle.proto_table.specs.declared.table.Row.{Row}
@@ -64,14 +65,34 @@ text_row [] row = refl
 text_row (r ∷ rows) zero = refl
 text_row (r ∷ rows) (suc row) = text_row rows row
 
--- each name has a file
-pub declared_all : (rows : List Row) (names : List NameOf) → map name_of_row rows ≡ names → All (λ n. 0 < length n.files) names
-declared_all rows names same = subst (All (λ n. 0 < length n.files)) same (go rows)
+-- a row that is declared has the file of its declaration first
+some_files : (r : Row) → r.is_declared ≡ true → files_of r ≡ r.symbol.file ∷ r.more.items
+some_files r h = ap (λ b. cond b (r.symbol.file ∷ r.more.items) []) h
+
+pub first_file : (r : Row) → r.is_declared ≡ true → get_or (files_of r) 0 0 ≡ r.symbol.file
+first_file r h = ap (λ fs. get_or fs 0 0) (some_files r h)
+
+pub has_file : (r : Row) → r.is_declared ≡ true → 0 < length (files_of r)
+has_file r h = omega (arith, ap length (some_files r h))
+
+-- each name has a file, where each row is declared
+pub declared_all : (rows : List Row) (names : List NameOf) → map name_of_row rows ≡ names → AreDeclared rows → All (λ n. 0 < length n.files) names
+declared_all rows names same alive = subst (All (λ n. 0 < length n.files)) same (go rows alive)
   where
-    go : (rows : List Row) (k : ℕ) (d : NameOf) → k < length (map name_of_row rows) → 0 < length (get_or (map name_of_row rows) k d).files
-    go [] k d l = absurd (omega (arith, l))
-    go (r ∷ rows) zero d l = omega arith
-    go (r ∷ rows) (suc k) d l = go rows k d (omega (arith, l))
+    go : (rows : List Row) → AreDeclared rows → (k : ℕ) (d : NameOf) → k < length (map name_of_row rows) → 0 < length (get_or (map name_of_row rows) k d).files
+    go [] alive k d l = absurd (omega (arith, l))
+    go (r ∷ rows) alive zero d l = has_file r (alive 0 r (omega arith))
+    go (r ∷ rows) alive (suc k) d l = go rows (λ j e m. alive (suc j) e (omega (arith, m))) k d (omega (arith, l))
+
+-- so is the row that `declared` answers
+pub own_alive : (rows : List Row) (k : ℕ) (r : Row) → Some r ≡ option_and_then (λ r. if is_package r.symbol.kind then None else Some r) (slice_get rows k) → AreDeclared rows → r.is_declared ≡ true
+own_alive [] k r h alive = absurd (none-some r (sym h))
+own_alive (x ∷ rows) zero r h alive = by (is_package x.symbol.kind) h
+  where
+    by : (b : Bool) → Some r ≡ (if b then None else Some x) → r.is_declared ≡ true
+    by true e = absurd (none-some r (sym e))
+    by false e = ap (λ (y : Row). y.is_declared) (same_Some r x e) ∙ alive 0 x (omega arith)
+own_alive (x ∷ rows) (suc k) r h alive = own_alive rows k r h (λ j d l. alive (suc j) d (omega (arith, l)))
 
 there : (xs : List (List ℕ)) (i : ℕ) (x : List ℕ) → slice_get xs i ≡ Some x → (i < length xs) × (get_or xs i [] ≡ x)
 there [] i x h = absurd (none-some x h)

@@ -1,7 +1,7 @@
 -- What proofs of this crate name of its own definitions, passed on from one place.
 -- Declares nothing.
 pub use Rattle.proto_names.specs.FileReferences.{AreFileMeant, AreLinked, IsFileReferenceError, IsFileLinked, IsFirstFlawed, IsLeastBad, declared_names, flaw_number, uses_of}
-pub use Rattle.proto_names.specs.LinkOfFiles.{AreNamesOf, HasNoImportFault, HasNoNameFault, HoldsNames, RowIsDeclaredIn, IsLinkBy, IsLinkRead, has_text, meant_by_link, meant_by_use, reference_id}
+pub use Rattle.proto_names.specs.LinkOfFiles.{AreNamesOf, HasNoImportFault, HasNoNameFault, HoldsNames, IsDeclaredBy, RowIsDeclaredIn, IsLinkBy, IsLinkRead, has_text, meant_by_link, meant_by_use, reference_id}
 pub use Rattle.proto_names.specs.Linking.{LinkOf, MeantBy, NameOf, all_meant, is_visible, meant_at, meant_in_file, name_at, name_of_row, references_to, row_at, sees_one}
 pub use Rattle.proto_names.specs.Referring.{AreMeant, IsFaultless, IsFirstBad, IsFlawed, IsReadBy, IsReferenceError, first_token_of_use, found_flaw, kind_flaw, reference_by, row_flaw, scope_above}
 pub use Rattle.proto_names.specs.declared.link.RefId.{RefId}

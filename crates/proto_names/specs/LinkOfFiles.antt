@@ -1,11 +1,12 @@
--- When a link is that of files: it has their names, what each file sees, what each reference means,
--- and the references that mean each name.
+-- When a link is that of files: it has their names and imports, what each file declares and sees,
+-- what each reference means, and the references that mean each name.
 use Rattle.std.specs.Prelude.{◌≡◌, ◌≢◌, ℕ, ◌+◌, ◌<◌, Bool, false, List, [], length, get_or, map, Option, Some, None, option_map}
 use Rattle.std.specs.Global.{Vec}
 use Rattle.std.specs.List.{All, AllPairs, Contains, filter}
 use Rattle.std.specs.Str.{bytes_eq}
 use Rattle.proto_faults.specs.Texts.{Text}
-use Rattle.proto_files.specs.GivenFiles.{FileOf, paths_of}
+use Rattle.proto_files.specs.Faults.{HasNoFault}
+use Rattle.proto_files.specs.GivenFiles.{FileOf, file_at, paths_of}
 use Rattle.proto_case.specs.Camel.{entry_name}
 use Rattle.proto_meaning.specs.Faults.{Fault, ImportFault, NameFault, place_of}
 use Rattle.proto_names.specs.FileReferences.{declared_names, uses_of}
@@ -15,7 +16,8 @@ use Rattle.proto_meaning.specs.Joined.{ArePlain, joined}
 use Rattle.proto_meaning.specs.Linked.{ImportsAreOfFiles}
 use Rattle.proto_names.specs.Linking.{LinkOf, NameOf, name_at, name_text}
 use Rattle.proto_files.specs.FilesRead.{ReadOf, AreRead}
-use Rattle.proto_imports.specs.Links.{all_wanted, link_skeleton, names_of_files, text_of}
+use Rattle.proto_imports.specs.Importing.{all_imports}
+use Rattle.proto_imports.specs.Links.{LinkFaults, all_wanted, link_imports, link_skeleton, names_of_files, text_of}
 use Rattle.proto_meaning.specs.declared.kind.Kind.TheVariants.{Package}
 use Rattle.proto_meaning.specs.Names.{Symbol, Workspace, meaning}
 use Rattle.proto_table.specs.Naming.{used_named}
@@ -99,15 +101,45 @@ pub record IsMeantIn (files : List FileOf) (reads : List ReadOf) (l : LinkOf) (f
   pub rising : AllPairs (λ m n. m.token < n.token) (get_or l.meant file [])
   pub within : All (λ m. m.row < length l.names) (get_or l.meant file [])
 
+-- the names of what the file declares, its package first, in order
+abbrev pub IsDeclaredBy : List FileOf → List ReadOf → LinkOf → ℕ → Type 0
+IsDeclaredBy files reads l file =
+    map (name_text l) (get_or l.rows file [])
+    ≡ map (λ name. Some (joined name)) (declared_names files reads file)
+
 -- the link of files that are read so
 pub record IsLinkRead (files : List FileOf) (reads : List ReadOf) (l : LinkOf) : Type 0 where
   pub by : IsLinkBy (text_of files reads) (link_skeleton files reads) l
+  pub imported : length l.imports ≡ length files
+  pub imports : all_imports 0 l.imports ≡ link_imports files reads
+  pub listed : length l.rows ≡ length files
+  pub declares : (file : ℕ) → file < length files → IsDeclaredBy files reads l file
   pub lists : length l.meant ≡ length files
   pub means : (file : ℕ) → file < length files → IsMeantIn files reads l file
 
 -- the link of files: of whatever is read of them, it is the link
 abbrev pub IsLinkOf : List FileOf → LinkOf → Type 0
 IsLinkOf files l = (reads : List ReadOf) → AreRead files reads → IsLinkRead files reads l
+
+-- ---- a link of files some of which are others now
+
+-- the link of files that are read and have no fault of imports, names and references
+pub record IsCleanLinkOf (files : List FileOf) (l : LinkOf) : Type 0 where
+  pub link : IsLinkOf files l
+  pub clean : HasNoFault (LinkFaults files)
+  pub reads : List ReadOf
+  pub read : AreRead files reads
+
+-- files with the same paths, the same but at these places
+pub record AreSameBut (places : List ℕ) (before files : List FileOf) : Type 0 where
+  pub paths : paths_of before ≡ paths_of files
+  pub others : (file : ℕ) → file < length files → (Contains places file → ⊥)
+      → file_at before file ≡ file_at files file
+
+-- it is the link of files that are the same but at these places
+abbrev pub WasLinkOf : List FileOf → List ℕ → LinkOf → Type 0
+WasLinkOf files places l =
+    (before : List FileOf) × IsCleanLinkOf before l × AreSameBut places before files
 
 -- ---- its parts
 

@@ -7,7 +7,8 @@ use Rattle.std.specs.Str.{bytes_eq}
 use Rattle.proto_faults.specs.Texts.{Text}
 use Rattle.proto_meaning.specs.declared.kind.Kind.{Kind}
 use Rattle.proto_meaning.specs.Linked.{is_package}
-use Rattle.proto_table.specs.Resolved.{declaring_files}
+use Rattle.proto_imports.specs.declared.import.FileImport.{FileImport}
+use Rattle.proto_table.specs.Tables.{files_of}
 use Rattle.proto_names.specs.declared.link.RefId.{RefId}
 use Rattle.proto_names.specs.declared.references.Meant.{Meant}
 use Rattle.proto_table.specs.declared.table.Row.{Row}
@@ -25,14 +26,16 @@ abbrev pub name_of_row : Row → NameOf
 name_of_row r = record {
   text = string_bytes r.name;
   kind = r.symbol.kind;
-  files = declaring_files r;
+  files = files_of r;
   token = r.symbol.token;
 }
 
--- the names; for each file, the marks of the files that it sees, and what its references mean; for
--- each name, the references that mean it
+-- the names; for each file, its imports, the names that it declares, the marks of the files that it
+-- sees, and what its references mean; for each name, the references that mean it
 pub record LinkOf : Type 0 where
   pub names : List NameOf
+  pub imports : List (List FileImport)
+  pub rows : List (List ℕ)
   pub seen : List (List Bool)
   pub meant : List (List Meant)
   pub references : List (List RefId)

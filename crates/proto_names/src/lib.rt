@@ -3,6 +3,7 @@
 
 mod all_references;
 mod backlinks;
+mod copying;
 pub mod laws;
 mod link;
 mod read_files;
@@ -11,7 +12,7 @@ mod resolve;
 mod scope;
 mod whole_link;
 
-pub use link::{Link, RefId, SymbolId};
+pub use link::{DeclaredNames, Link, RefId, SymbolId};
 pub use proto_faults::SchemaFault as LinkFault;
 pub use proto_files::are_read;
 pub use proto_meaning::Kind;

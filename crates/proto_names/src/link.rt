@@ -1,13 +1,14 @@
 //! The names of linked files, which files see them, and the references that mean them.
 
-ghost use Rattle.std.specs.Prelude.{◌≡◌, ◌≢◌, ◌↔◌, ℕ, ◌<◌, List, [], length, map, get_or, slice_get, option_map, option_and_then, Some, None, IfSome, IfNone, if◌then◌else◌};
+ghost use Rattle.std.specs.Prelude.{◌≡◌, ◌≢◌, ◌↔◌, ℕ, ◌<◌, ◌==◌, List, [], length, map, get_or, slice_get, option_map, option_and_then, Some, None, IfOk, IfSome, IfNone, if◌then◌else◌};
 ghost use Rattle.std.specs.List.{All, AllPairs};
-ghost use Rattle.proto_files.specs.GivenFiles.{file_at as file_at_place};
+ghost use Rattle.proto_files.specs.GivenFiles.{FileOf, file_at as file_at_place};
 ghost use Rattle.proto_text.specs.Texts.{words};
 ghost use Rattle.proto_text.specs.Tokens.{AreTokens};
 ghost use Rattle.proto_text.specs.declared.lexer.Token.{Token};
 ghost use Rattle.proto_tree.specs.References.{dotted};
 ghost use Rattle.proto_meaning.specs.Joined.{joined, ArePlain};
+ghost use Rattle.proto_names.specs.FileReferences.{declared_names};
 ghost use Rattle.proto_names.specs.LinkOfFiles.{IsLinkOf};
 ghost use Rattle.proto_meaning.specs.Linked.{is_package};
 ghost use Rattle.proto_names.specs.Linking.{name_of_row, name_at, name_text, declaring_file, declaring_token, row_at, meant_at, shows_text, is_visible};
@@ -15,14 +16,18 @@ ghost use Rattle.proto_files.specs.FilesRead.{ReadOf, AreRead};
 ghost use Rattle.proto_imports.specs.Links.{names_of_files};
 ghost use Rattle.proto_meaning.specs.Names.{meaning};
 ghost use Rattle.proto_names.specs.Scopes.{reference_in};
-ghost use Rattle.proto_table.specs.Tables.{IsTable};
+ghost use Rattle.proto_table.specs.Tables.{AreDeclared, IsTable};
 
+use crate::copying::copied;
 use crate::references::Meant;
 use crate::resolve::row_in_scope;
+use proto_faults::NoMemory;
 use proto_files::{Files, Words};
+use proto_imports::import::FileImport;
 use proto_meaning::Kind;
 use proto_table::table::{Row, Table};
 use proto_tree::Reference;
+use std::alloc::Global;
 use std::marker::Model;
 
 /// A name of a link, by its number there.
@@ -56,10 +61,44 @@ impl Meant {
     }
 }
 
+/// The names that a file declares, in order.
+#[derive(Clone, Copy)]
+pub struct DeclaredNames<'a> {
+    rows: &'a [usize],
+}
+
+impl<'a> DeclaredNames<'a> {
+    /// How many there are.
+    pub fn len(&self) -> usize
+        ensures { result ≡ length self.now.rows.now }
+    {
+        self.rows.len()
+    }
+
+    /// Whether there is none.
+    pub fn is_empty(&self) -> bool
+        ensures { result ≡ (length self.now.rows.now == 0) }
+    {
+        self.rows.is_empty()
+    }
+
+    /// The name at this place, from 0; none past the last.
+    pub fn get(&self, place: usize) -> Option<SymbolId>
+        ensures { option_map (λ id. id.row) result ≡ slice_get self.now.rows.now place }
+    {
+        let row = *self.rows.get(place)?;
+        Some(SymbolId { row })
+    }
+}
+
 /// The names of files without faults, and what their references mean.
 #[derive(Drop)]
 pub struct Link {
     table: Table,
+    /// For each file, its imports, by the numbers of the files that they name.
+    imports: Vec<Vec<FileImport>>,
+    /// For each file, the rows of the names that it declares, its package first.
+    rows: Vec<Vec<usize>>,
     /// For each file, the marks of the files that it sees.
     seen: Vec<Vec<bool>>,
     /// For each file, its references by their first tokens, which rise, and the rows of the names
@@ -73,12 +112,14 @@ impl Model for Link {
     ghost use Rattle.std.specs.Prelude.{◌≡◌, ◌<◌, length, map};
     ghost use Rattle.std.specs.List.{All, AllPairs};
     ghost use Rattle.proto_names.specs.Linking.{LinkOf, name_of_row};
-    ghost use Rattle.proto_table.specs.Tables.{IsTable};
+    ghost use Rattle.proto_table.specs.Tables.{AreDeclared, IsTable};
 
     ghost Value = { LinkOf };
 
     ghost view = { λ l. record {
       names = map name_of_row l.table.rows.items;
+      imports = map (λ v. v.items) l.imports.items;
+      rows = map (λ v. v.items) l.rows.items;
       seen = map (λ v. v.items) l.seen.items;
       meant = map (λ v. v.items) l.meant.items;
       references = map (λ v. v.items) l.references.items;
@@ -86,7 +127,8 @@ impl Model for Link {
 
     ghost invariant = { λ l. IsTable l.table
         × (length l.references.items ≡ length l.table.rows.items)
-        × All (λ v. AllPairs (λ m n. m.token < n.token) v.items) l.meant.items };
+        × All (λ v. AllPairs (λ m n. m.token < n.token) v.items) l.meant.items
+        × AreDeclared l.table.rows.items };
 }
 
 /// The row with this index, but for a package's.
@@ -128,6 +170,8 @@ impl Link {
     /// A link of its parts.
     pub(crate) fn from_parts(
         table: Table,
+        imports: Vec<Vec<FileImport>>,
+        rows: Vec<Vec<usize>>,
         seen: Vec<Vec<bool>>,
         meant: Vec<Vec<Meant>>,
         references: Vec<Vec<RefId>>,
@@ -135,8 +179,11 @@ impl Link {
         requires table { IsTable table }
         requires rising { All (λ v. AllPairs (λ m n. m.token < n.token) v.items) meant.items }
         requires paired { length references.items ≡ length table.rows.items }
+        requires declared { AreDeclared table.rows.items }
         ensures { result ≡ record {
           names = map name_of_row table.rows.items;
+          imports = map (λ v. v.items) imports.items;
+          rows = map (λ v. v.items) rows.items;
           seen = map (λ v. v.items) seen.items;
           meant = map (λ v. v.items) meant.items;
           references = map (λ v. v.items) references.items;
@@ -144,6 +191,8 @@ impl Link {
     {
         Link {
             table,
+            imports,
+            rows,
             seen,
             meant,
             references,
@@ -203,6 +252,23 @@ impl Link {
         match self.references.get(id.row) {
             Some(references) => references.as_slice(),
             None => &[],
+        }
+    }
+
+    /// The names that the file declares, in the order of its text, with its packages in front; none
+    /// where there is no such file. Takes no memory.
+    pub fn declared_in(&self, file: u32) -> DeclaredNames<'_>
+        ensures exact { result.rows.now ≡ get_or self.now.rows file [] }
+        ensures names { (files : List FileOf) (reads : List ReadOf)
+            → IsLinkOf files self.now → AreRead files reads → file < length files
+            → map (name_text self.now) result.rows.now
+            ≡ map (λ name. Some (joined name)) (declared_names files reads file) }
+    {
+        match self.rows.get(file as usize) {
+            Some(rows) => DeclaredNames {
+                rows: rows.as_slice(),
+            },
+            None => DeclaredNames { rows: &[] },
         }
     }
 
@@ -270,6 +336,19 @@ impl Link {
         let words = Words::new(files, file);
         let row = row_in_scope(&self.table, seen, &words, scope, reference)?;
         Some(SymbolId { row })
+    }
+
+    /// A link of its own with the same value. Refused for want of memory alone.
+    pub fn copy(&self, alloc: Global) -> Result<Link, NoMemory>
+        ensures { IfOk result (λ link. link ≡ self.now) }
+    {
+        let table = self.table.copy(alloc)?;
+        let imports = copied(alloc, &self.imports)?;
+        let rows = copied(alloc, &self.rows)?;
+        let seen = copied(alloc, &self.seen)?;
+        let meant = copied(alloc, &self.meant)?;
+        let references = copied(alloc, &self.references)?;
+        Ok(Link::from_parts(table, imports, rows, seen, meant, references))
     }
 
     /// Lets the link go. A crate that ends it by this call need not prove how each of its

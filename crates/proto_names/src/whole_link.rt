@@ -1,6 +1,6 @@
 //! The link of files, from their trees.
 
-ghost use Rattle.std.specs.Prelude.{◌≡◌, ℕ, ◌<◌, List, [], length, get_or, map, IfOk, IfErr};
+ghost use Rattle.std.specs.Prelude.{◌≡◌, ℕ, ◌<◌, List, [], length, get_or, map, IfOk, IfErr, OnOk, OnErr};
 ghost use Rattle.std.specs.List.{All};
 ghost use Rattle.proto_files.specs.Faults.{HasNoFault};
 ghost use Rattle.proto_faults.specs.FaultTable.{kind_number as number_of_kind};
@@ -8,11 +8,11 @@ ghost use Rattle.proto_meaning.specs.Faults.{Fault as FaultAtToken, ReferenceFau
 ghost use Rattle.proto_names.specs.FileReferences.{AreFileMeant, flaw_number};
 ghost use Rattle.proto_imports.specs.Importing.{all_imports, import_flaw_number};
 ghost use Rattle.proto_imports.specs.LinkErrors.{IsLinkError};
-ghost use Rattle.proto_names.specs.LinkOfFiles.{AreNamesOf, HasNoImportFault, HasNoNameFault, IsLinkOf};
+ghost use Rattle.proto_names.specs.LinkOfFiles.{AreNamesOf, HasNoImportFault, HasNoNameFault, IsLinkOf, WasLinkOf};
 ghost use Rattle.proto_imports.specs.Links.{AreListings, LinkFaults, link_imports, link_skeleton, names_of_files, text_of};
 ghost use Rattle.proto_files.specs.FilesRead.{AreRead, Each, ReadOf};
 ghost use Rattle.proto_meaning.specs.Marks.{MarksSeen};
-ghost use Rattle.proto_table.specs.Tables.{IsTable};
+ghost use Rattle.proto_table.specs.Tables.{AreDeclared, IsTable};
 ghost use Rattle.proto_listing.specs.declared.listing.Listing.{Listing};
 
 use crate::all_references::all_meanings;
@@ -28,6 +28,7 @@ use proto_listing::listing::Listing;
 use proto_table::filling::{NameError, declare_all};
 use proto_table::table::Table;
 use std::alloc::Global;
+use std::mem;
 
 /// The kind of the fault that an import has.
 fn import_kind(flaw: ImportFlaw) -> FaultKind
@@ -76,6 +77,7 @@ fn linked_names(
     requires listings { AreListings files.now listings.now }
     requires imports { HasNoImportFault files.now }
     ensures table { IfOk result (λ x. IsTable x.0) }
+    ensures declared { IfOk result (λ x. AreDeclared x.0.rows.items) }
     ensures names { IfOk result (λ x. (reads : List ReadOf)
         → AreRead files.now reads → AreNamesOf files.now reads x.0 x.1.items) }
     ensures paired { IfOk result (λ x. length x.1.items ≡ length files.now) }
@@ -179,6 +181,26 @@ impl Link {
         let (table, rows) = linked_names(alloc, files, &listings)?;
         let meant = linked_references(alloc, files, &table, &seen, &rows, &listings)?;
         let references = references_by_name(alloc, table.rows.len(), &meant)?;
-        Ok(Link::from_parts(table, seen, meant, references))
+        Ok(Link::from_parts(table, imports, rows, seen, meant, references))
+    }
+
+    /// Makes this the link of the files, which are those that it was of but at these places. It
+    /// answers as `Link::new` of the files does; after a refusal it is as it was.
+    pub fn replace(
+        &mut self,
+        alloc: Global,
+        files: &Files,
+        places: &[u32],
+    ) -> Result<(), SchemaFault>
+        requires places { All (λ place. place < length files.now) places.now }
+        requires link { WasLinkOf files.now places.now self.old }
+        ensures link { OnOk result (IsLinkOf files.now self.new) }
+        ensures clean { IfOk result (λ _. HasNoFault (LinkFaults files.now)) }
+        ensures fault { IfErr result (IsLinkError files.now) }
+        ensures kept { OnErr result (self.new ≡ self.old) }
+    {
+        let link = Link::new(alloc, files)?;
+        mem::replace(self, link).release();
+        Ok(())
     }
 }

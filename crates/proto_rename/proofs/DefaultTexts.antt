@@ -23,6 +23,10 @@ flat_none : {X : Type 0} (xs : List X) → flat_map (λ (x : X). let ys : List X
 flat_none [] = refl
 flat_none (x ∷ xs) = flat_none xs
 
+gives_none : {X Y : Type 0} (f : X → List Y) (xs : List X) → ((x : X) → f x ≡ []) → flat_map f xs ≡ []
+gives_none f [] h = refl
+gives_none f (x ∷ xs) h = ap (λ ys. ys ++ flat_map f xs) (h x) ∙ gives_none f xs h
+
 flat_agree : {X Y : Type 0} (f g : X → List Y) (xs : List X) → ((x : X) → f x ≡ g x) → flat_map f xs ≡ flat_map g xs
 flat_agree f g [] h = refl
 flat_agree f g (x ∷ xs) h = ap (λ ys. ys ++ flat_map f xs) (h x) ∙ ap (λ ys. g x ++ ys) (flat_agree f g xs h)
@@ -60,11 +64,10 @@ module _ (l : LinkOf) (file : ℕ) (name : List ℕ) (none : list_any (λ (m : M
           fails_from (is_found_name name (name_text l m.row)) (λ t. true≢false (sym (any_from (λ (x : Meant). is_found_name name (name_text l x.row)) (get_or l.meant file []) m c.0 t) ∙ none))
 
   -- and no field has a default that does
-  pub no_defaults : (text : ℕ → List ℕ) (old : List ℕ) (bs : List BlockOf) → flat_map (defaults_in text (type_means l file name) old) bs ≡ []
-  no_defaults text old bs =
-      flat_agree (defaults_in text (type_means l file name) old) (λ b. []) bs
-      (λ b. flat_agree (defaults_of text (type_means l file name) old) (λ f. []) (fields_of_block b.header b.within) (λ f. ap (λ t. if t then spelled text old (default_words text f) else []) (no_type f.kind)) ∙ flat_none (fields_of_block b.header b.within))
-      ∙ flat_none bs
+  pub no_defaults : (word : ℕ → List ℕ) (old : List ℕ) (bs : List BlockOf) → flat_map (defaults_in word (type_means l file name) old) bs ≡ []
+  no_defaults word old bs =
+      gives_none (defaults_in word (type_means l file name) old) bs
+      (λ b. gives_none (defaults_of word (type_means l file name) old) (fields_of_block b.header b.within) (λ f. ap (λ t. if t then spelled word old (default_words word f) else []) (no_type f.kind)))
 
 -- ---- names by their texts
 

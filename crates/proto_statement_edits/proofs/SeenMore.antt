@@ -1,9 +1,9 @@
 -- What one file sees with an import more: a walk along all of its own, and the public ones of the others.
-use Rattle.std.proofs.Common.{◌≡◌, ◌↔◌, ℕ, ◌<◌, Bool, false, List, [], ◌∷◌, ◌++◌, length, get_or, map, filter, sym, ap, ap₂, subst, ◌∙◌, inl, inr, refl, arith, slice_set, All, Contains, get_or-set_same, length-set}
+use Rattle.std.proofs.Common.{◌≡◌, ◌↔◌, ℕ, ◌<◌, Bool, false, List, [], ◌∷◌, ◌++◌, length, get_or, map, sym, ap, ap₂, subst, ◌∙◌, inl, inr, refl, arith, slice_set, All, Contains, get_or-set_same, length-set}
 use Rattle.std.proofs.lemmas.List.{get_or-map, map-append, set-set}
 use Rattle.proto_faults.proofs.Common.{Vec, length-map, map-set, Contains-append_cases, contains_cases}
 use Rattle.proto_files.proofs.Common.{ReadOf, AreRead, FileOf}
-use Rattle.proto_imports.proofs.Common.{all_imports, import_from, imports_within, link_imports, names_in, names_of_files, targets_twice, within_map, IsMarked, Walks}
+use Rattle.proto_imports.proofs.Common.{all_imports, import_from, imports_within, names_in, names_of_files, targets_twice, within_map, IsMarked, Walks}
 use Rattle.proto_imports.proofs.SeenFiles.{marks_seen, own_of, public_of, public_twice, public_within, set_within, steps_from}
 use Rattle.proto_imports.specs.declared.import.FileImport.{FileImport}
 use Rattle.proto_meaning.proofs.Common.{import_of, with_imports, MarksSeen, Import, Workspace}

@@ -33,7 +33,7 @@ rows_more t ds rows row r l new =
 
 -- a table keeps what is in it
 pub kept_itself : (t : Table) → IsKept t t
-kept_itself t = record { size = omega arith; names = λ k l. refl; symbols = λ k r l. refl }
+kept_itself t = record { size = omega arith; names = λ k l. refl; symbols = λ k r l was. (refl, was); declared = λ was. was }
 
 pub kept_both : (a b c : Table) → IsKept a b → IsKept b c → IsKept a c
 kept_both a b c p q =
@@ -42,7 +42,11 @@ kept_both a b c p q =
     record {
       size = omega (arith, m, n);
       names = λ k l. q.names k (omega (arith, l, m)) ∙ p.names k l;
-      symbols = λ k r l. q.symbols k r (omega (arith, l, m)) ∙ p.symbols k r l;
+      symbols = λ k r l was.
+          (let x = p.symbols k r l was in
+          let y = q.symbols k r (omega (arith, l, m)) x.1 in
+          (y.0 ∙ x.0, y.1));
+      declared = λ was. q.declared (p.declared was);
     }
 
 -- none of the file's declarations from a place on, up to that place
@@ -79,8 +83,9 @@ module _ (t t' : Table) (file : ℕ) (ss : List Spelled) (rows : List ℕ) (k : 
       name = there.name ∙ text_is d;
       kind = λ r. elim there.new_or_package [
         | inl p ↦ ap (λ z. z.kind) (p.1 r) ∙ sym (kind_is d)
-        | inr p ↦ ap (λ z. z.kind) (there.kept.symbols row r p.0) ∙ p.2 r ∙ sym p.1 ∙ sym (kind_is d)
+        | inr p ↦ ap (λ z. z.kind) (there.kept.symbols row r p.0 (p.3 r)).0 ∙ p.2 r ∙ sym p.1 ∙ sym (kind_is d)
       ];
+      declared = there.declared;
       place = λ ne r. elim there.new_or_package [
         | inl p ↦ ap (λ (z : Declaration). at z.file z.token) (p.1 r) ∙ sym (place_is d)
         | inr p ↦ absurd (ne (kind_is d ∙ p.1))

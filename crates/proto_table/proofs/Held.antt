@@ -1,9 +1,9 @@
 -- The table holds a declaration more, or one that it holds has the name (for the crates above).
-use Rattle.std.proofs.Common.{◌≡◌, ℕ, ◌<◌, ◌&&◌, Bool, true, List, [], ◌∷◌, ◌++◌, length, get_or, map, sym, ◌∙◌, ap, subst, inl, inr, arith, string_bytes, length-append, Contains}
+use Rattle.std.proofs.Common.{◌≡◌, ℕ, ◌<◌, ◌&&◌, Bool, true, cond, List, [], ◌∷◌, ◌++◌, length, get_or, map, sym, ◌∙◌, ap, subst, inl, inr, arith, string_bytes, length-append, Contains}
 use Rattle.proto_faults.proofs.Common.{cases_eq, both_ways, length-map, map-append, contains_head, contains_map, from_map}
 use Rattle.proto_meaning.specs.declared.kind.Kind.TheVariants.{Package}
 use Rattle.proto_meaning.proofs.Common.{Symbol, at, is_package, joined, ArePlain, get_front, get_last, names_apart, joined_apart}
-use Rattle.proto_table.specs.Common.{Symbol as Declaration, Table, names_of, aboves_of, look, IsTable, SymbolIsDeclared, IsIndexOf, IsTaken, Named, symbol_named, AreNamesApart, Clashes, Holds, IsKept, IsRowAt, IsRowOf}
+use Rattle.proto_table.specs.Common.{Symbol as Declaration, Table, files_of, names_of, aboves_of, look, IsTable, SymbolIsDeclared, IsIndexOf, IsTaken, Named, symbol_named, AreNamesApart, Clashes, Holds, IsKept, IsRowAt, IsRowOf}
 use Rattle.proto_table.proofs.Naming.{contains_at}
 use Rattle.proto_table.proofs.Search.{pick}
 
@@ -43,7 +43,11 @@ module _ (old new : Table) (ds : List Named) (d : Named) (text : List ℕ) (symb
       let w = there.within in
       let one : r.0 ≡ row = names_apart (names_of new) (aboves_of new) (look new) ok'.forest r.0 row (omega (arith, r.1, size, n')) (omega (arith, w, n')) (k ∙ sym there.name) in
       elim there.new_or_package [
-        | inl p ↦ let q = p.0 in absurd (omega (arith, r.1, one, q))
+        | inl p ↦
+            let z = pick old.rows.items r.0 r.1 in
+            let own = get_or old.rows.items row z in
+            let none : files_of own ≡ [] = ap (λ b. cond b (own.symbol.file ∷ own.more.items) []) (p.0 (omega (arith, r.1, one)) z) in
+            absurd (omega (arith, (subst (λ fs. Contains fs x.place.file) none (subst (λ i. Contains (files_of (get_or old.rows.items i z)) x.place.file) one (r.3 z).1)).1))
         | inr p ↦
             let z = pick old.rows.items r.0 r.1 in
             (sym (r.3 z).0 ∙ ap (λ i. (get_or old.rows.items i z).symbol.kind) one ∙ p.2 z, kind ∙ p.1)
@@ -59,7 +63,10 @@ module _ (old new : Table) (ds : List Named) (d : Named) (text : List ℕ) (symb
 pub held_clash : (t : Table) (ds : List Named) (d : Named) (text : List ℕ) (symbol : Declaration) → Holds t ds → IsTaken t text symbol → ArePlain d.name → joined d.name ≡ text → d.kind ≡ symbol.kind → Clashes ds d
 held_clash t ds d text symbol held taken plain name kind =
     let z = pick t.rows.items taken.row taken.within in
-    let r = held.index.symbol taken.row (get_or t.rows.items taken.row z).symbol.file z taken.within (contains_head (get_or t.rows.items taken.row z).symbol.file (get_or t.rows.items taken.row z).more.items) in
+    let r = held.index.symbol taken.row (get_or t.rows.items taken.row z).symbol.file z taken.within
+    (subst (λ fs. Contains fs (get_or t.rows.items taken.row z).symbol.file)
+    (sym (ap (λ b. cond b ((get_or t.rows.items taken.row z).symbol.file ∷ (get_or t.rows.items taken.row z).more.items) []) (taken.declared z)))
+    (contains_head (get_or t.rows.items taken.row z).symbol.file (get_or t.rows.items taken.row z).more.items)) in
     let x = from_map symbol_named ds r.0 r.1 in
     record {
       apart = held.apart;
@@ -82,6 +89,7 @@ row_kept old new d row kept r =
     record {
       within = omega (arith, w, size);
       name = kept.names row r.within ∙ r.name;
-      kind = λ z. ap (λ y. y.kind) (kept.symbols row z r.within) ∙ r.kind z;
-      place = λ ne z. ap (λ (y : Declaration). at y.file y.token) (kept.symbols row z r.within) ∙ r.place ne z;
+      kind = λ z. ap (λ y. y.kind) (kept.symbols row z r.within (r.declared z)).0 ∙ r.kind z;
+      declared = λ z. (kept.symbols row z r.within (r.declared z)).1;
+      place = λ ne z. ap (λ (y : Declaration). at y.file y.token) (kept.symbols row z r.within (r.declared z)).0 ∙ r.place ne z;
     }

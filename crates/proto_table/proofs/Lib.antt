@@ -1,6 +1,9 @@
+pub mod Alike
 mod Clashing
 pub mod Common
+mod Copied
 mod Filled
+mod Forgotten
 mod Gathered
 pub mod Held
 mod IndexAdded
@@ -8,6 +11,7 @@ mod Indexed
 mod Kept
 pub mod NameFaults
 pub mod Naming
+mod OneRow
 mod Passes
 mod Positions
 pub mod Resolved

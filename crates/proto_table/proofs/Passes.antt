@@ -3,7 +3,7 @@ use Rattle.std.proofs.Common.{◌≡◌, ◌≢◌, ℕ, zero, suc, ◌+◌, ◌
 use Rattle.proto_faults.proofs.Common.{cases_eq, cases_Bool, cond-true, cond-false, take_more, length-map, get_or-map, take-append-le, Contains-append_cases, Contains-append_left, Contains-append_right, filter-append, contains_map, from_map, contains_filter, from_filter}
 use Rattle.proto_meaning.specs.declared.kind.Kind.TheVariants.{Package}
 use Rattle.proto_meaning.proofs.Common.{Symbol, is_package, Fault, fault, IsLeast, get_front, get_last, package_from, package_or}
-use Rattle.proto_table.specs.Common.{Spelled, Table, NameError, Clash, NoMemory, IsIndexOf, Named, named_in, all_named, symbol_named, AreSpelled, ClashFault, AreInFront, AreNamesApart, ArePackageRows, AreRows, AreRowsOf, Clashes, Holds, IsKept, IsNameError, StopsIn, packages_in, others_in}
+use Rattle.proto_table.specs.Common.{Spelled, Table, NameError, Clash, NoMemory, AreDeclared, IsIndexOf, Named, named_in, all_named, symbol_named, AreSpelled, ClashFault, AreInFront, AreNamesApart, ArePackageRows, AreRows, AreRowsOf, Clashes, Holds, IsKept, IsNameError, StopsIn, packages_in, others_in}
 use Rattle.proto_table.proofs.Clashing.{clash_least, clash_none, held_at, is_other}
 use Rattle.proto_table.proofs.Filled.{rows_kept}
 use Rattle.proto_table.proofs.Held.{index_same}
@@ -113,8 +113,8 @@ packages_next fs i c start l ok f z =
     ∙ ap packages_in (sym (all_next fs i l))
 
 -- no rows of no files
-pub no_package_rows : (t : Table) → ArePackageRows t [] []
-no_package_rows t = record { paired = refl; counts = λ i l. absurd (omega (arith, l)); each = λ i l. absurd (omega (arith, l)) }
+pub no_package_rows : (t : Table) → AreDeclared t.rows.items → ArePackageRows t [] []
+no_package_rows t declared = record { declared = declared; paired = refl; counts = λ i l. absurd (omega (arith, l)); each = λ i l. absurd (omega (arith, l)) }
 
 pub package_rows_more : (old new : Table) (fs : List (List Spelled)) (rows : List (List ℕ)) (i : ℕ) (own : List ℕ) → i < length fs → IsKept old new → ArePackageRows old (take i fs) rows → AreInFront (length own) (get_or fs i []) → AreRowsOf new (named_in i (get_or fs i [])) own
     → ArePackageRows new (take (i + 1) fs) (rows ++ own ∷ [])
@@ -124,6 +124,7 @@ package_rows_more old new fs rows i own l kept r front rows_own =
     let size = length-append rows (own ∷ []) in
     let p = r.paired in
     record {
+      declared = kept.declared r.declared;
       paired = omega (arith, n, m, size, p);
       counts = λ j lj. elim (cases_eq j (length rows)) [
         | inl e ↦
@@ -160,6 +161,7 @@ package_rows_more old new fs rows i own l kept r front rows_own =
 
 -- the rows of all declarations of the files before this one, and of the packages of the others
 pub record AreRowsTo (t : Table) (fs : List (List Spelled)) (rows : List (List ℕ)) (i : ℕ) : Type 0 where
+  pub declared : AreDeclared t.rows.items
   pub paired : length rows ≡ length fs
   pub counts : (j : ℕ) → j < i → j < length fs → length (get_or rows j []) ≡ length (get_or fs j [])
   pub fronts : (j : ℕ) → i ≤ j → j < length fs → AreInFront (length (get_or rows j [])) (get_or fs j [])
@@ -167,10 +169,11 @@ pub record AreRowsTo (t : Table) (fs : List (List Spelled)) (rows : List (List �
 
 -- before the first file
 pub rows_first : (t : Table) (fs : List (List Spelled)) (rows : List (List ℕ)) → ArePackageRows t fs rows → AreRowsTo t fs rows 0
-rows_first t fs rows r = record { paired = r.paired; counts = λ j l. absurd (omega (arith, l)); fronts = λ j le. r.counts j; each = r.each }
+rows_first t fs rows r = record { declared = r.declared; paired = r.paired; counts = λ j l. absurd (omega (arith, l)); fronts = λ j le. r.counts j; each = r.each }
 
 pub rows_last : (t : Table) (fs : List (List Spelled)) (rows : List (List ℕ)) (i : ℕ) → length fs ≤ i → AreRowsTo t fs rows i → AreRows t fs rows
 rows_last t fs rows i e r = record {
+  declared = r.declared;
   paired = r.paired;
   counts = λ j l. r.counts j (omega (arith, l, e)) l;
   each = λ j k row d lj lk. (r.each j lj).each k row d (let n = r.counts j (omega (arith, lj, e)) lj in omega (arith, lk, n));
@@ -182,6 +185,7 @@ rows_file old new fs rows rows' i own l kept r set full rows_own =
     let here : get_or rows' i [] ≡ own = ap (λ z. get_or z i []) set ∙ get_or-set_same rows i own [] (omega (arith, l, p)) in
     let there = λ (j : ℕ) (ne : j ≢ i). ap (λ z. get_or z j []) set ∙ get_or-set_other rows i j own [] ne in
     record {
+      declared = kept.declared r.declared;
       paired = ap length set ∙ length-set rows i own ∙ p;
       counts = λ j lj lf. elim (cases_eq j i) [
         | inl e ↦ ap (λ z. length (get_or rows' z [])) e ∙ ap length here ∙ full ∙ ap (λ z. length (get_or fs z [])) (sym e)

@@ -3,7 +3,7 @@ use Rattle.std.proofs.Common.{◌≡◌, ◌≢◌, ◌⊎◌, ℕ, zero, suc, �
 use Rattle.proto_faults.proofs.Common.{cases_Bool, cond-true, cond-false, both_ways, false_from_ne_true, and_parts, and_from, none-some, length-map, get_or_default, any_from, any_to}
 use Rattle.proto_meaning.specs.declared.kind.Kind.{Kind}
 use Rattle.proto_meaning.proofs.Common.{Reference, Workspace, same_name, is_type, is_outer, fits_at_first, sees, shows, greatest, hits_at, hit, typed, meaning, meaning_at, joined, ArePlain, under, front, MarksSeen, same_from_name, greatest_is, joined_apart, names_apart, prefix_named, under_pointed, under_some, shown, hit_from}
-use Rattle.proto_table.specs.Common.{Row, Table, names_of, aboves_of, look, IsTable, is_seen, fits_first, passes, HitsAt, IsHit, declaring_files, IsIndexOf, under_all, IsAsked, IsTypeAt}
+use Rattle.proto_table.specs.Common.{Row, Table, names_of, aboves_of, look, IsTable, is_seen, fits_first, passes, HitsAt, IsHit, files_of, IsIndexOf, under_all, IsAsked, IsTypeAt}
 use Rattle.proto_table.proofs.Search.{joined_more, plain_take, pick}
 
 plain_more : (x y : List (List ℕ)) → ArePlain x → ArePlain y → ArePlain (x ++ y)
@@ -30,7 +30,7 @@ module _ (t : Table) (ok : IsTable t) (seen : List Bool) (w : Workspace) (file :
   shows_from good x px k l name pass =
       let d = pick t.rows.items k l in
       let p = and_parts (good (get_or t.rows.items k d).symbol.kind) (is_seen seen (get_or t.rows.items k d)) (pass d) in
-      let f = any_to (λ f. get_or seen f false) (declaring_files (get_or t.rows.items k d)) p.1 in
+      let f = any_to (λ f. get_or seen f false) (files_of (get_or t.rows.items k d)) p.1 in
       let s = index.symbol k f.0 d l f.1 in
       let same : s.0.name ≡ x = joined_apart s.0.name x (index.plain s.0 s.1) px (s.2 ∙ name) in
       any_from (λ s. same_name s.name x && (good s.kind && sees w file s.file)) w.symbols s.0 s.1
@@ -43,7 +43,7 @@ module _ (t : Table) (ok : IsTable t) (seen : List Bool) (w : Workspace) (file :
         r.0,
         r.1,
         r.2 ∙ ap joined s.2,
-        λ d. and_from _ _ (ap good (r.3 d).0 ∙ s.3) (any_from (λ f. get_or seen f false) (declaring_files (get_or t.rows.items r.0 d)) s.0.file (r.3 d).1 (marks s.0.file ∙ s.4)),
+        λ d. and_from _ _ (ap good (r.3 d).0 ∙ s.3) (any_from (λ f. get_or seen f false) (files_of (get_or t.rows.items r.0 d)) s.0.file (r.3 d).1 (marks s.0.file ∙ s.4)),
       )
 
   -- a name as a type

@@ -6,13 +6,14 @@ use Rattle.std.specs.Str.{bytes_eq}
 use Rattle.std.proofs.lemmas.Bool.{cases_Bool, cond-true, cond-false, false_from_ne_true, eqb-true, eq-eqb}
 use Rattle.std.proofs.lemmas.List.{get_or-map, length-map}
 use Rattle.std.proofs.lemmas.Option.{same_Some}
+use Rattle.std.proofs.lemmas.List.Elements.{All-push}
 use Rattle.proto_table.specs.declared.table.Row.{Row}
 use Rattle.proto_table.specs.declared.table.Table.{Table}
 use Rattle.proto_meaning.specs.Joined.{IsPlain}
 use Rattle.proto_meaning.specs.Forest.{under, front, IsForest}
 use Rattle.proto_table.specs.declared.index.Below.{Below}
 use Rattle.proto_table.specs.Indexes.{aboves_in, HasWords, is_below_number, word_place}
-use Rattle.proto_table.specs.Tables.{names_of, aboves_of, look, IsTable}
+use Rattle.proto_table.specs.Tables.{names_of, aboves_of, is_shared, look, AreAlone, IsTable}
 use Rattle.proto_table.proofs.Positions.{nowhere}
 use Rattle.proto_table.proofs.IndexAdded.{first_false, second_false, both_true}
 use Rattle.proto_faults.proofs.Lists.{word_from_same, same_from_word}
@@ -87,8 +88,8 @@ none_above t ok above v past = go (word_place t.below.words.keys v)
 pub table_added : (t t' : Table) (p : ℕ) (word : List ℕ) (r : Row) → IsTable t → p ≤ length t.rows.items → IsPlain word → look t p word ≡ None
     → t'.rows.items ≡ t.rows.items ++ r ∷ [] → string_bytes r.name ≡ under (front (names_of t) p) word → r.above ≡ p
     → ((q : ℕ) (v : List ℕ) → look t' q v ≡ (if (p == q) && bytes_eq word v then Some (length t.below.rows.keys) else look t q v))
-    → aboves_in t'.below ≡ aboves_in t.below ++ p ∷ [] → length t'.below.rows.keys ≡ length t.below.rows.keys + 1 → HasWords t'.below → IsTable t'
-table_added t t' p word r ok lp plain none rows name above here keyed long words =
+    → aboves_in t'.below ≡ aboves_in t.below ++ p ∷ [] → length t'.below.rows.keys ≡ length t.below.rows.keys + 1 → HasWords t'.below → r.more.items ≡ [] → IsTable t'
+table_added t t' p word r ok lp plain none rows name above here keyed long words none_more =
     let names : names_of t' ≡ names_of t ++ under (front (names_of t) p) word ∷ [] =
     ap (map (λ z. string_bytes z.name)) rows ∙ map_append (λ z. string_bytes z.name) t.rows.items (r ∷ []) ∙ ap (λ z. names_of t ++ z ∷ []) name in
     let aboves : aboves_of t' ≡ aboves_of t ++ p ∷ [] =
@@ -112,6 +113,7 @@ table_added t t' p word r ok lp plain none rows name above here keyed long words
       sized = omega (arith, long, size, lr, ap length rows);
       keyed = keyed ∙ ap (λ z. z ++ p ∷ []) ok.keyed ∙ sym aboves;
       words = words;
+      alone = subst AreAlone (sym rows) (All-push (λ (z : Row). is_shared z ≡ false → z.more.items ≡ []) t.rows.items r ok.alone (λ _. none_more));
     }
   where
     differs : (w v : List ℕ) → v ≢ w → bytes_eq w v ≡ false

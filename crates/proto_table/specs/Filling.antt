@@ -1,6 +1,6 @@
 -- The table of names while it is filled: the rows of declarations, what the table holds, and the
 -- first clash.
-use Rattle.std.specs.Prelude.{◌≡◌, ◌≢◌, ◌⊎◌, ℕ, ◌+◌, ◌<◌, ◌≤◌, List, [], ◌++◌, length, get_or, map, take, drop, not}
+use Rattle.std.specs.Prelude.{◌≡◌, ◌≢◌, ◌⊎◌, ℕ, true, false, ◌+◌, ◌<◌, ◌≤◌, List, [], ◌++◌, length, get_or, map, take, drop, not}
 use Rattle.std.specs.List.{AllPairs, Contains, filter}
 use Rattle.proto_meaning.specs.declared.kind.Kind.TheVariants.{Package}
 use Rattle.proto_meaning.specs.Joined.{joined}
@@ -16,7 +16,7 @@ use Rattle.proto_table.specs.declared.table.Row.{Row}
 use Rattle.proto_table.specs.declared.table.Table.{Table}
 use Rattle.proto_table.specs.declared.filling.NameError.{NameError}
 use Rattle.proto_table.specs.declared.filling.NameError.TheVariants.{Clash, NoMemory}
-use Rattle.proto_table.specs.Tables.{names_of}
+use Rattle.proto_table.specs.Tables.{AreDeclared, names_of}
 use Rattle.proto_table.specs.Resolved.{IsIndexOf, IsTaken}
 
 -- the error is the least clash, or want of memory
@@ -26,18 +26,20 @@ IsNameError Says NoMemory = Unit {0}
 
 -- ---- rows
 
--- The row of a declaration: it has its name and its kind, and where that is no package, it is the
--- one that declared the row.
+-- The row of a declaration: it has its name and its kind, some file declares it, and where it is no
+-- package, the declaration is that of the row.
 pub record IsRowAt (t : Table) (d : Named) (row : ℕ) : Type 0 where
   pub within : row < length t.rows.items
   pub name : get_or (names_of t) row [] ≡ joined d.name
   pub kind : (r : Row) → (get_or t.rows.items row r).symbol.kind ≡ d.kind
+  pub declared : (r : Row) → (get_or t.rows.items row r).is_declared ≡ true
   pub place : d.kind ≢ Package → (r : Row)
       → at (get_or t.rows.items row r).symbol.file (get_or t.rows.items row r).symbol.token
       ≡ d.place
 
--- for each file, the row of each of its declarations
+-- for each file, the row of each of its declarations; some file declares each row
 pub record AreRows (t : Table) (files : List (List Spelled)) (rows : List (List ℕ)) : Type 0 where
+  pub declared : AreDeclared t.rows.items
   pub paired : length rows ≡ length files
   pub counts : (i : ℕ) → i < length files → length (get_or rows i []) ≡ length (get_or files i [])
   pub each : (i k row : ℕ) (d : Named) → i < length files → k < length (get_or files i [])
@@ -60,26 +62,37 @@ declaration_of file s = record { kind = s.kind; file = file; token = s.token }
 
 -- ---- one declaration more
 
--- what was in the table stays, under its numbers
+-- what was in the table stays, under its numbers: each name, and each declaration; and where each
+-- row was declared, each is
 pub record IsKept (old new : Table) : Type 0 where
   pub size : length old.rows.items ≤ length new.rows.items
   pub names : (k : ℕ) → k < length old.rows.items
       → get_or (names_of new) k [] ≡ get_or (names_of old) k []
   pub symbols : (k : ℕ) (r : Row) → k < length old.rows.items
-      → (get_or new.rows.items k r).symbol ≡ (get_or old.rows.items k r).symbol
+      → (get_or old.rows.items k r).is_declared ≡ true
+      → ((get_or new.rows.items k r).symbol ≡ (get_or old.rows.items k r).symbol)
+      × ((get_or new.rows.items k r).is_declared ≡ true)
+  pub declared : AreDeclared old.rows.items → AreDeclared new.rows.items
 
--- the row is a new one, or was there as a package's
+-- the table has no such row, or no file declares it
+abbrev pub IsFree : Table → ℕ → Type 0
+IsFree t row =
+    row < length t.rows.items → (r : Row) → (get_or t.rows.items row r).is_declared ≡ false
+
+-- the row was free and now is the symbol's, or was there as a package's
 abbrev pub IsNewOrPackage : Table → Table → Declaration → ℕ → Type 0
 IsNewOrPackage old new symbol row =
-    ((row ≡ length old.rows.items) × ((r : Row) → (get_or new.rows.items row r).symbol ≡ symbol))
+    (IsFree old row × ((r : Row) → (get_or new.rows.items row r).symbol ≡ symbol))
     ⊎ ((row < length old.rows.items) × (symbol.kind ≡ Package)
-    × ((r : Row) → (get_or old.rows.items row r).symbol.kind ≡ Package))
+    × ((r : Row) → (get_or old.rows.items row r).symbol.kind ≡ Package)
+    × ((r : Row) → (get_or old.rows.items row r).is_declared ≡ true))
 
 -- the row that a symbol was declared in
 pub record IsRowOf (old new : Table) (text : List ℕ) (symbol : Declaration) (row : ℕ) : Type 0 where
   pub kept : IsKept old new
   pub within : row < length new.rows.items
   pub name : get_or (names_of new) row [] ≡ text
+  pub declared : (r : Row) → (get_or new.rows.items row r).is_declared ≡ true
   pub new_or_package : IsNewOrPackage old new symbol row
 
 -- the error is a clash of the symbol, whose name is taken, or want of memory
@@ -133,9 +146,10 @@ pub record AreInFront (count : ℕ) (ss : List Spelled) : Type 0 where
   pub front : (k : ℕ) (s : Spelled) → k < count → (get_or ss k s).kind ≡ Package
   pub behind : (k : ℕ) (s : Spelled) → count ≤ k → k < length ss → (get_or ss k s).kind ≢ Package
 
--- for each file, the rows of its packages
+-- for each file, the rows of its packages; some file declares each row
 pub record ArePackageRows (t : Table) (files : List (List Spelled)) (rows : List (List ℕ))
     : Type 0 where
+  pub declared : AreDeclared t.rows.items
   pub paired : length rows ≡ length files
   pub counts : (i : ℕ) → i < length files
       → AreInFront (length (get_or rows i [])) (get_or files i [])

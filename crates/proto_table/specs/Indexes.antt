@@ -1,6 +1,6 @@
 -- The index of a table: its words by their text, and its rows by the number above them and their
 -- word, both in order.
-use Rattle.std.specs.Prelude.{ℕ, ◌<◌, Bool, ◌&&◌, ◌==◌, List, Option, position, string_bytes, String, map, length}
+use Rattle.std.specs.Prelude.{◌≡◌, ℕ, ◌<◌, Bool, ◌&&◌, ◌==◌, List, Option, position, string_bytes, String, map, take, length}
 use Rattle.std.specs.declared.alloc.Global.{Global}
 use Rattle.std.specs.Option.{option_and_then}
 use Rattle.std.specs.Str.{bytes_eq}
@@ -33,3 +33,13 @@ HasWords x = All (λ b. b.word < length x.words.keys) x.rows.keys
 -- what a contract sees of an index
 abbrev pub keys_in : Index → List (String Global) × List Below
 keys_in x = (x.words.keys, x.rows.keys)
+
+-- the words and the rows of the first are the first ones of the second
+pub record IsFrontOf (old new : Index) : Type 0 where
+  pub words : take (length old.words.keys) new.words.keys ≡ old.words.keys
+  pub rows : take (length old.rows.keys) new.rows.keys ≡ old.rows.keys
+
+-- two indexes have the same words, each a text of its own, and the same rows
+pub record AreSameKeys (one other : Index) : Type 0 where
+  pub words : map string_bytes other.words.keys ≡ map string_bytes one.words.keys
+  pub rows : other.rows.keys ≡ one.rows.keys

@@ -7,3 +7,4 @@ pub mod Resolved
 pub mod Search
 pub mod Spelled
 pub mod Tables
+pub mod Undone

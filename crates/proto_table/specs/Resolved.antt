@@ -1,5 +1,5 @@
 -- When a table holds the names of a workspace, and marks say what a file sees.
-use Rattle.std.specs.Prelude.{◌≡◌, ℕ, ◌<◌, ◌≤◌, ◌++◌, ◌&&◌, Bool, true, false, List, [], ◌∷◌, length, get_or, Option, Some, None}
+use Rattle.std.specs.Prelude.{◌≡◌, ◌≢◌, ◌↔◌, ℕ, ◌<◌, ◌≤◌, ◌++◌, ◌&&◌, Bool, true, false, List, [], ◌∷◌, length, get_or, Option, Some, None}
 use Rattle.std.specs.List.{Contains}
 use Rattle.proto_meaning.specs.Names.{Symbol, Reference, Workspace}
 use Rattle.proto_meaning.specs.Marks.{MarksSeen}
@@ -9,12 +9,8 @@ use Rattle.proto_meaning.specs.Linked.{is_package}
 use Rattle.proto_table.specs.declared.table.Symbol.{Symbol as Declaration}
 use Rattle.proto_table.specs.declared.table.Row.{Row}
 use Rattle.proto_table.specs.declared.table.Table.{Table}
-use Rattle.proto_table.specs.Tables.{names_of}
+use Rattle.proto_table.specs.Tables.{files_of, names_of}
 use Rattle.proto_table.specs.Search.{passes}
-
--- the files that declare the name of a row: that of its first declaration, and the further ones
-abbrev pub declaring_files : Row → List ℕ
-declaring_files r = r.symbol.file ∷ r.more.items
 
 -- each symbol has the row of its name, and each row's files have a symbol
 pub record IsIndexOf (t : Table) (symbols : List Symbol) : Type 0 where
@@ -23,9 +19,9 @@ pub record IsIndexOf (t : Table) (symbols : List Symbol) : Type 0 where
       → (k : ℕ) × (k < length t.rows.items) × (get_or (names_of t) k [] ≡ joined s.name)
       × ((d : Row)
       → ((get_or t.rows.items k d).symbol.kind ≡ s.kind)
-      × Contains (declaring_files (get_or t.rows.items k d)) s.file)
+      × Contains (files_of (get_or t.rows.items k d)) s.file)
   pub symbol : (k file : ℕ) (d : Row) → k < length t.rows.items
-      → Contains (declaring_files (get_or t.rows.items k d)) file
+      → Contains (files_of (get_or t.rows.items k d)) file
       → (s : Symbol) × Contains symbols s × (joined s.name ≡ get_or (names_of t) k [])
       × (s.kind ≡ (get_or t.rows.items k d).symbol.kind) × (s.file ≡ file)
 
@@ -59,10 +55,16 @@ pub record SymbolIsDeclared (old new : Table) (text : List ℕ) (symbol : Declar
       → IsIndexOf old symbols → ArePlain s.name → joined s.name ≡ text
       → s.kind ≡ symbol.kind → s.file ≡ symbol.file → IsIndexOf new (symbols ++ s ∷ [])
 
+-- the symbols but those of this name
+abbrev pub IsWithout : List ℕ → List Symbol → List Symbol → Type 0
+IsWithout name old rest =
+    (s : Symbol) → Contains rest s ↔ (Contains old s × (joined s.name ≢ name))
+
 -- the name is taken, and not both are packages
 pub record IsTaken (t : Table) (text : List ℕ) (symbol : Declaration) : Type 0 where
   pub row : ℕ
   pub within : row < length t.rows.items
   pub name : get_or (names_of t) row [] ≡ text
+  pub declared : (d : Row) → (get_or t.rows.items row d).is_declared ≡ true
   pub apart : (d : Row)
       → (is_package symbol.kind && is_package (get_or t.rows.items row d).symbol.kind) ≡ false

@@ -1,5 +1,5 @@
 -- The search for a reference's first word, outward from its scope.
-use Rattle.std.specs.Prelude.{◌≡◌, ℕ, ◌<◌, ◌≤◌, Bool, true, false, ◌&&◌, if◌then◌else◌, List, [], ◌∷◌, length, take, get_or, slice_index_or}
+use Rattle.std.specs.Prelude.{◌≡◌, ℕ, ◌<◌, ◌≤◌, Bool, true, false, ◌&&◌, if◌then◌else◌, List, [], length, take, get_or, slice_index_or}
 use Rattle.std.specs.List.{list_any}
 use Rattle.proto_meaning.specs.declared.kind.Kind.{Kind}
 use Rattle.proto_meaning.specs.Names.{is_type, is_outer}
@@ -7,11 +7,11 @@ use Rattle.proto_meaning.specs.Joined.{joined}
 use Rattle.proto_meaning.specs.Forest.{under}
 use Rattle.proto_table.specs.declared.table.Row.{Row}
 use Rattle.proto_table.specs.declared.table.Table.{Table}
-use Rattle.proto_table.specs.Tables.{names_of}
+use Rattle.proto_table.specs.Tables.{files_of, names_of}
 
 -- one of its files is seen
 abbrev pub is_seen : List Bool → Row → Bool
-is_seen seen r = list_any (λ f. slice_index_or seen f false) (r.symbol.file ∷ r.more.items)
+is_seen seen r = list_any (λ f. slice_index_or seen f false) (files_of r)
 
 -- it may stand for the first word of a reference, which is its last word or not
 abbrev pub fits_first : Bool → Kind → Bool

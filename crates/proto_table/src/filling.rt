@@ -9,7 +9,7 @@ ghost use Rattle.proto_meaning.specs.Joined.{IsPlain};
 ghost use Rattle.proto_listing.specs.Listing.{needs};
 ghost use Rattle.proto_table.specs.Resolved.{SymbolIsDeclared, IsIndexOf};
 ghost use Rattle.proto_table.specs.Spelled.{all_named, AreSpelled, ClashFault, Named, named_in, symbol_named};
-ghost use Rattle.proto_table.specs.Tables.{IsTable, names_of};
+ghost use Rattle.proto_table.specs.Tables.{AreDeclared, IsTable, names_of};
 ghost use Rattle.proto_table.specs.declared.filling.NameError.TheVariants.{NoMemory};
 
 use crate::index::Index;
@@ -105,6 +105,7 @@ fn declare_packages(
     requires spelled { All (λ v. AreSpelled v.items) files.now }
     requires table { IsTable table }
     requires empty { Holds table [] }
+    requires declared { AreDeclared table.rows.items }
     ensures table { IfOk result (λ x. IsTable x.0) }
     ensures held { IfOk result (λ x. Holds x.0
         (packages_in (all_named 0 (map (λ v. v.items) files.now)))) }

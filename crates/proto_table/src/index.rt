@@ -1,8 +1,8 @@
 //! The rows of a table by the name above them and their last word.
 
-ghost use Rattle.std.specs.Prelude.{◌≡◌, ◌≢◌, ◌≤◌, ◌+◌, ◌++◌, ◌∷◌, ◌⊎◌, [], ℕ, List, ◌&&◌, ◌==◌, if◌then◌else◌, Some, None, length, IfOk, OnOk, OnErr};
+ghost use Rattle.std.specs.Prelude.{◌≡◌, ◌≢◌, ◌≤◌, ◌+◌, ◌++◌, ◌∷◌, ◌⊎◌, [], ℕ, List, ◌&&◌, ◌==◌, if◌then◌else◌, Some, None, length, map, take, string_bytes, IfOk, OnOk, OnErr};
 ghost use Rattle.std.specs.Str.{bytes_eq};
-ghost use Rattle.proto_table.specs.Indexes.{aboves_in, HasWords, keys_in, look_in, word_place};
+ghost use Rattle.proto_table.specs.Indexes.{aboves_in, AreSameKeys, HasWords, IsFrontOf, keys_in, look_in, word_place};
 
 use indexmap::IndexSet;
 use proto_faults::NoMemory;
@@ -31,6 +31,7 @@ fn number(alloc: Global, words: &mut IndexSet<String>, word: &str) -> Result<usi
     ensures other { OnOk result ((v : List ℕ) → v ≢ word.now
         → word_place words.new.keys v ≡ word_place words.old.keys v) }
     ensures long { length words.old.keys ≤ length words.new.keys }
+    ensures front { OnOk result (take (length words.old.keys) words.new.keys ≡ words.old.keys) }
     ensures kept { OnErr result (words.new.keys ≡ words.old.keys) }
 {
     match words.get_index_of(word) {
@@ -62,6 +63,7 @@ impl Index {
             else look_in self.old p v)) }
         ensures aboves { OnOk result (aboves_in self.new ≡ aboves_in self.old ++ above ∷ []) }
         ensures len { OnOk result (length self.new.rows.keys ≡ length (self.old.rows.keys) + 1) }
+        ensures front { OnOk result (IsFrontOf self.old self.new) }
         ensures kept { OnErr result (keys_in self.new ≡ keys_in self.old) }
     {
         self.rows.reserve(1)?;
@@ -69,4 +71,48 @@ impl Index {
         self.rows.insert(Below { above, word }).unwrap();
         Ok(())
     }
+
+    /// Takes the last words and rows away, so that at most as many are left. Takes no memory.
+    pub(crate) fn cut_back(&mut self, words: usize, rows: usize)
+        ensures words { self.new.words.keys ≡ take words self.old.words.keys }
+        ensures rows { self.new.rows.keys ≡ take rows self.old.rows.keys }
+    {
+        self.words.truncate(words);
+        self.rows.truncate(rows);
+    }
+
+    /// The same words, as texts of its own, and the same rows. Refused for want of memory alone.
+    pub(crate) fn copy(&self, alloc: Global) -> Result<Index, NoMemory>
+        ensures { IfOk result (AreSameKeys self.now) }
+    {
+        let words = copied_words(alloc, &self.words)?;
+        let rows = copied_rows(alloc, &self.rows)?;
+        Ok(Index { words, rows })
+    }
+}
+
+/// The same words in the same order, as texts of its own.
+fn copied_words(alloc: Global, words: &IndexSet<String>) -> Result<IndexSet<String>, NoMemory>
+    ensures { IfOk result
+        (λ copy. map string_bytes copy.keys ≡ map string_bytes words.now.keys) }
+{
+    let texts = words.as_slice();
+    let mut copy = IndexSet::with_capacity(alloc, texts.len())?;
+    for word in texts {
+        let own = String::from_str(alloc, word.as_str())?;
+        copy.insert(own)?;
+    }
+    Ok(copy)
+}
+
+/// The same rows in the same order.
+fn copied_rows(alloc: Global, rows: &IndexSet<Below>) -> Result<IndexSet<Below>, NoMemory>
+    ensures { IfOk result (λ copy. copy.keys ≡ rows.now.keys) }
+{
+    let given = rows.as_slice();
+    let mut copy = IndexSet::with_capacity(alloc, given.len())?;
+    for row in given {
+        copy.insert(*row)?;
+    }
+    Ok(copy)
 }

@@ -4,5 +4,6 @@
 pub mod filling;
 pub mod index;
 pub mod last_words;
+pub mod laws;
 pub mod spelled;
 pub mod table;

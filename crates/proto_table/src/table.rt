@@ -1,17 +1,19 @@
 //! The names of a workspace in a table, each below another one.
 
-ghost use Rattle.std.specs.Prelude.{◌≡◌, ◌≢◌, ℕ, List, if◌then◌else◌, slice_get, slice_set, ◌+◌, ◌<◌, ◌≤◌, length, get_or, map, ◌++◌, ◌∷◌, [], OnOk, OnErr, IfOk, IfSome, IfNone, option_map, slice_index_or, true, MatchOption, ◌==◌, false, None, Some, string_bytes};
+ghost use Rattle.std.specs.Prelude.{◌≡◌, ◌≢◌, ℕ, List, if◌then◌else◌, slice_get, slice_set, ◌+◌, ◌<◌, ◌≤◌, length, get_or, map, ◌++◌, ◌∷◌, [], OnOk, OnErr, IfOk, IfSome, IfNone, option_map, slice_index_or, take, true, MatchOption, ◌==◌, false, None, Some, string_bytes};
 ghost use Rattle.std.specs.List.{list_any};
 ghost use Rattle.std.specs.Str.{IsUtf8, bytes_eq};
 ghost use Rattle.proto_faults.specs.Ascii as ascii;
 ghost use Rattle.proto_table.specs.Filling.{IsRowOf};
+ghost use Rattle.proto_table.specs.Indexes.{IsFrontOf, keys_in};
 ghost use Rattle.proto_meaning.specs.Forest.{under, front};
 ghost use Rattle.proto_meaning.specs.Joined.{joined, ArePlain, IsPlain};
-ghost use Rattle.proto_meaning.specs.Names.{Reference, Workspace, meaning};
-ghost use Rattle.proto_table.specs.Resolved.{IsAsked, SymbolIsDeclared, IsIndexOf, IsTaken, IsTypeAt, under_all};
+ghost use Rattle.proto_meaning.specs.Names.{Reference, Symbol as NamedSymbol, Workspace, meaning};
+ghost use Rattle.proto_meaning.specs.declared.kind.Kind.TheVariants.{Package};
+ghost use Rattle.proto_table.specs.Resolved.{IsAsked, SymbolIsDeclared, IsIndexOf, IsTaken, IsTypeAt, IsWithout, under_all};
 ghost use Rattle.proto_meaning.specs.Marks.{MarksSeen};
 ghost use Rattle.proto_table.specs.Search.{is_seen, passes, HitsAt, IsHit};
-ghost use Rattle.proto_table.specs.Tables.{IsTable, IsUnchanged, names_of, look, row_of};
+ghost use Rattle.proto_table.specs.Tables.{AreAlike, IsTable, IsUnchanged, with_declaration, names_of, look, row_of};
 
 use crate::index::Index;
 use proto_faults::NoMemory;
@@ -41,6 +43,9 @@ pub struct Row {
     pub above: usize,
     /// Further files that declare it, of a package.
     pub more: Vec<u32>,
+    /// Whether a file declares it. Where none does any more, the row stays, with what declared it
+    /// last.
+    pub(crate) is_declared: bool,
 }
 
 impl Row {
@@ -60,8 +65,43 @@ impl Row {
     pub fn is_seen(&self, seen: &[bool]) -> bool
         ensures { result ≡ is_seen seen.now self.now }
     {
-        is_marked(seen, self.symbol.file) || sees_any(seen, &self.more)
+        self.is_declared && (is_marked(seen, self.symbol.file) || sees_any(seen, &self.more))
     }
+
+    /// Whether a file declares it.
+    pub fn is_declared(&self) -> bool
+        ensures { result ≡ self.now.is_declared }
+    {
+        self.is_declared
+    }
+
+    /// The same row, with texts and files of its own. Refused for want of memory alone.
+    fn copy(&self, alloc: Global) -> Result<Row, NoMemory>
+        ensures { IfOk result (λ row. row_of row ≡ row_of self.now) }
+    {
+        let name = String::from_str(alloc, self.name.as_str())?;
+        let mut more = Vec::new(alloc);
+        more.extend_from_slice(&self.more)?;
+        Ok(Row {
+            name,
+            symbol: self.symbol,
+            above: self.above,
+            more,
+            is_declared: self.is_declared,
+        })
+    }
+}
+
+/// The same rows in the same order. Refused for want of memory alone.
+fn copied_rows(alloc: Global, rows: &[Row]) -> Result<Vec<Row>, NoMemory>
+    ensures { IfOk result (λ copy. map row_of copy.items ≡ map row_of rows.now) }
+{
+    let mut copy = Vec::with_capacity(alloc, rows.len())?;
+    for row in rows {
+        let own = row.copy(alloc)?;
+        copy.push(own)?;
+    }
+    Ok(copy)
 }
 
 /// Whether one of these files is seen.
@@ -237,9 +277,10 @@ impl Table {
         Some(row)
     }
 
-    /// Declares a symbol by the number of the name above it; answers the index of its row. Packages
-    /// alone share a name: none for another symbol whose name is taken. Refused for want of memory
-    /// alone. Where it declares nothing, the table stays as it was.
+    /// Declares a symbol by the number of the name above it; answers the index of its row, which is
+    /// the old one where its name was declared before. Packages alone share a name: none for
+    /// another symbol whose name is taken. Refused for want of memory alone. Where it declares
+    /// nothing, the table stays as it was.
     pub(crate) fn declare(
         &mut self,
         alloc: Global,
@@ -266,14 +307,56 @@ impl Table {
                 let row = self.add(alloc, above, word, symbol)?;
                 Ok(Some(row))
             }
-            Some(row) => {
-                if symbol.kind.is_package() && self.rows[row].symbol.kind.is_package() {
-                    add_file(&mut self.rows, row, symbol.file)?;
-                    Ok(Some(row))
-                } else {
-                    Ok(None)
-                }
-            }
+            Some(row) => self.declare_again(row, symbol),
+        }
+    }
+
+    /// Declares a symbol in the row that its name has; answers the row, or none where the name is
+    /// taken. Refused for want of memory alone. Where it declares nothing, the table stays as it
+    /// was.
+    fn declare_again(&mut self, row: usize, symbol: Symbol) -> Result<Option<usize>, NoMemory>
+        requires table { IsTable self.old }
+        requires within { row < length self.old.rows.items }
+        ensures table { OnOk result (IsTable self.new) }
+        ensures index { IfOk result (λ o. IfSome o
+            (λ _. SymbolIsDeclared self.old self.new (get_or (names_of self.old) row []) symbol)) }
+        ensures row { IfOk result (λ o. IfSome o
+            (IsRowOf self.old self.new (get_or (names_of self.old) row []) symbol)) }
+        ensures clash { IfOk result (λ o. IfNone o
+            (IsTaken self.old (get_or (names_of self.old) row []) symbol)) }
+        ensures clash_kept { IfOk result (λ o. IfNone o (IsUnchanged self.old self.new)) }
+        ensures kept { OnErr result (IsUnchanged self.old self.new) }
+    {
+        if self.rows[row].is_declared {
+            self.share(row, symbol)
+        } else {
+            self.revive(row, symbol);
+            Ok(Some(row))
+        }
+    }
+
+    /// Declares a symbol in a row that a file declares: a package's in that of a package, and no
+    /// other, for which it answers none. Refused for want of memory alone. Where it declares
+    /// nothing, the table stays as it was.
+    fn share(&mut self, row: usize, symbol: Symbol) -> Result<Option<usize>, NoMemory>
+        requires table { IsTable self.old }
+        requires within { row < length self.old.rows.items }
+        requires declared { (r : Row) → (get_or self.old.rows.items row r).is_declared ≡ true }
+        ensures table { OnOk result (IsTable self.new) }
+        ensures index { IfOk result (λ o. IfSome o
+            (λ _. SymbolIsDeclared self.old self.new (get_or (names_of self.old) row []) symbol)) }
+        ensures row { IfOk result (λ o. IfSome o
+            (IsRowOf self.old self.new (get_or (names_of self.old) row []) symbol)) }
+        ensures clash { IfOk result (λ o. IfNone o
+            (IsTaken self.old (get_or (names_of self.old) row []) symbol)) }
+        ensures clash_kept { IfOk result (λ o. IfNone o (IsUnchanged self.old self.new)) }
+        ensures kept { OnErr result (IsUnchanged self.old self.new) }
+    {
+        if symbol.kind.is_package() && self.rows[row].symbol.kind.is_package() {
+            add_file(&mut self.rows, row, symbol.file)?;
+            Ok(Some(row))
+        } else {
+            Ok(None)
         }
     }
 
@@ -294,7 +377,8 @@ impl Table {
         ensures rows { IfOk result (λ k. (k ≡ length self.old.rows.items) ×
             ((r : Row) × (self.new.rows.items ≡ self.old.rows.items ++ r ∷ []) ×
             (string_bytes r.name ≡ under (front (names_of self.old) above) word.now)
-            × (r.symbol ≡ symbol) × (r.more.items ≡ []))) }
+            × (r.symbol ≡ symbol) × (r.more.items ≡ []) × (r.is_declared ≡ true))) }
+        ensures front { OnOk result (IsFrontOf self.old.below self.new.below) }
         ensures kept { OnErr result (IsUnchanged self.old self.new) }
     {
         let name = full_name(alloc, self.text(above), word)?;
@@ -307,9 +391,82 @@ impl Table {
                 symbol,
                 above,
                 more: Vec::new(alloc),
+                is_declared: true,
             })
             .unwrap();
         Ok(index)
+    }
+
+    /// Takes the declaration of a row that is no package's away; answers what it was. The row
+    /// stays, and no file declares it any more. Takes no memory.
+    pub fn forget(&mut self, row: usize) -> Symbol
+        requires table { IsTable self.old }
+        requires within { row < length self.old.rows.items }
+        requires other { (r : Row) → (get_or self.old.rows.items row r).symbol.kind ≢ Package }
+        ensures table { IsTable self.new }
+        ensures was { (r : Row) → result ≡ (get_or self.old.rows.items row r).symbol }
+        ensures rows { (r : Row) → self.new.rows.items ≡ slice_set self.old.rows.items row
+            (with_declaration result false (get_or self.old.rows.items row r)) }
+        ensures below { self.new.below ≡ self.old.below }
+        ensures index { (old rest : List NamedSymbol) → IsIndexOf self.old old
+            → IsWithout (get_or (names_of self.old) row []) old rest → IsIndexOf self.new rest }
+    {
+        let symbol = self.rows[row].symbol;
+        self.put_back(row, symbol, false);
+        symbol
+    }
+
+    /// Declares a symbol in a row that no file declares any more; answers what declared it last.
+    /// Takes no memory.
+    pub fn revive(&mut self, row: usize, symbol: Symbol) -> Symbol
+        requires table { IsTable self.old }
+        requires within { row < length self.old.rows.items }
+        requires free { (r : Row) → (get_or self.old.rows.items row r).is_declared ≡ false }
+        ensures table { IsTable self.new }
+        ensures was { (r : Row) → result ≡ (get_or self.old.rows.items row r).symbol }
+        ensures rows { (r : Row) → self.new.rows.items ≡ slice_set self.old.rows.items row
+            (with_declaration symbol true (get_or self.old.rows.items row r)) }
+        ensures below { self.new.below ≡ self.old.below }
+        ensures index { SymbolIsDeclared self.old self.new
+            (get_or (names_of self.old) row []) symbol }
+    {
+        let last = self.rows[row].symbol;
+        self.put_back(row, symbol, true);
+        last
+    }
+
+    /// Gives a row this declaration, and says whether a file has it: the way back of `forget` and
+    /// `revive`. Takes no memory.
+    pub fn put_back(&mut self, row: usize, symbol: Symbol, is_declared: bool)
+        requires within { row < length self.old.rows.items }
+        ensures rows { (r : Row) → self.new.rows.items ≡ slice_set self.old.rows.items row
+            (with_declaration symbol is_declared (get_or self.old.rows.items row r)) }
+        ensures below { self.new.below ≡ self.old.below }
+    {
+        let own = &mut self.rows[row];
+        own.symbol = symbol;
+        own.is_declared = is_declared;
+    }
+
+    /// Takes the last rows and words away, so that at most as many are left: the way back of `add`.
+    /// Takes no memory.
+    pub fn cut_back(&mut self, rows: usize, words: usize)
+        ensures rows { self.new.rows.items ≡ take rows self.old.rows.items }
+        ensures below { keys_in self.new.below
+            ≡ (take words self.old.below.words.keys, take rows self.old.below.rows.keys) }
+    {
+        self.rows.truncate(rows);
+        self.below.cut_back(words, rows);
+    }
+
+    /// The same table, with rows of its own. Refused for want of memory alone.
+    pub fn copy(&self, alloc: Global) -> Result<Table, NoMemory>
+        ensures alike { IfOk result (AreAlike self.now) }
+        ensures table { IfOk result (λ copy. IsTable self.now → IsTable copy) }
+    {
+        let rows = copied_rows(alloc, &self.rows)?;
+        let below = self.below.copy(alloc)?;
+        Ok(Table { rows, below })
     }
 }
 
@@ -333,7 +490,8 @@ fn add_file(rows: &mut Vec<Row>, row: usize, file: u32) -> Result<(), NoMemory>
     ensures added { OnOk result ((old new : Row) × (old ≡ get_or rows.old.items row old) ×
         (rows.new.items ≡ slice_set rows.old.items row new) × (new.name ≡ old.name) ×
         (new.symbol ≡ old.symbol) × (new.above ≡ old.above)
-        × (new.more.items ≡ old.more.items ++ file ∷ [])) }
+        × (new.more.items ≡ old.more.items ++ file ∷ [])
+        × (new.is_declared ≡ old.is_declared)) }
     ensures kept { OnErr result (map row_of rows.new.items ≡ map row_of rows.old.items) }
 {
     let row = &mut rows[row];

@@ -18,15 +18,32 @@ pub(crate) fn read<R: AllocGlobal>(rt: &R, given: Given) -> Result<Files, Schema
     Files::read(rt.alloc(), paths)
 }
 
-// The one owner of a link, which tells each row.
+// The one owner of a link, which tells each row, as do its copy and the link of the same files in
+// its place.
 fn link_of<R: AllocGlobal + Abort>(
     rt: &R,
     files: &Files,
     rows: &[Told],
 ) -> Result<(), SchemaFault> {
-    let link = Link::new(rt.alloc(), files)?;
+    let mut link = Link::new(rt.alloc(), files)?;
+    expect_rows(rt, &link, files, rows);
+    expect_copy(rt, &link, files, rows)?;
+    link.replace(rt.alloc(), files, &[])?;
     expect_rows(rt, &link, files, rows);
     link.release();
+    Ok(())
+}
+
+// A copy tells each row.
+fn expect_copy<R: AllocGlobal + Abort>(
+    rt: &R,
+    link: &Link,
+    files: &Files,
+    rows: &[Told],
+) -> Result<(), SchemaFault> {
+    let copy = link.copy(rt.alloc())?;
+    expect_rows(rt, &copy, files, rows);
+    copy.release();
     Ok(())
 }
 
@@ -148,6 +165,18 @@ fn tell_meant<R: Abort>(rt: &R, out: &mut String, link: &Link, files: &Files, fi
     }
 }
 
+// The names that a file declares, joined by commas.
+fn tell_declared<R: Abort>(rt: &R, out: &mut String, link: &Link, file: u32) {
+    let names = link.declared_in(file);
+    for place in 0..names.len() {
+        if !out.is_empty() {
+            put(rt, out, ",");
+        }
+        let name = names.get(place).and_then(|id| link.name_of(id));
+        put(rt, out, name.unwrap_or("no name"));
+    }
+}
+
 /// What a link is asked.
 #[derive(Drop)]
 pub(crate) enum Ask {
@@ -161,6 +190,8 @@ pub(crate) enum Ask {
     Meant(u32, u32),
     /// Each reference of a file, and the name that it means.
     MeantIn(u32),
+    /// The names that a file declares.
+    DeclaredIn(u32),
     /// What the name is that another link calls so.
     Other(SymbolId),
     /// Where that is referred to.
@@ -187,6 +218,7 @@ fn tell<R: Abort>(rt: &R, out: &mut String, link: &Link, files: &Files, row: &To
         Ask::Other(id) => tell_id(rt, out, link, files, *id),
         Ask::OtherReferences(id) => tell_references(rt, out, files, link.references(*id)),
         Ask::MeantIn(file) => tell_meant(rt, out, link, files, *file),
+        Ask::DeclaredIn(file) => tell_declared(rt, out, link, *file),
         Ask::Seen(file) if link.visible(*file, name) => put(rt, out, "seen"),
         Ask::Seen(_) => put(rt, out, "not seen"),
         Ask::Meant(file, token) => {

@@ -128,3 +128,21 @@ fn packages_of_many_files(rt: HostRuntime) {
         ],
     );
 }
+
+#[test]
+fn names_that_files_declare(rt: HostRuntime) {
+    expect_told(
+        &rt,
+        "a.proto package p.q; message M { int32 b = 2; message N {} int32 a = 1; } enum E { V = 0; }|b.proto|c.proto package p; service S { rpc R (T) returns (T); } message T {}",
+        &[
+            (
+                Ask::DeclaredIn(0),
+                "",
+                "p,p.q,p.q.M,p.q.M.b,p.q.M.N,p.q.M.a,p.q.E,p.q.V",
+            ),
+            (Ask::DeclaredIn(1), "", ""),
+            (Ask::DeclaredIn(2), "", "p,p.S,p.S.R,p.T"),
+            (Ask::DeclaredIn(3), "", ""),
+        ],
+    );
+}

@@ -34,7 +34,7 @@ returns-then-not-one_goes_on c = λ reads are t aimed to i.
     let name = c.args.aim.name.now in
     let none : list_any (λ m. goes_on l name m.row) (get_or l.meant c.args.file []) ≡ false =
     ap (list_any (λ (m : Meant). goes_on l name m.row)) (sym c.meant_in-meant.ensures.exact) ∙ sym c.one_goes_on.ensures ∙ c.if-not-one_goes_on.true in
-    let nothing = c.new.ensures.items in (
+    let nothing = c.new-then-not-one_goes_on.ensures.items in (
       λ h. absurd (let empty = subst (λ (z : List ℕ). Contains z i) nothing h in omega (arith, empty.1)),
       λ h. absurd (none_goes_on files reads are c.requires.linked l (c.requires.link reads are) name to t aimed.named c.args.file c.requires.file [] none i h),
     ))

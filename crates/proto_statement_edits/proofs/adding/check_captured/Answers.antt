@@ -1,4 +1,5 @@
-use Rattle.std.proofs.Common.{refl, sym, ◌∙◌, arith, subst}
+use Rattle.std.proofs.Common.{◌<◌, All, refl, sym, arith, subst}
+use Rattle.proto_imports.specs.declared.import.FileImport.{FileImport}
 use Rattle.proto_meaning.specs.Marks.{MarksSeen}
 use Rattle.proto_captures.specs.Overtaking.{IsFirstOvertaken}
 use Rattle.proto_statement_names.specs.Cases.{with_added}
@@ -32,6 +33,18 @@ returns-clause-err c =
     refused_7 files reads are c.args.paths.file.now c.args.paths.path.now file c.args.to c.requires.file c.requires.to within c.in-Some.token (subst (IsFirstOvertaken files reads v file) c.in-Some.is first)
     c.in_ok-captured_refusal-in-Some.field-0 c.in_ok-captured_refusal-in-Some.ensures
 
-pub seen_with-seen-requires-clause-within : goal.seen_with-seen-requires-clause-within
-seen_with-seen-requires-clause-within c =
+pub seen_with-requires-clause-within : goal.seen_with-requires-clause-within
+seen_with-requires-clause-within c =
     subst (λ n. All (λ v. All (λ (i : FileImport). i.to < n) v.items) c.args.imports.now) (sym c.requires.imports.len) c.requires.imports.within
+
+pub seen_with-requires-clause-file : goal.seen_with-requires-clause-file
+seen_with-requires-clause-file c =
+    let within = place_within c.args.files.now c.args.paths.file.now c.args.file c.requires.file in
+    let count = c.requires.imports.len in
+    omega (arith, within, count)
+
+pub seen_with-requires-clause-to : goal.seen_with-requires-clause-to
+seen_with-requires-clause-to c =
+    let within = place_within c.args.files.now c.args.paths.path.now c.args.to c.requires.to in
+    let count = c.requires.imports.len in
+    omega (arith, within, count)

@@ -1,5 +1,6 @@
-use Rattle.std.proofs.Common.{sym, subst, ◌∙◌}
+use Rattle.std.proofs.Common.{◌<◌, All, arith, sym, subst, ◌∙◌}
 use Rattle.std.proofs.lemmas.Bool.{both_ways}
+use Rattle.proto_imports.specs.declared.import.FileImport.{FileImport}
 use Rattle.proto_meaning.specs.Cycles.{Leads}
 use Rattle.proto_statement_edits.proofs.Additions.{free_14, refused_12, refused_14}
 use Rattle.proto_statement_edits.proofs.MoreOrLess.{place_within}
@@ -39,3 +40,19 @@ returns-clause-free c =
     free_14 files reads are c.args.paths.file.now path file c.args.to c.requires.file c.requires.to within c.requires.before
     (not_imported files reads file path c.import_named.result (c.import_named.ensures reads are) (sym c.is_some.ensures ∙ c.if-is_some.false))
     (λ h. both_ways c.in_ok-leads.field-0 c.if-branch.false (c.in_ok-leads.ensures.1 (subst (λ z. Leads z c.args.to file) (sym (c.requires.imports.are reads are)) h)))
+
+pub leads-requires-clause-within : goal.leads-requires-clause-within
+leads-requires-clause-within c =
+    subst (λ n. All (λ v. All (λ (i : FileImport). i.to < n) v.items) c.args.imports.now) (sym c.requires.imports.len) c.requires.imports.within
+
+pub leads-requires-clause-from : goal.leads-requires-clause-from
+leads-requires-clause-from c =
+    let within = place_within c.args.files.now c.args.paths.path.now c.args.to c.requires.to in
+    let count = c.requires.imports.len in
+    omega (arith, within, count)
+
+pub leads-requires-clause-to : goal.leads-requires-clause-to
+leads-requires-clause-to c =
+    let within = place_within c.args.files.now c.args.paths.file.now c.args.file c.requires.file in
+    let count = c.requires.imports.len in
+    omega (arith, within, count)

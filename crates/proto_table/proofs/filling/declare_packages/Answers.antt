@@ -52,7 +52,7 @@ pub loop-file-init : goal.loop-file-init
 loop-file-init c = record {
   table = c.requires.table;
   held = c.requires.empty;
-  rows = subst (λ z. ArePackageRows c.args.table [] (map (λ v. v.items) z)) (sym c.new-rows.ensures.items) (no_package_rows c.args.table);
+  rows = subst (λ z. ArePackageRows c.args.table [] (map (λ v. v.items) z)) (sym c.new-rows.ensures.items) (no_package_rows c.args.table c.requires.declared);
 }
 
 pub returns-clause-held : goal.returns-clause-held
@@ -83,6 +83,11 @@ returns-in_err-filled c =
           packages_pass (all_named 0 (take c.loop-file.file (map (λ v. v.items) c.args.files.now))) c.loop-file.file c.package_count.result (length c.in_ok-own.own.items) c.deref.result.now c.in_err-filled.field-0.0 ok front
           (c.in_err-filled.ensures.fault (packages_in (all_named 0 (take c.loop-file.file (map (λ v. v.items) c.args.files.now)))) c.loop-file.invariant.held);
     })
+
+pub returns-in_err-own : goal.returns-in_err-own
+returns-in_err-own c =
+    let p = err_from_is_err_and c.from_residual.result c.from_residual.ensures.1 in
+    rw (p.1, p.2) (record { table = tt; held = tt; rows = tt; fault = refl })
 
 pub returns-in_err-push : goal.returns-in_err-push
 returns-in_err-push c =

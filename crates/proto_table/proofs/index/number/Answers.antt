@@ -1,4 +1,5 @@
-use Rattle.std.proofs.Common.{◌≡◌, ℕ, List, string_bytes, String, sym, ◌∙◌, ap, inr, false}
+use Rattle.std.proofs.Math.Seq.{take-append_seam, take-length}
+use Rattle.std.proofs.Common.{◌≡◌, ℕ, List, string_bytes, String, sym, ◌∙◌, ap, inr, false, take, length, ◌∷◌, []}
 use Rattle.std.specs.List.{list_any}
 use Rattle.std.specs.Str.{bytes_eq}
 use Rattle.std.specs.declared.alloc.Global.{Global}
@@ -22,3 +23,11 @@ pub returns-in_ok-number-in-None-clause-other : goal.returns-in_ok-number-in-Non
 returns-in_ok-number-in-None-clause-other c v ne =
     ap (λ z. word_place z v) (c.in_ok-number-in-None.ensures.keys ∙ cond-false _ _ _ (absent c.args.words.now.keys c.in_ok-key-in-None.key c.args.word.now c.in_ok-key-in-None.ensures.ok c.in-None.ensures.found))
     ∙ word_other c.args.words.now.keys c.in_ok-key-in-None.key c.args.word.now c.in_ok-key-in-None.ensures.ok v ne
+
+pub returns-in_ok-number-in-None-clause-front : goal.returns-in_ok-number-in-None-clause-front
+returns-in_ok-number-in-None-clause-front c =
+    ap (take (length c.args.words.now.keys)) (c.in_ok-number-in-None.ensures.keys ∙ cond-false _ _ _ (absent c.args.words.now.keys c.in_ok-key-in-None.key c.args.word.now c.in_ok-key-in-None.ensures.ok c.in-None.ensures.found))
+    ∙ take-append_seam c.args.words.now.keys (c.in_ok-key-in-None.key ∷ [])
+
+pub returns-in-Some-clause-front : goal.returns-in-Some-clause-front
+returns-in-Some-clause-front c = take-length c.args.words.now.keys

@@ -4,10 +4,11 @@ use Rattle.proto_files.specs.FilesRead.{Each}
 use Rattle.proto_imports.specs.declared.import.FileImport.{FileImport}
 use Rattle.proto_listing.specs.declared.listing.Listing.{Listing}
 use Rattle.proto_names.specs.Common.{AreFileMeant, AreNamesOf, LinkOf, all_meant, name_of_row, references_to, Meant}
-use Rattle.proto_imports.proofs.Common.{AreListings, names_of_files, no_fault}
+use Rattle.proto_imports.proofs.Common.{all_imports, AreListings, names_of_files, no_fault}
 use Rattle.proto_meaning.specs.Marks.{MarksSeen}
-use Rattle.proto_names.proofs.LinkMeanings.{all_tokens_rise, is_link_read}
+use Rattle.proto_names.proofs.LinkMeanings.{all_tokens_rise, is_meant_in}
 use Rattle.proto_names.proofs.LinkParts.{files_between, is_link, marks_seen}
+use Rattle.proto_names.proofs.NamesOfRows.{declared_by}
 use Rattle.proto_names.proofs.link.Link.new.Goals as goal
 
 pub linked_names-requires-clause-listings : goal.linked_names-requires-clause-listings
@@ -32,14 +33,15 @@ returns-clause-link c = λ reads are.
     (let files = c.args.files.now in
     let seen = c.in_ok-seen.seen.items in
     let meant = c.in_ok-meant.meant.items in
-    let rows = c.in_ok-table.table.rows in
+    let kept_rows = c.in_ok-table.table.rows in
     let own = ap (λ (l : LinkOf). length l.references) c.from_parts.ensures in
     let names = ap (λ (l : LinkOf). length l.names) c.from_parts.ensures in
     let lists = length-map c.in_ok-references.references.items (λ v. v.items) in
-    let paired : length c.from_parts.result.references ≡ length c.from_parts.result.names = omega (arith, own, names, lists, c.in_ok-references.ensures.len, c.len.ensures, rows.ok.0, length-map rows.items name_of_row) in
+    let paired : length c.from_parts.result.references ≡ length c.from_parts.result.names = omega (arith, own, names, lists, c.in_ok-references.ensures.len, c.len.ensures, kept_rows.ok.0, length-map kept_rows.items name_of_row) in
     let table = c.in_ok-table.table in
     let same = sym (ap (λ (l : LinkOf). l.names) c.from_parts.ensures) in
-    let by = is_link files reads are table c.in_ok-table.ensures.table c.in_ok-table.rows.items (c.in_ok-table.ensures.names reads are)
+    let known = c.in_ok-table.ensures.names reads are in
+    let by = is_link files reads are table c.in_ok-table.ensures.table c.in_ok-table.rows.items known c.in_ok-table.ensures.declared
     (map (λ v. v.items) seen) (map (λ v. v.items) meant) c.from_parts.result same
     (sym (ap (λ (l : LinkOf). l.seen) c.from_parts.ensures))
     (length-map seen (λ v. v.items) ∙ c.in_ok-seen.ensures.len ∙ ap length c.deref.ensures.value ∙ c.in_ok-imports.ensures.len)
@@ -52,9 +54,20 @@ returns-clause-link c = λ reads are.
     (ap (λ (l : LinkOf). get_or l.references row []) c.from_parts.ensures
     ∙ c.in_ok-references.ensures.each row
     ∙ ap (λ (vs : List (Vec Meant)). references_to row (all_meant 0 (map (λ v. v.items) vs))) c.deref-6.ensures.value)) in
+    let imported = ap (λ (l : LinkOf). l.imports) c.from_parts.ensures in
+    let rows = ap (λ (l : LinkOf). l.rows) c.from_parts.ensures in
     let kept = ap (λ (l : LinkOf). l.meant) c.from_parts.ensures in
-    is_link_read files reads table c.in_ok-table.ensures.table c.from_parts.result same are by (ap length kept ∙ length-map meant (λ v. v.items) ∙ c.in_ok-meant.ensures.len)
-    (subst (λ (vs : List (List Meant)). (k : ℕ) → k < length files → AreFileMeant table files reads k (get_or vs k [])) (sym kept) (c.in_ok-meant.ensures.meant reads are)))
+    record {
+      by = by;
+      imported = ap length imported ∙ length-map c.in_ok-imports.imports.items (λ v. v.items) ∙ c.in_ok-imports.ensures.len;
+      imports = ap (all_imports 0) imported ∙ c.in_ok-imports.ensures.imports reads are;
+      listed = ap length rows ∙ length-map c.in_ok-table.rows.items (λ v. v.items) ∙ c.in_ok-table.ensures.paired;
+      declares = declared_by files reads table c.in_ok-table.ensures.table c.from_parts.result same c.in_ok-table.rows.items known c.in_ok-table.ensures.paired c.in_ok-table.ensures.within (sym rows);
+      lists = ap length kept ∙ length-map meant (λ v. v.items) ∙ c.in_ok-meant.ensures.len;
+      means = λ file l.
+          is_meant_in files reads table c.in_ok-table.ensures.table c.from_parts.result same are file l
+          (subst (λ (vs : List (List Meant)). AreFileMeant table files reads file (get_or vs file [])) (sym kept) (c.in_ok-meant.ensures.meant reads are file l));
+    })
 
 pub returns-clause-clean : goal.returns-clause-clean
 returns-clause-clean c =
@@ -132,6 +145,9 @@ linked_references-requires-clause-no_import_fault c = c.in_ok-imports.ensures.cl
 
 pub linked_references-requires-clause-no_name_fault : goal.linked_references-requires-clause-no_name_fault
 linked_references-requires-clause-no_name_fault c = c.in_ok-table.ensures.clean
+
+pub from_parts-requires-clause-declared : goal.from_parts-requires-clause-declared
+from_parts-requires-clause-declared c = c.in_ok-table.ensures.declared
 
 pub from_parts-requires-clause-table : goal.from_parts-requires-clause-table
 from_parts-requires-clause-table c = c.in_ok-table.ensures.table

@@ -1,4 +1,5 @@
-use Rattle.std.proofs.Common.{◌≡◌, ◌<◌, ◌++◌, ◌∷◌, [], length, sym, ◌∙◌, ap, subst, position, map, option_and_then, length-append}
+use Rattle.std.proofs.Math.Seq.{take-append_seam}
+use Rattle.std.proofs.Common.{◌≡◌, ◌<◌, ◌++◌, ◌∷◌, [], length, sym, ◌∙◌, ap, subst, position, map, option_and_then, length-append, take}
 use Rattle.std.specs.List.{All}
 use Rattle.proto_table.specs.declared.index.Below.{Below}
 use Rattle.proto_table.specs.Indexes.{is_below_number, word_place}
@@ -36,3 +37,9 @@ returns-clause-aboves c = ap (map (λ (b : Below). b.above)) (keys c) ∙ map_ap
 
 pub returns-clause-len : goal.returns-clause-len
 returns-clause-len c = ap length (keys c) ∙ length-append c.args.self.now.rows.keys (key c ∷ [])
+
+pub returns-clause-front : goal.returns-clause-front
+returns-clause-front c = record {
+  words = c.in_ok-word.ensures.front;
+  rows = ap (take (length c.args.self.now.rows.keys)) (keys c) ∙ take-append_seam c.args.self.now.rows.keys (key c ∷ []);
+}

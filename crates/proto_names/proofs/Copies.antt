@@ -1,0 +1,26 @@
+-- A copy of a link has what the link has.
+use Rattle.std.proofs.Common.{false, ◌≡◌, ◌<◌, List, [], ◌∷◌, length, get_or, map, sym, ◌∙◌, ap, subst, arith, cond, All}
+use Rattle.proto_faults.proofs.Common.{Vec, get_or-map, length-map}
+use Rattle.proto_table.specs.Tables.{AreAlike, AreDeclared}
+use Rattle.proto_table.specs.declared.table.Row.{Row}
+use Rattle.proto_table.specs.declared.table.Table.{Table}
+use Rattle.proto_table.proofs.Alike.{of_rows}
+use Rattle.proto_names.specs.Linking.{name_of_row}
+
+-- what holds of each list holds of each of the same lists
+pub all_items : {X : Type 0} (P : List X → Type 0) (vs ws : List (Vec X)) → map (λ v. v.items) ws ≡ map (λ v. v.items) vs → All (λ v. P v.items) vs → All (λ v. P v.items) ws
+all_items P vs ws same all k d l =
+    let lv : k < length vs = omega (arith, l, length-map ws (λ v. v.items), ap length same, length-map vs (λ v. v.items)) in
+    let e : (get_or ws k d).items ≡ (get_or vs k d).items = sym (get_or-map (λ v. v.items) ws k d [] l) ∙ ap (λ z. get_or z k []) same ∙ get_or-map (λ v. v.items) vs k d [] lv in
+    subst P (sym e) (all k d lv)
+
+-- tables that are alike have the same names
+pub names_alike : (t t' : Table) → AreAlike t t' → map name_of_row t'.rows.items ≡ map name_of_row t.rows.items
+names_alike t t' alike = of_rows t t' alike (λ s. record { text = s.0; kind = s.1.kind; files = cond s.4 (s.1.file ∷ s.3) []; token = s.1.token })
+
+-- and their rows are declared, where those of the first are
+pub declared_alike : (t t' : Table) → AreAlike t t' → AreDeclared t.rows.items → AreDeclared t'.rows.items
+declared_alike t t' alike alive k d l =
+    let same = of_rows t t' alike (λ s. s.4) in
+    let lt : k < length t.rows.items = omega (arith, l, length-map t'.rows.items (λ r. r.is_declared), ap length same, length-map t.rows.items (λ r. r.is_declared)) in
+    sym (get_or-map (λ (r : Row). r.is_declared) t'.rows.items k d false l) ∙ ap (λ z. get_or z k false) same ∙ get_or-map (λ (r : Row). r.is_declared) t.rows.items k d false lt ∙ alive k d lt

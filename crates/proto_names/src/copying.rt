@@ -1,0 +1,20 @@
+//! Copies of lists.
+
+ghost use Rattle.std.specs.Prelude.{◌≡◌, map, IfOk};
+
+use proto_faults::NoMemory;
+use std::alloc::Global;
+
+/// The same lists in the same order. Refused for want of memory alone.
+pub(crate) fn copied<T: Copy>(alloc: Global, lists: &[Vec<T>]) -> Result<Vec<Vec<T>>, NoMemory>
+    ensures { IfOk result
+        (λ copy. map (λ v. v.items) copy.items ≡ map (λ v. v.items) lists.now) }
+{
+    let mut copy = Vec::with_capacity(alloc, lists.len())?;
+    for list in lists {
+        let mut own = Vec::with_capacity(alloc, list.len())?;
+        own.extend_from_slice(list)?;
+        copy.push(own)?;
+    }
+    Ok(copy)
+}
