@@ -108,17 +108,14 @@ fn is_file(files: &Files, file: u32, path: &str, length: usize, tokens: usize) -
 
 // Whether a loop over the files meets these paths, in their order.
 fn meets(files: &Files, paths: &[&str]) -> bool {
-    let mut left = paths;
+    let mut left = paths.iter();
     for file in files {
-        let Some((path, rest)) = left.split_first() else {
-            return false;
-        };
-        if file.path.as_str() != *path {
-            return false;
+        match left.next() {
+            Some(path) if file.path.as_str() == *path => {}
+            _ => return false,
         }
-        left = rest;
     }
-    left.is_empty()
+    left.next().is_none()
 }
 
 // Whether the file with this path has this place, wherever the search begins.
