@@ -1,10 +1,9 @@
--- Camel case, piece by piece (for the crates above).
-use Rattle.std.proofs.Common.{Option, None, Some, MatchOption, map, take, drop, length, get_or, suc, take-append-drop, ◌≡◌, ◌≢◌, ℕ, ◌+◌, ◌-◌, ◌/◌, ◌<◌, ◌≤◌, Bool, true, false, cond, ◌==◌, List, [], ◌∷◌, ◌++◌, refl, sym, ap, ◌∙◌, if◌then◌else◌, ◌⊎◌, inl, inr, arith, append_assoc, nat_lt, eqb-true, le-ltb, ltb-false, ltb-true}
-use Rattle.proto_faults.proofs.Common.{to_ascii_uppercase, cases_Bool, cases_lt, cond-false, false_from_ne_true, encode_ascii}
-use Rattle.std.specs.Str.Pattern.{FindsChar}
-use Rattle.std.proofs.lemmas.Str.Pattern.{NoCharPasses-char, drop_at_char}
-use Rattle.std.proofs.lemmas.Str.{len_utf8_ascii}
-use lib.Utf8.{encode, next}
+-- Camel case, byte by byte: what is left of text is text, and a raised byte is another (for the
+-- crates above).
+use Rattle.std.proofs.Common.{get_or, length, suc, ◌≡◌, ◌≢◌, ℕ, ◌-◌, ◌<◌, ◌≤◌, Bool, true, false, cond, ◌==◌, List, [], ◌∷◌, ◌++◌, IsUtf8, refl, sym, ap, subst, ◌∙◌, if◌then◌else◌, ◌⊎◌, inl, inr, arith, append-nil, nat_lt, eqb-true, le-ltb, ltb-false, ltb-true}
+use Rattle.proto_faults.proofs.Common.{to_ascii_uppercase, and_parts, cases_Bool, cases_lt, cond-false, cond-true, false_from_ne_true}
+use Rattle.std.proofs.lemmas.Str.{IsUtf8-append, IsUtf8-encode, IsUtf8-nil, encode_ascii, inside_one, len_utf8_bounds, length-encode}
+use lib.Utf8.{encode, encodes, low_scalar, scalar, scalars}
 use Rattle.proto_case.specs.Camel.{camel_from}
 
 other : (b : ℕ) → b ≢ 95 → (b == 95) ≡ false
@@ -13,9 +12,9 @@ other b ne = elim (cases_Bool (b == 95)) [
   | inr e ↦ e
 ]
 
--- a character that is no `_`
-one : (up : Bool) (b : ℕ) (rest : List ℕ) → b ≢ 95 → camel_from up (b ∷ rest) ≡ (if up then to_ascii_uppercase b else b) ∷ camel_from false rest
-one up b rest ne = cond-false (b == 95) (camel_from true rest) ((if up then to_ascii_uppercase b else b) ∷ camel_from false rest) (other b ne)
+-- a byte that is no `_`
+one : (up : Bool) (b : ℕ) (rest : List ℕ) → (b == 95) ≡ false → camel_from up (b ∷ rest) ≡ (if up then to_ascii_uppercase b else b) ∷ camel_from false rest
+one up b rest ne = cond-false (b == 95) (camel_from true rest) ((if up then to_ascii_uppercase b else b) ∷ camel_from false rest) ne
 
 upper_high : (b : ℕ) → 128 ≤ b → to_ascii_uppercase b ≡ b
 upper_high b h = cond-false (nat_lt b 97) b (cond (nat_lt b 123) (b - 32) b) (le-ltb b 97 (omega (arith, h))) ∙ cond-false (nat_lt b 123) (b - 32) b (le-ltb b 123 (omega (arith, h)))
@@ -24,79 +23,52 @@ same_high : (up : Bool) (b : ℕ) → 128 ≤ b → (if up then to_ascii_upperca
 same_high true b h = upper_high b h
 same_high false b h = refl
 
--- what stands between two `_`, its first byte in upper case where `up` says so
-abbrev pub raised : Bool → List ℕ → List ℕ
-raised up part = map (λ b. if up then to_ascii_uppercase b else b) (take 1 part) ++ drop 1 part
+upper_low : (up : Bool) (b : ℕ) → b < 128 → (if up then to_ascii_uppercase b else b) < 128
+upper_low true b h = let l : to_ascii_uppercase b ≤ b = grind arith in omega (arith, h, l)
+upper_low false b h = h
 
-high : (up : Bool) (c : ℕ) (rest : List ℕ) → 128 ≤ c → raised up (encode c ++ rest) ≡ encode c ++ rest
-unfolding encode
-high up c rest h = go (nat_lt c 128) (nat_lt c 2048) (nat_lt c 65536) (le-ltb c 128 h)
-  where
-    go : (x y z : Bool) → x ≡ false → raised up (cond x (c ∷ []) (cond y ((192 + c / 64) ∷ next c ∷ []) (cond z ((224 + c / 4096) ∷ next (c / 64) ∷ next c ∷ []) ((240 + c / 262144) ∷ next (c / 4096) ∷ next (c / 64) ∷ next c ∷ []))) ++ rest)
-        ≡ cond x (c ∷ []) (cond y ((192 + c / 64) ∷ next c ∷ []) (cond z ((224 + c / 4096) ∷ next (c / 64) ∷ next c ∷ []) ((240 + c / 262144) ∷ next (c / 4096) ∷ next (c / 64) ∷ next c ∷ []))) ++ rest
-    go true y z e = absurd (cc)
-    go false true z e = ap (λ (b : ℕ). b ∷ next c ∷ rest) (same_high up (192 + c / 64) (omega arith))
-    go false false true e = ap (λ (b : ℕ). b ∷ next (c / 64) ∷ next c ∷ rest) (same_high up (224 + c / 4096) (omega arith))
-    go false false false e = ap (λ (b : ℕ). b ∷ next (c / 4096) ∷ next (c / 64) ∷ next c ∷ rest) (same_high up (240 + c / 262144) (omega arith))
+-- bytes past ASCII stay
+abbrev AreHigh : List ℕ → Type 0
+AreHigh bs = (i : ℕ) → i < length bs → 128 ≤ get_or bs i 0
 
-pub raised_up : (up : Bool) (c : ℕ) (part rest : List ℕ) → up ≡ true → part ≡ encode c ++ rest → raised up part ≡ encode (to_ascii_uppercase c) ++ rest
-raised_up up c part rest is e = elim (cases_lt c 128) [
-  | inl low ↦
-      ap (raised up) (e ∙ ap (λ (bs : List ℕ). bs ++ rest) (encode_ascii c low))
-      ∙ ap (λ (u : Bool). (if u then to_ascii_uppercase c else c) ∷ rest) is
-      ∙ sym (ap (λ (bs : List ℕ). bs ++ rest) (encode_ascii (to_ascii_uppercase c) (let l = lower c in omega (arith, low, l))))
-  | inr big ↦ ap (raised up) e ∙ high up c rest big ∙ ap (λ (d : ℕ). encode d ++ rest) (sym (upper_high c big))
+high_one : (up : Bool) (b : ℕ) (bs : List ℕ) → 128 ≤ b → camel_from up (b ∷ bs) ≡ b ∷ camel_from false bs
+high_one up b bs h = one up b bs (other b (λ e. absurd (omega (arith, e, h)))) ∙ ap (λ (d : ℕ). d ∷ camel_from false bs) (same_high up b h)
+
+high_more : (bs rest : List ℕ) → AreHigh bs → camel_from false (bs ++ rest) ≡ bs ++ camel_from false rest
+high_more [] rest h = refl
+high_more (b ∷ bs) rest h = high_one false b (bs ++ rest) (h 0 (omega arith)) ∙ ap (λ (xs : List ℕ). b ∷ xs) (high_more bs rest (λ i l. h (suc i) (omega (arith, l))))
+
+high_part : (up : Bool) (bs rest : List ℕ) → 0 < length bs → AreHigh bs → camel_from up (bs ++ rest) ≡ bs ++ camel_from false rest
+high_part up [] rest l h = absurd (omega (arith, l))
+high_part up (b ∷ bs) rest l h = high_one up b (bs ++ rest) (h 0 (omega arith)) ∙ ap (λ (xs : List ℕ). b ∷ xs) (high_more bs rest (λ i l. h (suc i) (omega (arith, l))))
+
+-- character by character
+ascii_then : (b : ℕ) (bs : List ℕ) → b < 128 → IsUtf8 bs → IsUtf8 (b ∷ bs)
+ascii_then b bs low u = IsUtf8-append (b ∷ []) bs (subst IsUtf8 (encode_ascii b low) (IsUtf8-encode b (low_scalar b (omega (arith, low))))) u
+
+low_char : (up : Bool) (c : ℕ) (rest : List ℕ) → c < 128 → ((u : Bool) → IsUtf8 (camel_from u rest)) → IsUtf8 (camel_from up (c ∷ rest))
+low_char up c rest low h = elim (cases_Bool (c == 95)) [
+  | inl e ↦ subst IsUtf8 (sym (cond-true (c == 95) (camel_from true rest) ((if up then to_ascii_uppercase c else c) ∷ camel_from false rest) e)) (h true)
+  | inr e ↦ subst IsUtf8 (sym (one up c rest e)) (ascii_then (if up then to_ascii_uppercase c else c) (camel_from false rest) (upper_low up c low) (h false))
 ]
-  where
-    lower : (c : ℕ) → to_ascii_uppercase c ≤ c
-    lower c = grind arith
 
-pub raised_not : (up : Bool) (part : List ℕ) → up ≡ false → raised up part ≡ part
-raised_not up [] e = refl
-raised_not up (b ∷ bs) e = ap (λ (u : Bool). (if u then to_ascii_uppercase b else b) ∷ bs) e
+high_bytes : (c : ℕ) → 128 ≤ c → AreHigh (encode c)
+high_bytes c big i l = elim (cases_lt (get_or (encode c) i 0) 128) [
+  | inl low ↦ absurd (omega (arith, big, low, inside_one c [] (encode c) i (sym (append-nil (encode c))) l low))
+  | inr h ↦ h
+]
 
-pub raised_none : (up : Bool) (part : List ℕ) → length part ≡ 0 → raised up part ≡ part
-raised_none up [] e = refl
-raised_none up (b ∷ bs) e = absurd (omega (arith, e))
+all_chars : (up : Bool) (cs : List ℕ) → scalars cs ≡ true → IsUtf8 (camel_from up (encodes cs))
+all_chars up [] e = IsUtf8-nil
+all_chars up (c ∷ cs) e =
+    let p = and_parts (scalar c) (scalars cs) e in
+    elim (cases_lt c 128) [
+      | inl low ↦ subst (λ (bs : List ℕ). IsUtf8 (camel_from up (bs ++ encodes cs))) (sym (encode_ascii c low)) (low_char up c (encodes cs) low (λ u. all_chars u cs p.1))
+      | inr big ↦ subst IsUtf8 (sym (high_part up (encode c) (encodes cs) (omega (arith, length-encode c, (len_utf8_bounds c).0)) (high_bytes c big))) (IsUtf8-append (encode c) (camel_from false (encodes cs)) (IsUtf8-encode c p.0) (all_chars false cs p.1))
+    ]
 
--- a piece, and what comes behind it
-abbrev Lacks : List ℕ → Type 0
-Lacks bs = (i : ℕ) → i < length bs → get_or bs i 0 ≢ 95
-
-tail : (b : ℕ) (bs : List ℕ) → Lacks (b ∷ bs) → Lacks bs
-tail b bs h i l = h (suc i) (omega (arith, l))
-
-behind : (up : Bool) (part rest after : List ℕ) → Lacks part → ((u : Bool) → camel_from u rest ≡ after) → camel_from up (part ++ rest) ≡ raised up part ++ after
-behind up [] rest after h e = e up
-behind up (b ∷ bs) rest after h e = one up b (bs ++ rest) (h 0 (omega arith)) ∙ ap (λ (xs : List ℕ). (if up then to_ascii_uppercase b else b) ∷ xs) (go bs (tail b bs h))
-  where
-    go : (bs : List ℕ) → Lacks bs → camel_from false (bs ++ rest) ≡ bs ++ after
-    go [] h = e false
-    go (b ∷ bs) h = one false b (bs ++ rest) (h 0 (omega arith)) ∙ ap (λ (xs : List ℕ). b ∷ xs) (go bs (tail b bs h))
-
-abbrev IsCut : List ℕ → List ℕ → Bool → List ℕ → Option (ℕ × ℕ) → Type 0
-IsCut text part more rest o = MatchOption o ((part ≡ text) × (more ≡ false)) (λ q. 0 < q.1 → (part ≡ take q.0 text) × (more ≡ true) × (rest ≡ drop q.1 text))
-
-first_part : (up more : Bool) (part text rest : List ℕ) (o : Option (ℕ × ℕ)) → FindsChar 95 text o → IsCut text part more rest o → camel_from up text ≡ raised up part ++ (if more then camel_from true rest else [])
-first_part up more part text rest None f g =
-    ap (camel_from up) (nil text)
-    ∙ behind up text [] [] (λ i. NoCharPasses-char 95 text i f (omega arith)) (λ u. refl)
-    ∙ (λ i. raised up (sym g.0 i) ++ (if sym g.1 i then camel_from true rest else []))
-  where
-    nil : (xs : List ℕ) → xs ≡ xs ++ []
-    nil [] = refl
-    nil (x ∷ xs) = ap (λ (ys : List ℕ). x ∷ ys) (nil xs)
-first_part up more part text rest (Some q) f g =
-    let k = g (omega (arith, f.1.ends, len_utf8_ascii 95 (omega arith))) in
-    ap (camel_from up) (sym (take-append-drop q.0 text) ∙ ap (λ (xs : List ℕ). take q.0 text ++ xs) (drop_at_char 95 text q.0 q.1 f.1 (omega arith)))
-    ∙ behind up (take q.0 text) (95 ∷ drop q.1 text) (camel_from true (drop q.1 text)) (λ i. NoCharPasses-char 95 (take q.0 text) i f.0 (omega arith)) (λ u. refl)
-    ∙ (λ i. raised up (sym k.0 i) ++ (if sym k.1 i then camel_from true (sym k.2 i) else []))
-
-pub part_step : (up more : Bool) (part text rest name after all : List ℕ) (o : Option (ℕ × ℕ)) → FindsChar 95 text o → IsCut text part more rest o
-    → after ≡ name ++ raised up part → name ++ camel_from up text ≡ all → after ++ (if more then camel_from true rest else []) ≡ all
-part_step up more part text rest name after all o f g a h =
-    let later : List ℕ = if more then camel_from true rest else [] in
-    ap (λ (bs : List ℕ). bs ++ later) a ∙ append_assoc name (raised up part) later ∙ ap (λ (bs : List ℕ). name ++ bs) (sym (first_part up more part text rest o f g)) ∙ h
+pub IsUtf8-camel_from : (up : Bool) (word : List ℕ) → IsUtf8 word → IsUtf8 (camel_from up word)
+IsUtf8-camel_from up word u = subst (λ (bs : List ℕ). IsUtf8 (camel_from up bs)) u.1.1 (all_chars up u.0 u.1.0)
 
 -- a byte that is no upper-case letter comes of no other
 pub no_upper : (c : ℕ) → (c < 65) ⊎ (90 < c) → (b : ℕ) → (b == c) ≡ false → (to_ascii_uppercase b == c) ≡ false

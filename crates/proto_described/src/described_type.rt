@@ -16,7 +16,10 @@ use std::alloc::Global;
 pub(crate) fn scalar_type(word: &str) -> FieldType
     ensures { result ≡ scalar_type word.now }
 {
+    // The most frequent first.
     match word {
+        "string" => FieldType::String,
+        "bool" => FieldType::Bool,
         "double" => FieldType::Double,
         "float" => FieldType::Float,
         "int32" => FieldType::Int32,
@@ -29,8 +32,6 @@ pub(crate) fn scalar_type(word: &str) -> FieldType
         "fixed64" => FieldType::Fixed64,
         "sfixed32" => FieldType::Sfixed32,
         "sfixed64" => FieldType::Sfixed64,
-        "bool" => FieldType::Bool,
-        "string" => FieldType::String,
         _ => FieldType::Bytes,
     }
 }

@@ -361,11 +361,17 @@ impl<'a, R: Files + AllocGlobal> FolderStore<'a, R> {
         found: &Metadata,
         limit: usize,
     ) -> io::Result<(Vec<u8>, Stamp)> {
-        // No more than a schema may have, whatever length is told; the byte more is that of the
-        // read that finds the end.
+        // No byte behind the length that is told is read, so that no read asks for the end. A file of
+        // which no length is told is read up to its end.
+        let wanted = match found.size() {
+            0 => limit as u64,
+            len => len.min(limit as u64),
+        };
+        // Room for no more than a schema may have, whatever length is told; the byte more is that of
+        // the turn that finds the end.
         let told = found.size().min(MAX_LEN as u64) as usize;
         let mut bytes = Vec::with_capacity(self.rt.alloc(), told + 1)?;
-        file.take(limit as u64).read_to_end(&mut bytes)?;
+        file.take(wanted).read_to_end(&mut bytes)?;
         Ok((bytes, stamp_of(found)))
     }
 
@@ -490,12 +496,28 @@ fn note_seen(
     Ok(())
 }
 
-// Notes which files were listed. What was read or written stays known.
+// Notes which file was listed at a path. What was read or written stays known.
+fn note_file(
+    alloc: Global,
+    all: &mut BTreeMap<String, Seen>,
+    path: &str,
+    number: FileNumber,
+) -> io::Result<()> {
+    if let Some(before) = all.get_mut(path) {
+        if matches!(before, Seen::Listed(_)) {
+            *before = Seen::Listed(number);
+        }
+        return Ok(());
+    }
+    let path = String::from_str(alloc, path)?;
+    let _ = all.insert(path, Seen::Listed(number))?;
+    Ok(())
+}
+
+// Notes which files were listed.
 fn note_listed(alloc: Global, all: &mut BTreeMap<String, Seen>, walk: &Walk) -> io::Result<()> {
     for (path, number) in walk.files.iter().zip(walk.numbers.iter()) {
-        if !matches!(all.get(path.as_str()), Some(Seen::Held(_))) {
-            note_seen(alloc, all, path.as_str(), Seen::Listed(*number))?;
-        }
+        note_file(alloc, all, path.as_str(), *number)?;
     }
     Ok(())
 }

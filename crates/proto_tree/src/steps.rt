@@ -1,6 +1,6 @@
 //! Parsing, with a count of the files that were parsed.
 
-ghost use Rattle.std.specs.Prelude.{◌≡◌, ◌⊎◌, ◌+◌, ◌≤◌, ◌^◌, IfOk, IfErr, IsErrAnd, MatchResult};
+ghost use Rattle.std.specs.Prelude.{◌≡◌, ◌⊎◌, ◌+◌, ◌<◌, ◌^◌, IfOk, IfErr, IsErrAnd, MatchResult};
 ghost use Rattle.proto_text.specs.Tokens.{AreTokens};
 ghost use Rattle.proto_tree.specs.declared.parsing.ParseFault.{ParseFault};
 ghost use Rattle.proto_tree.specs.declared.parsing.ParseFault.TheVariants.{NoMemory};
@@ -53,7 +53,7 @@ pub fn parse_counted(
     steps: &mut Steps,
 ) -> Result<File, ParseFault>
     requires tokens { AreTokens source.now tokens.now }
-    requires steps { steps.old ≤ 2 ^ 63 }
+    requires steps { steps.old + 1 < 2 ^ 64 }
     // The answered tree is well-formed and has these tokens, and no more than 32 braces are open at
     // once.
     ensures found { IfOk result (λ f. Reads source.now tokens.now (tree_of_file f)) }

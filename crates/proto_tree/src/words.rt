@@ -1,6 +1,6 @@
 //! The class of a token by its kind and its text.
 
-ghost use Rattle.std.specs.Prelude.{◌≡◌};
+ghost use Rattle.std.specs.Prelude.{◌≡◌, [], ◌∷◌};
 ghost use Rattle.proto_tree.specs.Words.{class_in, of_length, listed, marks, text_class, class_by, is_listed};
 ghost use Rattle.proto_tree.specs.Classes.{fits};
 
@@ -19,10 +19,10 @@ fn of_two(text: &str) -> Class
 fn of_three(text: &str) -> Class
     ensures { result ≡ class_in (of_length 3 listed) Class.Name text.now }
 {
-    match text {
-        "rpc" => Class::Rpc,
-        "map" => Class::Map,
-        "max" => Class::Max,
+    match text.as_bytes() {
+        [b'r', b'p', b'c'] => Class::Rpc,
+        [b'm', b'a', b'p'] => Class::Map,
+        [b'm', b'a', b'x'] => Class::Max,
         _ => Class::Name,
     }
 }
@@ -116,23 +116,33 @@ fn word_class(text: &str) -> Class
     }
 }
 
+/// The class of a byte of punctuation.
+fn class_of_mark(mark: u8) -> Class
+    ensures { result ≡ class_in marks Class.Other (mark ∷ []) }
+{
+    match mark {
+        b';' => Class::Semicolon,
+        b'=' => Class::Equals,
+        b'.' => Class::Dot,
+        b',' => Class::Comma,
+        b'{' => Class::Open,
+        b'}' => Class::Close,
+        b'[' => Class::LeftBracket,
+        b']' => Class::RightBracket,
+        b'(' => Class::LeftParenthesis,
+        b')' => Class::RightParenthesis,
+        b'<' => Class::Less,
+        b'>' => Class::Greater,
+        b'-' => Class::Minus,
+        _ => Class::Other,
+    }
+}
+
 fn mark_class(text: &str) -> Class
     ensures { result ≡ class_in marks Class.Other text.now }
 {
-    match text {
-        ";" => Class::Semicolon,
-        "=" => Class::Equals,
-        "." => Class::Dot,
-        "," => Class::Comma,
-        "{" => Class::Open,
-        "}" => Class::Close,
-        "[" => Class::LeftBracket,
-        "]" => Class::RightBracket,
-        "(" => Class::LeftParenthesis,
-        ")" => Class::RightParenthesis,
-        "<" => Class::Less,
-        ">" => Class::Greater,
-        "-" => Class::Minus,
+    match text.as_bytes() {
+        [mark] => class_of_mark(*mark),
         _ => Class::Other,
     }
 }
