@@ -7,7 +7,7 @@ use Rattle.proto_meaning.specs.Faults.{Fault, IsLeast, AfterEarlier, AskedImport
 use Rattle.proto_imports.specs.Common.{asked_by, all_asked, PathFault, unknown, double, WrittenImport}
 
 -- the same file, and more of them
-abbrev SameFile : (AskedImport → AskedImport → Type 0) → AskedImport → AskedImport → Type 0
+abbrev pub SameFile : (AskedImport → AskedImport → Type 0) → AskedImport → AskedImport → Type 0
 SameFile R x y = (x.place.file ≡ y.place.file) × R x y
 
 file_in : (file : ℕ) (ws : List WrittenImport) (a : AskedImport) → Contains (map (asked_by file) ws) a → a.place.file ≡ file
@@ -31,21 +31,21 @@ asked_of n (suc k) (ws ∷ fs) a l c =
     let z : n + suc k ≡ suc n + k = omega arith in
     Contains-append_right (map (asked_by n) ws) (all_asked (suc n) fs) a (asked_of (suc n) k fs a (omega (arith, l)) (subst (λ m. Contains (map (asked_by m) (get_or fs k [])) a) z c))
 
-after_left : {A : Type 0} (R : A → A → Type 0) (xs ys : List A) (y : A) → AfterEarlier R xs y → AfterEarlier R (xs ++ ys) y
+pub after_left : {A : Type 0} (R : A → A → Type 0) (xs ys : List A) (y : A) → AfterEarlier R xs y → AfterEarlier R (xs ++ ys) y
 after_left R xs ys y c =
     let l : c.1 < length (xs ++ ys) = omega (arith, c.4, length-append xs ys) in
     let e = get_or-append xs ys c.2 c.1 c.4 in
     let e' = get_or-append xs ys c.2 c.0 (omega (arith, c.3, c.4)) in
     (c.0, c.1, c.2, c.3, l, e ∙ c.5, subst (λ z. R z y) (sym e') c.6)
 
-after_right : {A : Type 0} (R : A → A → Type 0) (xs ys : List A) (y : A) → AfterEarlier R ys y → AfterEarlier R (xs ++ ys) y
+pub after_right : {A : Type 0} (R : A → A → Type 0) (xs ys : List A) (y : A) → AfterEarlier R ys y → AfterEarlier R (xs ++ ys) y
 after_right R xs ys y c =
     let e = get_or-append-add xs ys c.1 c.2 in
     let e' = get_or-append-add xs ys c.0 c.2 in
     (length xs + c.0, length xs + c.1, c.2, omega (arith, c.3), omega (arith, c.4, length-append xs ys), e ∙ c.5, subst (λ z. R z y) (sym e') c.6)
 
 -- both stand in the one list or in the other, or the earlier one in the first
-after_cases : {A : Type 0} (R : A → A → Type 0) (xs ys : List A) (y : A) → AfterEarlier R (xs ++ ys) y → (AfterEarlier R xs y ⊎ AfterEarlier R ys y) ⊎ ((x : A) × Contains xs x × Contains ys y × R x y)
+pub after_cases : {A : Type 0} (R : A → A → Type 0) (xs ys : List A) (y : A) → AfterEarlier R (xs ++ ys) y → (AfterEarlier R xs y ⊎ AfterEarlier R ys y) ⊎ ((x : A) × Contains xs x × Contains ys y × R x y)
 after_cases {A} R xs ys y c = elim (cases_lt c.1 (length xs)) [
   | inl l ↦
       let e = get_or-append xs ys c.2 c.1 l in
@@ -68,7 +68,7 @@ after_cases {A} R xs ys y c = elim (cases_lt c.1 (length xs)) [
     in_at : (zs : List A) (i : ℕ) (d : A) → i < length zs → Contains zs (get_or zs i d)
     in_at zs i d l = (i, l, get_or_default zs i (get_or zs i d) d l)
 
-after_contains : {A : Type 0} (R : A → A → Type 0) (xs : List A) (y : A) → AfterEarlier R xs y → Contains xs y
+pub after_contains : {A : Type 0} (R : A → A → Type 0) (xs : List A) (y : A) → AfterEarlier R xs y → Contains xs y
 after_contains R xs y c = (c.1, c.4, get_or_default xs c.1 y c.2 c.4 ∙ c.5)
 
 -- an earlier import of the same file stands in that file

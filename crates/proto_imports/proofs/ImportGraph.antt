@@ -54,7 +54,7 @@ pub importers_of : (next back : List (List ℕ)) (imports : List Import) → IsG
 importers_of next back imports g t from to = (λ c. (g from to).0 ((t from to).1 c), λ d. (t from to).0 ((g from to).1 d))
 
 -- where ranks fall along imports, there is no cycle
-lead_falls : (rank : ℕ → ℕ) (imports : List Import) → ((i : Import) → Contains imports i → rank i.to < rank i.from) → {f g : ℕ} → Leads imports f g → rank g ≤ rank f
+pub lead_falls : (rank : ℕ → ℕ) (imports : List Import) → ((i : Import) → Contains imports i → rank i.to < rank i.from) → {f g : ℕ} → Leads imports f g → rank g ≤ rank f
 lead_falls rank imports falls stop = omega arith
 lead_falls rank imports falls {f} {g} (onward i c e l) =
     let r = lead_falls rank imports falls l in
@@ -73,7 +73,7 @@ contains_filtered {Y = Y} h (z ∷ xs) x y c e = elim (contains_cases z x xs c) 
     go None ys k = k
     go (Some v) ys k = contains_later v y ys k
 
-import_contained : (paths : List (List ℕ)) (asked : List AskedImport) (a : AskedImport) (to : ℕ) → Contains asked a → file_with_path paths a.path ≡ Some to → (i : Import) × Contains (imports_of paths asked) i × (i.from ≡ a.place.file) × (i.to ≡ to)
+pub import_contained : (paths : List (List ℕ)) (asked : List AskedImport) (a : AskedImport) (to : ℕ) → Contains asked a → file_with_path paths a.path ≡ Some to → (i : Import) × Contains (imports_of paths asked) i × (i.from ≡ a.place.file) × (i.to ≡ to)
 import_contained paths asked a to c h =
     let i : Import = record { from = a.place.file; to = to; is_public = a.is_public } in
     (i, contains_filtered (import_from_asked paths) asked a i c (ap (option_map (λ t. let j : Import = record { from = a.place.file; to = t; is_public = a.is_public } in j)) h), refl, refl)
@@ -114,7 +114,7 @@ from_filtered {X = X} {Y = Y} h (x ∷ xs) y c = go (h x) refl c (from_filtered 
     go None e d later = later d
     go (Some v) e d later = elim (contains_cases v y (filter_map h xs) d) [ inl same ↦ (x, e ∙ ap Some same) | inr rest ↦ later rest ]
 
-import_within : (paths : List (List ℕ)) (asked : List AskedImport) (i : Import) → Contains (imports_of paths asked) i → i.to < length paths
+pub import_within : (paths : List (List ℕ)) (asked : List AskedImport) (i : Import) → Contains (imports_of paths asked) i → i.to < length paths
 import_within paths asked i c = let r = from_filtered (import_from_asked paths) asked i c in go r.0 (file_with_path paths r.0.path) refl r.1
   where
     go : (a : AskedImport) (o : Option ℕ) → file_with_path paths a.path ≡ o → import_from_asked paths a ≡ Some i → i.to < length paths

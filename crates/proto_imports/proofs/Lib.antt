@@ -1,10 +1,13 @@
+mod Acyclic
 pub mod Common
 mod CycleFaults
 pub mod FaultPlaces
 pub mod FileUses
 mod FilesAsked
+mod FoundImports
 mod ImportFaults
 pub mod ImportGraph
+pub mod KeptImports
 pub mod LeastLinkFault
 mod PathFaults
 pub mod PlainNames

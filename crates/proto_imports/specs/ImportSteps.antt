@@ -9,7 +9,7 @@ use Rattle.proto_meaning.specs.Names.{Import}
 use Rattle.proto_meaning.specs.Cycles.{Leads}
 use Rattle.proto_meaning.specs.Faults.{Fault, fault, IsLeast, AfterEarlier, AskedImport, file_with_path, imports_of}
 use Rattle.proto_meaning.specs.Grown.{at}
-use Rattle.proto_imports.specs.Walks.{IsMarked}
+use Rattle.proto_imports.specs.Walks.{IsMarked, Walks}
 use Rattle.proto_imports.specs.declared.import.WrittenImport.{WrittenImport}
 
 -- the least of a set of faults, or that there is none
@@ -55,3 +55,8 @@ AreImporters lists imports =
     (from to : ℕ)
     → Contains (get_or lists to []) from
     ↔ ((i : Import) × Contains imports i × (i.from ≡ from) × (i.to ≡ to))
+
+-- no file of a list leads back, along the other lists, to the file that has the list
+abbrev pub NoneLeadsBack : List (List ℕ) → List (List ℕ) → Type 0
+NoneLeadsBack next back =
+    (file target : ℕ) → Contains (get_or next file []) target → Walks back file target → ⊥

@@ -1,12 +1,13 @@
 //! The first import on a cycle.
 
 ghost use Rattle.std.specs.Prelude.{◌≡◌, ◌⊎◌, ◌↔◌, ℕ, ◌<◌, ◌≤◌, ◌^◌, List, [], ◌∷◌, ◌++◌, length, get_or, map, option_map, false, slice_set, IsTrue, IfOk, OnOk, replicate};
-ghost use Rattle.std.specs.List.{All, Contains};
+ghost use Rattle.std.specs.List.{All, Contains, list_any};
 ghost use Rattle.std.specs.Option.{option_map_or};
 ghost use Rattle.indexmap.specs.IndexMap.{get_by_text};
+ghost use Rattle.proto_meaning.specs.Cycles.{IsAcyclic};
 ghost use Rattle.proto_meaning.specs.Faults.{imports_of};
 ghost use Rattle.proto_imports.specs.Importing.{TokensAreRising, all_asked, all_imports, fault_of};
-ghost use Rattle.proto_imports.specs.ImportSteps.{AreTurned, AreImporters, IsFileIndex, IsFirst, CycleFault, MarkedFault};
+ghost use Rattle.proto_imports.specs.ImportSteps.{AreTurned, AreImporters, IsFileIndex, IsFirst, CycleFault, MarkedFault, NoneLeadsBack};
 
 use crate::first_places::place_of;
 use crate::import::{BadImport, FileImport, ImportFlaw, WrittenImport, all_targets};
@@ -39,6 +40,51 @@ pub(crate) fn first_on_cycle(
         return Ok(None);
     }
     first_back(alloc, index, files, &importers)
+}
+
+/// Whether no imported file leads back to the file that imports it. Takes time linear in the number
+/// of imports where this is so. Refused for want of memory alone.
+pub fn has_no_cycle(alloc: Global, imports: &[Vec<FileImport>]) -> Result<bool, NoMemory>
+    requires count { length imports.now ≤ 2 ^ 32 }
+    requires within { All (λ v. All (λ i. i.to < length imports.now) v.items) imports.now }
+    ensures { IfOk result (λ is_so. IsTrue is_so
+        ↔ IsAcyclic (all_imports 0 (map (λ v. v.items) imports.now))) }
+{
+    let next = all_targets(alloc, imports)?;
+    let importers = importers_of_each(alloc, &next)?;
+    let ranks = ranks(alloc, &next, &importers)?;
+    if falls(&next, &ranks) {
+        return Ok(true);
+    }
+    none_leads_back(alloc, &next, &importers)
+}
+
+/// Whether no file of a list leads back to the file that has the list, by a walk back from each.
+fn none_leads_back(
+    alloc: Global,
+    next: &[Vec<u32>],
+    importers: &[Vec<u32>],
+) -> Result<bool, NoMemory>
+    requires count { length next.now ≤ 2 ^ 32 }
+    requires paired { length importers.now ≡ length next.now }
+    requires within { All (λ v. All (λ g. g < length importers.now) v.items) importers.now }
+    ensures { IfOk result (λ is_so. IsTrue is_so ↔ NoneLeadsBack
+        (map (λ v. v.items) next.now) (map (λ v. v.items) importers.now)) }
+{
+    for file in 0..next.len() {
+        let marked = reached_files(alloc, importers, file as u32)?;
+        if has_marked(&next[file], &marked) {
+            return Ok(false);
+        }
+    }
+    Ok(true)
+}
+
+/// Whether one of these files is marked.
+fn has_marked(files: &[u32], marked: &[bool]) -> bool
+    ensures { result ≡ list_any (λ g. get_or marked.now g false) files.now }
+{
+    files.iter().any(|file| is_marked(marked, *file))
 }
 
 /// For each file, the files whose lists have it.

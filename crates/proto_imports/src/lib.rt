@@ -3,8 +3,10 @@
 
 pub mod first_places;
 pub mod import;
-mod import_cycles;
+pub mod import_cycles;
 mod import_paths;
+pub mod laws;
+pub mod one_file;
 pub mod sight;
 pub mod walk;
 pub mod written;

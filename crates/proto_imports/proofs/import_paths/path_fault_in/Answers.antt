@@ -1,28 +1,11 @@
-use Rattle.std.proofs.Common.{◌≡◌, ◌⊎◌, ℕ, Bool, true, false, Some, None, length, get_or, map, nat_eq, string_bytes, not, refl, sym, ◌∙◌, ap, subst, inl, inr, arith, cond, eqb-true, eq-eqb}
-use Rattle.proto_faults.proofs.Common.{contains, cases_Bool, cond-true, cond-false, get_or_default}
+use Rattle.std.proofs.Common.{◌≡◌, true, Some, None, length, get_or, map, nat_eq, string_bytes, refl, sym, ◌∙◌, ap, subst, arith, eq-eqb}
+use Rattle.proto_faults.proofs.Common.{contains, cond-true, get_or_default}
 use Rattle.indexmap.specs.IndexMap.{get_by_text}
 use Rattle.proto_meaning.proofs.Common.{fault, IsLeast, at}
 use Rattle.proto_imports.specs.Common.{asked_by, PathFault}
+use Rattle.proto_imports.proofs.FoundImports.{kept, not_false, not_true, only}
 use Rattle.proto_imports.proofs.PathFaults.{IsFresh, fresh_more, path_none, path_unknown, path_double}
 use Rattle.proto_imports.proofs.import_paths.path_fault_in.Goals as goal
-
-not_false : (b x : Bool) → x ≡ not b → x ≡ false → b ≡ true
-not_false true x e h = refl
-not_false false x e h = sym h ∙ e
-
-not_true : (b x : Bool) → x ≡ not b → x ≡ true → b ≡ false
-not_true true x e h = sym h ∙ e
-not_true false x e h = refl
-
-kept : (eq old new : Bool) → new ≡ cond eq true old → old ≡ true → new ≡ true
-kept true old new e h = e
-kept false old new e h = e ∙ h
-
-only : (to q : ℕ) (old new : Bool) → new ≡ cond (nat_eq to q) true old → new ≡ true → (q ≡ to) ⊎ (old ≡ true)
-only to q old new e h = elim (cases_Bool (nat_eq to q)) [
-  | inl same ↦ inl (sym (eqb-true to q same))
-  | inr apart ↦ inr (sym (e ∙ cond-false (nat_eq to q) true old apart) ∙ h)
-]
 
 pub returns-in-None : goal.returns-in-None
 returns-in-None c = λ paths index. (

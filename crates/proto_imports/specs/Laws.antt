@@ -1,0 +1,49 @@
+-- Laws of imports, for the layers above.
+use Rattle.std.specs.Prelude.{◌≡◌, ◌⊎◌, ℕ, ◌<◌, List, length, map}
+use Rattle.proto_files.specs.FilesRead.{ReadOf, read_at, AreRead}
+use Rattle.proto_files.specs.GivenFiles.{FileOf, file_at, paths_of}
+use Rattle.proto_listing.specs.FromTree.{imports_in}
+use Rattle.proto_meaning.specs.Faults.{Fault, AskedImport, ImportFault, imports_of}
+use Rattle.proto_imports.specs.ImportSteps.{PathFault}
+use Rattle.proto_imports.specs.Links.{text_of, asked_as, all_wanted, link_imports}
+
+-- the imports of the file at a place, as they are written
+abbrev pub wanted_by : List FileOf → List ReadOf → ℕ → List AskedImport
+wanted_by files reads file =
+    map (asked_as (text_of files reads) file) (imports_in (read_at reads file).tree)
+
+-- the imports of the file at a place name the files that they named before, in the same order; each
+-- names a file, and no two of them the same
+pub record ImportsAsBefore (before : List FileOf) (had : List ReadOf) (files : List FileOf)
+    (reads : List ReadOf) (file : ℕ) : Type 0 where
+  pub same : imports_of (paths_of before) (wanted_by before had file)
+      ≡ imports_of (paths_of files) (wanted_by files reads file)
+  pub clean : (f : Fault) → PathFault (paths_of files) (wanted_by files reads file) f → ⊥
+
+-- files at the same paths as before, each of them as it was, or with its imports as before
+pub record KeepImports (before : List FileOf) (had : List ReadOf) (files : List FileOf)
+    (reads : List ReadOf) : Type 0 where
+  pub were_read : AreRead before had
+  pub are_read : AreRead files reads
+  pub paths : paths_of before ≡ paths_of files
+  pub each : (file : ℕ) → file < length files
+      → (file_at before file ≡ file_at files file) ⊎ ImportsAsBefore before had files reads file
+
+-- no import of the files, as they are read, is faulty
+abbrev pub HasSoundImports : List FileOf → List ReadOf → Type 0
+HasSoundImports files reads =
+    (f : Fault)
+    → ImportFault (paths_of files) (all_wanted (text_of files reads) 0 reads) f → ⊥
+
+-- Where files keep their imports, the imports between them are those of before.
+abbrev pub KeptImportsAreEqual : Type 0
+KeptImportsAreEqual =
+    (before : List FileOf) (had : List ReadOf) (files : List FileOf) (reads : List ReadOf)
+    → KeepImports before had files reads → link_imports before had ≡ link_imports files reads
+
+-- And where no import was faulty, none is.
+abbrev pub KeptImportsAreSound : Type 0
+KeptImportsAreSound =
+    (before : List FileOf) (had : List ReadOf) (files : List FileOf) (reads : List ReadOf)
+    → KeepImports before had files reads
+    → HasSoundImports before had → HasSoundImports files reads
