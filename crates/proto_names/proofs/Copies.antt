@@ -1,8 +1,7 @@
 -- A copy of a link has what the link has.
-use Rattle.std.proofs.Common.{false, ◌≡◌, ◌<◌, List, [], ◌∷◌, length, get_or, map, sym, ◌∙◌, ap, subst, arith, cond, All}
+use Rattle.std.proofs.Common.{◌≡◌, ◌<◌, List, [], ◌∷◌, length, get_or, map, sym, ◌∙◌, ap, subst, arith, cond, All}
 use Rattle.proto_faults.proofs.Common.{Vec, get_or-map, length-map}
-use Rattle.proto_table.specs.Tables.{AreAlike, AreDeclared}
-use Rattle.proto_table.specs.declared.table.Row.{Row}
+use Rattle.proto_table.specs.Tables.{AreAlike}
 use Rattle.proto_table.specs.declared.table.Table.{Table}
 use Rattle.proto_table.proofs.Alike.{of_rows}
 use Rattle.proto_names.specs.Linking.{name_of_row}
@@ -17,10 +16,3 @@ all_items P vs ws same all k d l =
 -- tables that are alike have the same names
 pub names_alike : (t t' : Table) → AreAlike t t' → map name_of_row t'.rows.items ≡ map name_of_row t.rows.items
 names_alike t t' alike = of_rows t t' alike (λ s. record { text = s.0; kind = s.1.kind; files = cond s.4 (s.1.file ∷ s.3) []; token = s.1.token })
-
--- and their rows are declared, where those of the first are
-pub declared_alike : (t t' : Table) → AreAlike t t' → AreDeclared t.rows.items → AreDeclared t'.rows.items
-declared_alike t t' alike alive k d l =
-    let same = of_rows t t' alike (λ s. s.4) in
-    let lt : k < length t.rows.items = omega (arith, l, length-map t'.rows.items (λ r. r.is_declared), ap length same, length-map t.rows.items (λ r. r.is_declared)) in
-    sym (get_or-map (λ (r : Row). r.is_declared) t'.rows.items k d false l) ∙ ap (λ z. get_or z k false) same ∙ get_or-map (λ (r : Row). r.is_declared) t.rows.items k d false lt ∙ alive k d lt

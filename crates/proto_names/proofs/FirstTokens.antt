@@ -5,7 +5,7 @@ use Rattle.proto_names.specs.Common.{row_at, Meant}
 
 module _ (ms : List Meant) (rising : AllPairs (λ m n. m.token < n.token) ms) (token : ℕ) where
   abbrev none : Meant
-  none = record { token = 0; row = 0 }
+  none = record { token = 0; first = 0; row = 0 }
 
   abbrev test : Meant → Bool
   test m = m.token == token

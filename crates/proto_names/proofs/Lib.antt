@@ -16,6 +16,7 @@ mod MeantBy
 pub mod MeantNames
 mod NameErrors
 mod NamesOfRows
+pub mod NamesThere
 mod Referring
 mod Scopes
 mod TableNames

@@ -11,6 +11,7 @@ use Rattle.proto_names.specs.Common.{HoldsNames, IsLinkBy, NameOf, LinkOf, name_
 use Rattle.proto_imports.proofs.Common.{names_in, text_of, link_skeleton, names_of_files, names_are_plain}
 use Rattle.proto_table.proofs.Common.{files_of, IsIndexOf, names_of, pick}
 use Rattle.proto_names.specs.Scopes.{reference_in}
+use Rattle.proto_names.proofs.NamesThere.{name_from, there_is}
 use Rattle.proto_table.specs.declared.table.Row.{Row}
 use Rattle.proto_table.specs.declared.table.Table.{Table}
 
@@ -18,11 +19,6 @@ row_of : (rows : List Row) (k : ℕ) (n : NameOf) → slice_get (map name_of_row
 row_of [] k n h = absurd (none-some n h)
 row_of (r ∷ rows) zero n h = (omega arith, λ d. same_Some (name_of_row r) n h)
 row_of (r ∷ rows) (suc k) n h = let x = row_of rows k n h in (omega (arith, x.0), x.1)
-
-name_is : (rows : List Row) (k : ℕ) (d : Row) → k < length rows → slice_get (map name_of_row rows) k ≡ Some (name_of_row (get_or rows k d))
-name_is [] k d l = absurd (omega (arith, l))
-name_is (r ∷ rows) zero d l = refl
-name_is (r ∷ rows) (suc k) d l = name_is rows k d (omega (arith, l))
 
 pub link_index : (t : Table) (l : LinkOf) → map name_of_row t.rows.items ≡ l.names → (w : Workspace) → HoldsNames w l → ((s : Symbol) → Contains w.symbols s → ArePlain s.name) → IsIndexOf t w.symbols
 link_index t l same w holds plain = record { plain = plain; row = row; symbol = symbol }
@@ -33,13 +29,13 @@ link_index t l same w holds plain = record { plain = plain; row = row; symbol = 
     row : (s : Symbol) → Contains w.symbols s → (k : ℕ) × (k < length t.rows.items) × (get_or (names_of t) k [] ≡ joined s.name) × ((d : Row) → ((get_or t.rows.items k d).symbol.kind ≡ s.kind) × Contains (files_of (get_or t.rows.items k d)) s.file)
     row s c =
         let h = holds.there s c in
-        let x = row_of t.rows.items h.0 h.1 (ap (λ (ns : List NameOf). slice_get ns h.0) same ∙ h.2) in
+        let x = row_of t.rows.items h.0 h.1 (ap (λ (ns : List NameOf). slice_get ns h.0) same ∙ there_is l h.0 h.1 h.2) in
         let d = pick t.rows.items h.0 x.0 in
         (h.0, x.0, text_is h.0 d x.0 ∙ ap (λ (n : NameOf). n.text) (x.1 d) ∙ h.3, λ d. (ap (λ (n : NameOf). n.kind) (x.1 d) ∙ h.4, subst (λ (fs : List ℕ). Contains fs s.file) (sym (ap (λ (n : NameOf). n.files) (x.1 d))) h.5))
 
     symbol : (k file : ℕ) (d : Row) → k < length t.rows.items → Contains (files_of (get_or t.rows.items k d)) file → (s : Symbol) × Contains w.symbols s × (joined s.name ≡ get_or (names_of t) k []) × (s.kind ≡ (get_or t.rows.items k d).symbol.kind) × (s.file ≡ file)
     symbol k file d lk c =
-        let h = holds.only k file (name_of_row (get_or t.rows.items k d)) (ap (λ (ns : List NameOf). slice_get ns k) (sym same) ∙ name_is t.rows.items k d lk) c in
+        let h = holds.only k file (name_of_row (get_or t.rows.items k d)) (name_from t l same k d lk (omega (arith, c.1))) c in
         (h.0, h.1, h.2 ∙ sym (text_is k d lk), h.3, h.4)
 
 pub none_meant : (m : Option (List (List ℕ))) → None ≡ option_map joined m → m ≡ None

@@ -7,6 +7,7 @@ use Rattle.proto_files.proofs.Common.{ReadOf, AreRead, read_at, FileOf, file_at}
 use Rattle.proto_meaning.proofs.Common.{joined, ArePlain, ImportsAreOfFiles, MarksSeen, Workspace, same_name, sees, shows, same_from_name, joined_apart, sees_is, shown}
 use Rattle.proto_listing.proofs.ReadTrees.{uses_plain}
 use Rattle.proto_imports.specs.Links.{names_in, names_of_files}
+use Rattle.proto_names.proofs.NamesThere.{declared_at, there_is}
 use Rattle.proto_names.specs.Laws.{SeesName, UsesAreWords, VisibleIsSeen, VisibleIsShown}
 use Rattle.proto_names.specs.Common.{HoldsNames, IsLinkRead, LinkOf, NameOf, is_visible, name_at, sees_one}
 
@@ -25,7 +26,7 @@ module _ (w : Workspace) (l : LinkOf) (holds : HoldsNames w l) (files : ImportsA
       let n = any_to (λ n. bytes_eq n.text text && sees_one seen n.files) l.names h in
       let p = and_parts (bytes_eq n.0.text text) (sees_one seen n.0.files) n.2 in
       let f = any_to (λ g. slice_index_or seen g false) n.0.files p.1 in
-      let at : name_at l n.1.0 ≡ Some n.0 = slice_get-get_or l.names n.1.0 n.0 n.1.1 ∙ ap Some n.1.2 in
+      let at : name_at l n.1.0 ≡ Some n.0 = declared_at l n.1.0 n.0 (slice_get-get_or l.names n.1.0 n.0 n.1.1 ∙ ap Some n.1.2) (omega (arith, f.1.1)) in
       let s = holds.only n.1.0 f.0 n.0 at f.1 in
       record {
         symbol = s.0;
@@ -39,7 +40,7 @@ module _ (w : Workspace) (l : LinkOf) (holds : HoldsNames w l) (files : ImportsA
       let s = x.symbol in
       let n = holds.there s x.declared in
       let marked = marks s.file ∙ (sees_is w files file s.file).1 x.seen in
-      any_from (λ n. bytes_eq n.text text && sees_one seen n.files) l.names n.1 (member_at l.names n.0 n.1 n.2)
+      any_from (λ n. bytes_eq n.text text && sees_one seen n.files) l.names n.1 (member_at l.names n.0 n.1 (there_is l n.0 n.1 n.2))
       (and_from _ _ (same_from_word n.1.text text (n.3 ∙ x.name)) (any_from (λ g. slice_index_or seen g false) n.1.files s.file n.5 marked))
 
   shown_is : (name : List (List ℕ)) → ArePlain name → is_visible l file (joined name) ≡ shows w file (λ k. true) name

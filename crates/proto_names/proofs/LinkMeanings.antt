@@ -1,14 +1,14 @@
 -- What a link has of each file's references is what they mean, in the order of their first tokens (for the crates above).
-use Rattle.std.proofs.Common.{◌≡◌, ℕ, suc, ◌<◌, List, [], ◌∷◌, length, get_or, map, option_map, Some, refl, sym, ◌∙◌, ap, subst, arith, All, AllPairs}
+use Rattle.std.proofs.Common.{◌≡◌, ℕ, zero, suc, ◌<◌, List, [], ◌∷◌, length, get_or, map, option_map, Some, refl, sym, ◌∙◌, ap, subst, arith, All, AllPairs}
 use Rattle.proto_faults.proofs.Common.{Vec, get_or-map, length-map}
 use Rattle.proto_files.proofs.Common.{FileOf, file_at, ReadOf, AreRead, read_at}
+use Rattle.proto_names.specs.Common.{AreFileMeant, uses_of, first_key, meant_by_link, meant_by_use, LinkOf, NameOf, name_at, name_of_row, Meant}
 use Rattle.proto_names.specs.LinkOfFiles.{IsMeantIn}
-use Rattle.proto_names.specs.Common.{AreFileMeant, uses_of, meant_by_link, meant_by_use, LinkOf, name_of_row, Meant}
-use Rattle.proto_meaning.proofs.Common.{joined, meaning, Used}
+use Rattle.proto_meaning.proofs.Common.{joined, map_map, meaning, Used}
 use Rattle.proto_imports.specs.Links.{names_of_files, text_of}
-use Rattle.proto_table.proofs.Common.{used_named, IsTable, names_of, pick}
+use Rattle.proto_table.proofs.Common.{used_named, IsIndexOf, IsTable, names_of, pick}
 use Rattle.proto_table.specs.declared.table.Table.{Table}
-use Rattle.proto_names.proofs.Linking.{text_from}
+use Rattle.proto_names.proofs.NamesThere.{row_there, text_there}
 use Rattle.proto_listing.proofs.ReadTrees.{uses_rising}
 
 -- as other elements' numbers rise, so do these
@@ -32,27 +32,41 @@ all_tokens_rise t files reads are meant sized means k d l =
     subst (AllPairs (λ m n. m.token < n.token)) (get_or-map (λ v. v.items) meant k d [] l)
     (tokens_rise t files reads are k (omega (arith, l, sized)) (get_or (map (λ v. v.items) meant) k []) (means k (omega (arith, l, sized))))
 
-module _ (files : List FileOf) (reads : List ReadOf) (t : Table) (ok : IsTable t) (l : LinkOf) (same : map name_of_row t.rows.items ≡ l.names) where
-  same_texts : (file : ℕ) (us : List (Used ℕ)) (ms : List Meant) → map (λ m. m.token) ms ≡ map (λ u. u.first) us → All (λ m. m.row < length t.rows.items) ms
+module _ (files : List FileOf) (reads : List ReadOf) (t : Table) (ok : IsTable t) (l : LinkOf) (same : map name_of_row t.rows.items ≡ l.names) (index : IsIndexOf t (names_of_files files reads).symbols) where
+  same_texts : (file : ℕ) (us : List (Used ℕ)) (ms : List Meant) → map (λ m. m.token) ms ≡ map (λ u. u.first) us
       → map (λ m. Some (get_or (names_of t) m.row [])) ms ≡ map (λ r. option_map joined (meaning (names_of_files files reads) r)) (map (used_named (text_of files reads) file) us)
       → map (meant_by_link l) ms ≡ map (meant_by_use files reads file) us
-  same_texts file [] [] tokens rows names = refl
-  same_texts file [] (m ∷ ms) tokens rows names = absurd (cc)
-  same_texts file (u ∷ us) [] tokens rows names = absurd (cc)
-  same_texts file (u ∷ us) (m ∷ ms) tokens rows names =
+  same_texts file [] [] tokens names = refl
+  same_texts file [] (m ∷ ms) tokens names = absurd (cc)
+  same_texts file (u ∷ us) [] tokens names = absurd (cc)
+  same_texts file (u ∷ us) (m ∷ ms) tokens names =
       let token : m.token ≡ u.first = cc in
       let here : Some (get_or (names_of t) m.row []) ≡ option_map joined (meaning (names_of_files files reads) (used_named (text_of files reads) file u)) = cc in
       let tokens_on : map (λ (x : Meant). x.token) ms ≡ map (λ (x : Used ℕ). x.first) us = cc in
       let names_on : map (λ (x : Meant). Some (get_or (names_of t) x.row [])) ms ≡ map (λ r. option_map joined (meaning (names_of_files files reads) r)) (map (used_named (text_of files reads) file) us) = cc in
-      let text = text_from t ok l same m.row (get_or (names_of t) m.row []) (rows 0 m (omega arith)) refl ∙ here in
-      λ i. record { token = token i; text = text i } ∷ same_texts file us ms tokens_on (λ k d n. rows (suc k) d (omega (arith, n))) names_on i
+      let text = text_there t ok l same (names_of_files files reads) index (used_named (text_of files reads) file u) m.row here ∙ here in
+      λ i. record { token = token i; text = text i } ∷ same_texts file us ms tokens_on names_on i
+
+  -- each means a name that is there
+  all_there : (file : ℕ) (us : List (Used ℕ)) (ms : List Meant)
+      → map (λ m. Some (get_or (names_of t) m.row [])) ms ≡ map (λ r. option_map joined (meaning (names_of_files files reads) r)) (map (used_named (text_of files reads) file) us)
+      → (k : ℕ) (d : Meant) → k < length ms → (n : NameOf) × (name_at l (get_or ms k d).row ≡ Some n)
+  all_there file us [] names k d n = absurd (omega (arith, n))
+  all_there file [] (m ∷ ms) names k d n = absurd (cc)
+  all_there file (u ∷ us) (m ∷ ms) names zero d n =
+      let here : Some (get_or (names_of t) m.row []) ≡ option_map joined (meaning (names_of_files files reads) (used_named (text_of files reads) file u)) = cc in
+      let x = row_there t ok l same (names_of_files files reads) index (used_named (text_of files reads) file u) m.row here in
+      (x.0, x.1)
+  all_there file (u ∷ us) (m ∷ ms) names (suc k) d n =
+      let names_on : map (λ (x : Meant). Some (get_or (names_of t) x.row [])) ms ≡ map (λ r. option_map joined (meaning (names_of_files files reads) r)) (map (used_named (text_of files reads) file) us) = cc in
+      all_there file us ms names_on k d (omega (arith, n))
 
   pub is_meant_in : AreRead files reads → (file : ℕ) → file < length files → AreFileMeant t files reads file (get_or l.meant file []) → IsMeantIn files reads l file
   is_meant_in are file m a =
       let ms = get_or l.meant file [] in
-      let rows : length l.names ≡ length t.rows.items = ap length (sym same) ∙ length-map t.rows.items name_of_row in
       record {
-        texts = same_texts file (uses_of reads file) ms a.places a.within a.names;
+        texts = same_texts file (uses_of reads file) ms a.places a.names;
+        firsts = a.firsts ∙ map_map (used_named (text_of files reads) file) first_key (uses_of reads file);
         rising = tokens_rise t files reads are file m ms a;
-        within = λ k d n. (let w = a.within k d n in omega (arith, w, rows));
+        within = all_there file (uses_of reads file) ms a.names;
       }

@@ -1,6 +1,6 @@
 -- The parts of a link are those of its files: their names, what each file sees, and the references that mean each name.
-use Rattle.std.proofs.Common.{◌≡◌, ℕ, suc, ◌+◌, ◌<◌, Bool, true, false, List, [], ◌∷◌, ◌++◌, length, get_or, map, slice_get, option_map, Option, Some, None, refl, sym, ◌∙◌, ap, subst, arith, string_bytes, cond, ◌==◌, All, Contains, filter, bytes_eq, eqb-true, eq-eqb}
-use Rattle.proto_faults.proofs.Common.{Vec, get_or-map, length-map, map-append, filter-append, slice_get-get_or, slice_get_within, get_or_from_slice_get, none-some, same_Some, same_from_word, word_from_same}
+use Rattle.std.proofs.Common.{◌≡◌, ℕ, suc, ◌+◌, ◌<◌, Bool, true, false, List, [], ◌∷◌, ◌++◌, length, get_or, map, option_map, Option, Some, None, refl, sym, ◌∙◌, ap, subst, arith, string_bytes, cond, ◌==◌, All, Contains, filter, bytes_eq, eqb-true, eq-eqb}
+use Rattle.proto_faults.proofs.Common.{Vec, get_or-map, length-map, map-append, filter-append, none-some, same_Some, same_from_word, word_from_same}
 use Rattle.std.specs.Cmp.{both_ways}
 use Rattle.proto_files.proofs.Common.{FileOf, ReadOf, AreRead}
 use Rattle.proto_case.specs.Camel.{entry_name}
@@ -8,10 +8,8 @@ use Rattle.proto_meaning.proofs.Common.{place_of, At, at, all_used, used_in, joi
 use Rattle.proto_names.specs.Common.{AreFileMeant, uses_of, AreNamesOf, HoldsNames, IsLinkBy, has_text, reference_id, LinkOf, MeantBy, NameOf, all_meant, meant_in_file, name_at, name_of_row, references_to, AreMeant, RefId, Meant}
 use Rattle.proto_imports.proofs.Common.{all_imports, link_imports, link_skeleton, names_in, names_of_files, text_of, import_in, imports_within}
 use Rattle.proto_table.proofs.Common.{used_named, IsIndexOf, IsTable, aboves_of, look, names_of, pick}
-use Rattle.proto_table.specs.Tables.{AreDeclared}
-use Rattle.proto_names.proofs.Linking.{first_file, has_file}
+use Rattle.proto_names.proofs.NamesThere.{declared_from, first_file, has_files, name_from, name_to, text_to}
 use Rattle.proto_imports.specs.declared.import.FileImport.{FileImport}
-use Rattle.proto_table.specs.declared.table.Row.{Row}
 use Rattle.proto_table.specs.declared.table.Table.{Table}
 
 -- ---- rows and names
@@ -23,51 +21,30 @@ module _ (t : Table) (ok : IsTable t) where
       names_apart (names_of t) (aboves_of t) (look t) ok.forest i j (omega (arith, li, sized)) (omega (arith, lj, sized)) e
 
   module _ (l : LinkOf) (same : map name_of_row t.rows.items ≡ l.names) where
-    name_from : (row : ℕ) (d : Row) → row < length t.rows.items → name_at l row ≡ Some (name_of_row (get_or t.rows.items row d))
-    name_from row d lr =
-        ap (λ (ns : List NameOf). slice_get ns row) (sym same)
-        ∙ slice_get-get_or (map name_of_row t.rows.items) row (name_of_row d) (omega (arith, lr, length-map t.rows.items name_of_row))
-        ∙ ap Some (get_or-map name_of_row t.rows.items row d (name_of_row d) lr)
-
-    name_to : (row : ℕ) (n : NameOf) → name_at l row ≡ Some n → (row < length t.rows.items) × ((d : Row) → name_of_row (get_or t.rows.items row d) ≡ n)
-    name_to row n h =
-        let there : slice_get (map name_of_row t.rows.items) row ≡ Some n = ap (λ (ns : List NameOf). slice_get ns row) same ∙ h in
-        let lr : row < length t.rows.items = omega (arith, slice_get_within (map name_of_row t.rows.items) row n there, length-map t.rows.items name_of_row) in
-        (lr, λ d. sym (get_or-map name_of_row t.rows.items row d n lr) ∙ get_or_from_slice_get (map name_of_row t.rows.items) row n n there)
-
-    text_to : (row : ℕ) (n : NameOf) → name_at l row ≡ Some n → (row < length t.rows.items) × (get_or (names_of t) row [] ≡ n.text)
-    text_to row n h =
-        let r = name_to row n h in
-        let d = pick t.rows.items row r.0 in
-        (r.0, get_or-map (λ x. string_bytes x.name) t.rows.items row d [] r.0 ∙ ap (λ (x : NameOf). x.text) (r.1 d))
-
     one_row : (i j : ℕ) (n : NameOf) → name_at l i ≡ Some n → j < length t.rows.items → get_or (names_of t) j [] ≡ n.text → j ≡ i
-    one_row i j n h lj e = let r = text_to i n h in apart j i lj r.0 (e ∙ sym r.1)
+    one_row i j n h lj e = let r = text_to t l same i n h in apart j i lj r.0 (e ∙ sym r.1)
 
-    pub holds_names : AreDeclared t.rows.items → (w : Workspace) → IsIndexOf t w.symbols → HoldsNames w l
-    holds_names alive w index = record {
+    pub holds_names : (w : Workspace) → IsIndexOf t w.symbols → HoldsNames w l
+    holds_names w index = record {
       plain = index.plain;
-      declared = λ row n h.
-          (let r = name_to row n h in
-          let d = pick t.rows.items row r.0 in
-          subst (λ (y : NameOf). 0 < length y.files) (r.1 d) (has_file (get_or t.rows.items row d) (alive row d r.0)));
+      declared = has_files l;
       there = λ s c.
           (let x = index.row s c in
           let d = pick t.rows.items x.0 x.1 in (
             x.0,
             name_of_row (get_or t.rows.items x.0 d),
-            name_from x.0 d x.1,
+            name_from t l same x.0 d x.1 (let c = (x.3 d).1 in omega (arith, c.1)),
             sym (get_or-map (λ y. string_bytes y.name) t.rows.items x.0 d [] x.1) ∙ x.2,
             (x.3 d).0,
             (x.3 d).1,
           ));
       only = λ row file n h c.
-          (let r = name_to row n h in
+          (let r = name_to t l same row n h in
           let d = pick t.rows.items row r.0 in
           let x = index.symbol row file d r.0 (subst (λ (y : NameOf). Contains y.files file) (sym (r.1 d)) c) in
-          (x.0, x.1, x.2 ∙ (text_to row n h).1, x.3 ∙ ap (λ (y : NameOf). y.kind) (r.1 d), x.4));
+          (x.0, x.1, x.2 ∙ (text_to t l same row n h).1, x.3 ∙ ap (λ (y : NameOf). y.kind) (r.1 d), x.4));
       once = λ i j m n hi hj e.
-          (let r = text_to i m hi in
+          (let r = text_to t l same i m hi in
           one_row j i n hj r.0 (r.1 ∙ e));
     }
 
@@ -159,7 +136,7 @@ files_between files reads are imports len within same i c =
     let n : (names_of_files files reads).files ≡ length files = length-map reads names_in ∙ are.same in
     (omega (arith, n, b, e, length-map imports (λ v. v.items), len), omega (arith, n, a))
 
-module _ (files : List FileOf) (reads : List ReadOf) (are : AreRead files reads) (t : Table) (ok : IsTable t) (rows : List (Vec ℕ)) (names : AreNamesOf files reads t rows) (alive : AreDeclared t.rows.items) where
+module _ (files : List FileOf) (reads : List ReadOf) (are : AreRead files reads) (t : Table) (ok : IsTable t) (rows : List (Vec ℕ)) (names : AreNamesOf files reads t rows) where
   abbrev text : At → List ℕ
   text = text_of files reads
 
@@ -174,21 +151,22 @@ module _ (files : List FileOf) (reads : List ReadOf) (are : AreRead files reads)
   is_link seen meant l same seen_is seen_len meant_len paired between marks meanings each =
       let sized : length (map names_in reads) ≡ length files = length-map reads names_in ∙ are.same in
       record {
-        names = holds_names t ok l same alive w names.index;
+        names = holds_names t ok l same w names.index;
         places = λ d c other row n h e.
             (let x = names.tokens d c other in
             let here : x.row ≡ row = one_row t ok l same row x.row n h x.within (x.name ∙ sym e) in
-            let r = name_to t ok l same row n h in
+            let r = name_to t l same row n h in
             let r0 = pick t.rows.items row r.0 in
-            let place = subst (λ (k : ℕ). at (get_or t.rows.items k r0).symbol.file (get_or t.rows.items k r0).symbol.token ≡ place_of d) here (x.place r0) in
             let own = get_or t.rows.items row r0 in
-            ap (λ (y : NameOf). at (get_or y.files 0 0) y.token) (sym (r.1 r0)) ∙ ap (λ (f : ℕ). at f own.symbol.token) (first_file own (alive row r0 r.0)) ∙ place);
+            let some : own.is_declared ≡ true = declared_from own (subst (λ (y : NameOf). 0 < length y.files) (sym (r.1 r0)) (has_files l row n h)) in
+            let place = subst (λ (k : ℕ). at (get_or t.rows.items k r0).symbol.file (get_or t.rows.items k r0).symbol.token ≡ place_of d) here (x.place r0) in
+            ap (λ (y : NameOf). at (get_or y.files 0 0) y.token) (sym (r.1 r0)) ∙ ap (λ (f : ℕ). at f own.symbol.token) (first_file own some) ∙ place);
         seen = λ file lt. subst (λ (s : List (List Bool)). MarksSeen w file (get_or s file [])) seen_is (marks file (omega (arith, lt, sized)));
         files = ap length (sym seen_is) ∙ seen_len ∙ sym sized;
         between = between;
         paired = paired;
         references = λ row n h.
-            (let r = text_to t ok l same row n h in
+            (let r = text_to t l same row n h in
             each row
             ∙ in_files text t ok w row n.text r.0 r.1 0 reads meant (meant_len ∙ sym are.same)
             (λ (k : ℕ) (lk : k < length reads). subst (λ (m : ℕ). AreMeant t w (map (used_named text m) (uses_of reads k)) (map (λ u. u.first) (uses_of reads k)) (get_or meant k [])) (omega arith) (meanings k (omega (arith, lk, are.same)))));

@@ -1,10 +1,11 @@
 -- The names of a link are those of its table.
-use Rattle.std.proofs.Common.{◌≡◌, ◌≢◌, ◌⊎◌, ℕ, zero, suc, ◌<◌, ◌≤◌, Bool, true, false, ◌&&◌, ◌||◌, List, [], ◌∷◌, length, get_or, map, slice_get, Option, option_map, None, Some, refl, sym, ◌∙◌, ap, subst, inl, inr, arith, string_bytes, if◌then◌else◌, All, option_and_then, bytes_eq, cond}
-use Rattle.proto_faults.proofs.Common.{Vec, list_any, cases_Bool, false_from_ne_true, both_ways, and_parts, and_from, get_or-map, get_or_default, get_or_past, length-map, list_any_at, slice_get-get_or, slice_get_past, slice_get_read, none-some, same_Some, any_to, any_map, word_from_same, same_from_word}
+use Rattle.std.proofs.Common.{◌≡◌, ◌≢◌, ◌⊎◌, ℕ, ◌<◌, ◌≤◌, Bool, true, false, ◌&&◌, ◌||◌, List, [], ◌∷◌, length, get_or, map, slice_get, Option, option_map, None, Some, refl, sym, ◌∙◌, ap, subst, inl, inr, arith, string_bytes, if◌then◌else◌, All, option_and_then, bytes_eq}
+use Rattle.proto_faults.proofs.Common.{Vec, list_any, cases_Bool, false_from_ne_true, both_ways, and_parts, and_from, get_or-map, get_or_default, get_or_past, length-map, list_any_at, slice_get_read, none-some, same_Some, any_to, any_map, word_from_same, same_from_word}
 use Rattle.proto_meaning.proofs.Common.{joined, ArePlain, is_package, Workspace, shows, MarksSeen, names_apart}
-use Rattle.proto_table.specs.Tables.{AreDeclared, files_of}
 use Rattle.proto_table.proofs.Common.{IsIndexOf, is_seen, names_of, aboves_of, look, IsTable, shows_from, shows_to, pick}
-use Rattle.proto_names.specs.Linking.{NameOf, LinkOf, name_of_row, name_text, sees_one, shows_text, is_visible}
+use Rattle.proto_names.specs.Linking.{NameOf, LinkOf, declared_row, if_declared, name_at, name_of_row, name_text, sees_one, shows_text, is_visible}
+use Rattle.proto_names.proofs.NamesThere as name_there
+use Rattle.proto_names.proofs.NamesThere.{declared_from, has_files, name_is, some_text}
 use Rattle.proto_table.specs.declared.table.Row.{Row}
 use Rattle.proto_table.specs.declared.table.Table.{Table}
 
@@ -27,77 +28,52 @@ inner_has P all each vs vs_are i within v v_is xs xs_are = subst P (sym (xs_are 
 
 module _ (rows : List Row) (names : List NameOf) (same : map name_of_row rows ≡ names) (given : List Row) (is : given ≡ rows) (row : ℕ) where
   -- what a name has is what its row says
-  pub known_at : {A : Type 0} (f : NameOf → A) (r : Row) → row < length given → r ≡ get_or given row r → Some (f (name_of_row r)) ≡ option_map f (slice_get names row)
-  known_at f r within r_is =
-      let n = length-map given name_of_row in
-      sym (ap (λ (ns : List NameOf). option_map f (slice_get ns row)) (sym same ∙ ap (map name_of_row) (sym is))
-      ∙ ap (option_map f) (slice_get_read (map name_of_row given) (length given) row (name_of_row r) (sym n) within (ap name_of_row r_is ∙ sym (get_or-map name_of_row given row r (name_of_row r) within))))
-
-  -- past the last row there is no name
-  pub known_past : {A : Type 0} (f : NameOf → A) → length given ≤ row → None ≡ option_map f (slice_get names row)
-  known_past f past =
-      let n = length-map given name_of_row in
-      sym (ap (λ (ns : List NameOf). option_map f (slice_get ns row)) (sym same ∙ ap (map name_of_row) (sym is)) ∙ ap (option_map f) (slice_get_past (map name_of_row given) row (omega (arith, past, n))))
+  pub known : {A : Type 0} (f : NameOf → A) (found : Option Row) → found ≡ option_and_then declared_row (slice_get given row) → option_map (λ r. f (name_of_row r)) found ≡ option_map f (option_and_then if_declared (slice_get names row))
+  known f found found_is =
+      through found
+      ∙ ap (λ o. option_map f (option_map name_of_row o)) found_is
+      ∙ ap (λ (rs : List Row). option_map f (option_map name_of_row (option_and_then declared_row (slice_get rs row)))) is
+      ∙ ap (option_map f) (sym (name_is rows names same row))
+    where
+      through : (o : Option Row) → option_map (λ r. f (name_of_row r)) o ≡ option_map f (option_map name_of_row o)
+      through None = refl
+      through (Some r) = refl
 
   -- the same of a name that is no package's
-  pub own_known : (f : NameOf → ℕ) (found : Option Row) → found ≡ option_and_then (λ r. if is_package r.symbol.kind then None else Some r) (slice_get given row)
-      → option_map (λ r. f (name_of_row r)) found ≡ option_and_then (λ n. if is_package n.kind then None else Some (f n)) (slice_get names row)
+  pub own_known : (f : NameOf → ℕ) (found : Option Row) → found ≡ option_and_then (λ r. if is_package r.symbol.kind then None else Some r) (option_and_then declared_row (slice_get given row))
+      → option_map (λ r. f (name_of_row r)) found ≡ option_and_then (λ n. if is_package n.kind then None else Some (f n)) (option_and_then if_declared (slice_get names row))
   own_known f found found_is =
-      ap (option_map (λ r. f (name_of_row r))) found_is ∙ go given row ∙ ap (λ (ns : List NameOf). option_and_then (λ n. if is_package n.kind then None else Some (f n)) (slice_get ns row)) (ap (map name_of_row) is ∙ same)
+      ap (option_map (λ r. f (name_of_row r))) found_is
+      ∙ go (option_and_then declared_row (slice_get given row))
+      ∙ ap (λ (rs : List Row). option_and_then (λ n. if is_package n.kind then None else Some (f n)) (option_map name_of_row (option_and_then declared_row (slice_get rs row)))) is
+      ∙ ap (option_and_then (λ n. if is_package n.kind then None else Some (f n))) (sym (name_is rows names same row))
     where
       pick_own : (b : Bool) (r : Row) → option_map (λ r. f (name_of_row r)) (if b then None else Some r) ≡ (if b then None else Some (f (name_of_row r)))
       pick_own true r = refl
       pick_own false r = refl
 
-      go : (rs : List Row) (k : ℕ) → option_map (λ r. f (name_of_row r)) (option_and_then (λ r. if is_package r.symbol.kind then None else Some r) (slice_get rs k)) ≡ option_and_then (λ n. if is_package n.kind then None else Some (f n)) (slice_get (map name_of_row rs) k)
-      go [] k = refl
-      go (r ∷ rs) zero = pick_own (is_package r.symbol.kind) r
-      go (r ∷ rs) (suc k) = go rs k
+      go : (o : Option Row) → option_map (λ r. f (name_of_row r)) (option_and_then (λ r. if is_package r.symbol.kind then None else Some r) o) ≡ option_and_then (λ n. if is_package n.kind then None else Some (f n)) (option_map name_of_row o)
+      go None = refl
+      go (Some r) = pick_own (is_package r.symbol.kind) r
 
--- a row but for a package's, as `declared_row` answers it
-pub own_row : (rows : List Row) (k : ℕ) (r : Row) → k < length rows → r ≡ get_or rows k r → (b : Bool) → b ≡ is_package r.symbol.kind
-    → (if b then None else Some r) ≡ option_and_then (λ r. if is_package r.symbol.kind then None else Some r) (slice_get rows k)
-own_row rows k r within r_is b b_is =
-    ap (λ b. if b then None else Some r) b_is ∙ sym (ap (option_and_then (λ (r : Row). if is_package r.symbol.kind then None else Some r)) (slice_get_read rows (length rows) k r refl within r_is))
+-- a row that is declared, or none
+pub row_known : (rows : List Row) (k : ℕ) (r : Row) → k < length rows → r ≡ get_or rows k r → (b : Bool) → b ≡ r.is_declared → (if b then Some r else None) ≡ option_and_then declared_row (slice_get rows k)
+row_known rows k r within r_is b b_is =
+    ap (λ b. if b then Some r else None) b_is ∙ sym (ap (option_and_then declared_row) (slice_get_read rows (length rows) k r refl within r_is))
 
-text_row : (rows : List Row) (row : ℕ) → option_map (λ n. n.text) (slice_get (map name_of_row rows) row) ≡ slice_get (map (λ r. string_bytes r.name) rows) row
-text_row [] row = refl
-text_row (r ∷ rows) zero = refl
-text_row (r ∷ rows) (suc row) = text_row rows row
+-- a row that is found is declared
+pub from_declared : (r : Row) (o : Option Row) → Some r ≡ option_and_then declared_row o → r.is_declared ≡ true
+from_declared r None h = absurd (none-some r (sym h))
+from_declared r (Some x) h = elim (cases_Bool x.is_declared) [
+  | inl e ↦
+      let same : r ≡ x = same_Some r x (h ∙ ap (λ b. if b then Some x else None) e) in
+      ap (λ (z : Row). z.is_declared) same ∙ e
+  | inr e ↦ absurd (none-some r (sym (h ∙ ap (λ b. if b then Some x else None) e)))
+]
 
--- a row that is declared has the file of its declaration first
-some_files : (r : Row) → r.is_declared ≡ true → files_of r ≡ r.symbol.file ∷ r.more.items
-some_files r h = ap (λ b. cond b (r.symbol.file ∷ r.more.items) []) h
-
-pub first_file : (r : Row) → r.is_declared ≡ true → get_or (files_of r) 0 0 ≡ r.symbol.file
-first_file r h = ap (λ fs. get_or fs 0 0) (some_files r h)
-
-pub has_file : (r : Row) → r.is_declared ≡ true → 0 < length (files_of r)
-has_file r h = omega (arith, ap length (some_files r h))
-
--- each name has a file, where each row is declared
-pub declared_all : (rows : List Row) (names : List NameOf) → map name_of_row rows ≡ names → AreDeclared rows → All (λ n. 0 < length n.files) names
-declared_all rows names same alive = subst (All (λ n. 0 < length n.files)) same (go rows alive)
-  where
-    go : (rows : List Row) → AreDeclared rows → (k : ℕ) (d : NameOf) → k < length (map name_of_row rows) → 0 < length (get_or (map name_of_row rows) k d).files
-    go [] alive k d l = absurd (omega (arith, l))
-    go (r ∷ rows) alive zero d l = has_file r (alive 0 r (omega arith))
-    go (r ∷ rows) alive (suc k) d l = go rows (λ j e m. alive (suc j) e (omega (arith, m))) k d (omega (arith, l))
-
--- so is the row that `declared` answers
-pub own_alive : (rows : List Row) (k : ℕ) (r : Row) → Some r ≡ option_and_then (λ r. if is_package r.symbol.kind then None else Some r) (slice_get rows k) → AreDeclared rows → r.is_declared ≡ true
-own_alive [] k r h alive = absurd (none-some r (sym h))
-own_alive (x ∷ rows) zero r h alive = by (is_package x.symbol.kind) h
-  where
-    by : (b : Bool) → Some r ≡ (if b then None else Some x) → r.is_declared ≡ true
-    by true e = absurd (none-some r (sym e))
-    by false e = ap (λ (y : Row). y.is_declared) (same_Some r x e) ∙ alive 0 x (omega arith)
-own_alive (x ∷ rows) (suc k) r h alive = own_alive rows k r h (λ j d l. alive (suc j) d (omega (arith, l)))
-
-there : (xs : List (List ℕ)) (i : ℕ) (x : List ℕ) → slice_get xs i ≡ Some x → (i < length xs) × (get_or xs i [] ≡ x)
-there [] i x h = absurd (none-some x h)
-there (y ∷ xs) zero x h = (omega arith, same_Some y x h)
-there (y ∷ xs) (suc i) x h = let r = there xs i x h in (omega (arith, r.0), r.1)
+-- a row but for a package's, or none
+pub unless_package : (r : Row) (o : Option Row) → Some r ≡ o → (b : Bool) → b ≡ is_package r.symbol.kind → (if b then None else Some r) ≡ option_and_then (λ r. if is_package r.symbol.kind then None else Some r) o
+unless_package r o h b b_is = ap (λ b. if b then None else Some r) b_is ∙ ap (option_and_then (λ (r : Row). if is_package r.symbol.kind then None else Some r)) h
 
 module _ (t : Table) (ok : IsTable t) where
   sized : length (names_of t) ≡ length t.rows.items
@@ -107,17 +83,24 @@ module _ (t : Table) (ok : IsTable t) where
   apart i j li lj e = names_apart (names_of t) (aboves_of t) (look t) ok.forest i j (omega (arith, li, sized)) (omega (arith, lj, sized)) e
 
   module _ (l : LinkOf) (same : map name_of_row t.rows.items ≡ l.names) where
-    text_is : (row : ℕ) → name_text l row ≡ slice_get (names_of t) row
-    text_is row = ap (λ (ns : List NameOf). option_map (λ n. n.text) (slice_get ns row)) (sym same) ∙ text_row t.rows.items row
-
-    pub text_from : (row : ℕ) (text : List ℕ) → row < length t.rows.items → get_or (names_of t) row [] ≡ text → name_text l row ≡ Some text
-    text_from row text lr e = text_is row ∙ slice_get-get_or (names_of t) row [] (omega (arith, lr, sized)) ∙ ap Some e
-
     text_to : (row : ℕ) (text : List ℕ) → name_text l row ≡ Some text → (row < length t.rows.items) × (get_or (names_of t) row [] ≡ text)
-    text_to row text h = let r = there (names_of t) row text (sym (text_is row) ∙ h) in (omega (arith, r.0, sized), r.1)
+    text_to row text h =
+        let x = some_text (name_at l row) text h in
+        let r = name_there.text_to t l same row x.0 x.1 in
+        (r.0, r.1 ∙ x.2)
 
     pub text_none : (text : List ℕ) → ((k : ℕ) → k < length t.rows.items → get_or (names_of t) k [] ≢ text) → (row : ℕ) → name_text l row ≢ Some text
     text_none text none row h = let r = text_to row text h in none row r.0 r.1
+
+    -- no name has the text of a row that no file declares
+    pub text_forgotten : (text : List ℕ) (k : ℕ) (d : Row) → k < length t.rows.items → get_or (names_of t) k [] ≡ text → (get_or t.rows.items k d).is_declared ≡ false → (row : ℕ) → name_text l row ≢ Some text
+    text_forgotten text k d lk e dead row h =
+        let x = some_text (name_at l row) text h in
+        let r = name_there.name_to t l same row x.0 x.1 in
+        let here : row ≡ k = apart row k r.0 lk ((text_to row text h).1 ∙ sym e) in
+        let own = get_or t.rows.items row d in
+        let some : own.is_declared ≡ true = declared_from own (subst (λ (y : NameOf). 0 < length y.files) (sym (r.1 d)) (has_files l row x.0 x.1)) in
+        both_ways own.is_declared (ap (λ i. (get_or t.rows.items i d).is_declared) here ∙ dead) some
 
     pub text_once : (i j : ℕ) (text : List ℕ) → name_text l i ≡ Some text → name_text l j ≡ Some text → i ≡ j
     text_once i j text hi hj = let a = text_to i text hi in let b = text_to j text hj in apart i j a.0 b.0 (a.1 ∙ sym b.1)

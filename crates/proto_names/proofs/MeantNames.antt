@@ -1,6 +1,6 @@
 -- What a link of files answers of a reference, and of the declaration that it means (for the crates above).
-use Rattle.std.proofs.Common.{◌≡◌, ◌≢◌, ℕ, List, get_or, option_map, Option, None, Some, refl, sym, ◌∙◌, ap, Contains}
-use Rattle.proto_faults.proofs.Common.{none-some, same_Some, contains_map}
+use Rattle.std.proofs.Common.{◌≡◌, ◌≢◌, ℕ, List, get_or, Some, sym, ◌∙◌, ap, Contains}
+use Rattle.proto_faults.proofs.Common.{same_Some, contains_map}
 use Rattle.proto_case.specs.Camel.{entry_name}
 use Rattle.proto_meaning.proofs.Common.{place_of, At, at, joined, Declared, Skeleton, Used, name_of, symbol_of}
 use Rattle.proto_names.specs.Common.{IsLinkBy, LinkOf, NameOf, meant_at, name_at}
@@ -13,10 +13,6 @@ pub record NameMeant (l : LinkOf) (file : ℕ) (u : Used ℕ) (name : List (List
   pub meant : meant_at l file u.first ≡ Some row
   pub there : name_at l row ≡ Some has
   pub text : has.text ≡ joined name
-
-with_text : (o : Option NameOf) (text : List ℕ) → option_map (λ n. n.text) o ≡ Some text → (n : NameOf) × (o ≡ Some n) × (n.text ≡ text)
-with_text None text h = absurd (none-some text h)
-with_text (Some n) text h = (n, refl, same_Some n.text text h)
 
 -- the name of a declaration has its kind, and stands where the declaration does
 pub name_declared_as : (text : At → List ℕ) (k : Skeleton At) (l : LinkOf) → IsLinkBy text k l → (d : Declared At) → Contains k.declared d → d.kind ≢ Package → (row : ℕ) (n : NameOf) → name_at l row ≡ Some n → n.text ≡ joined (name_of text entry_name d.path)

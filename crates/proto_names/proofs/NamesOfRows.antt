@@ -1,13 +1,13 @@
 -- The names of what a file declares are those of its rows.
-use Rattle.std.proofs.Common.{◌≡◌, ℕ, suc, ◌+◌, ◌<◌, List, [], ◌∷◌, length, get_or, map, Option, Some, refl, sym, ◌∙◌, ap, subst, arith, All}
+use Rattle.std.proofs.Common.{◌≡◌, ℕ, suc, ◌+◌, ◌<◌, List, [], ◌∷◌, length, get_or, map, Some, refl, sym, ◌∙◌, ap, subst, arith, All}
 use Rattle.proto_faults.proofs.Common.{Vec, get_or-map, get_or_default}
 use Rattle.proto_files.proofs.Common.{FileOf, ReadOf}
 use Rattle.proto_meaning.proofs.Common.{front, joined}
-use Rattle.proto_table.proofs.Common.{IsTable, names_of, pick}
+use Rattle.proto_table.proofs.Common.{names_of, pick}
 use Rattle.proto_table.specs.declared.table.Table.{Table}
 use Rattle.proto_names.specs.Common.{AreNamesOf, IsDeclaredBy, LinkOf, declared_names, name_of_row}
 use Rattle.proto_names.specs.Linking.{name_text}
-use Rattle.proto_names.proofs.Linking.{text_from}
+use Rattle.proto_names.proofs.NamesThere.{text_from}
 
 -- two lists that are seen alike, place by place
 same_maps : {A B C : Type 0} (f : A → C) (g : B → C) (xs : List A) (ys : List B) → length xs ≡ length ys → ((k : ℕ) (a : A) (b : B) → k < length xs → f (get_or xs k a) ≡ g (get_or ys k b)) → map f xs ≡ map g ys
@@ -19,7 +19,7 @@ same_maps f g (x ∷ xs) (y ∷ ys) e h =
     let rest = same_maps f g xs ys (omega (arith, e)) (λ k a b l. h (suc k) a b (omega (arith, l))) in
     λ i. here i ∷ rest i
 
-module _ (files : List FileOf) (reads : List ReadOf) (t : Table) (ok : IsTable t) (l : LinkOf) (same : map name_of_row t.rows.items ≡ l.names) (rows : List (Vec ℕ)) (names : AreNamesOf files reads t rows) (paired : length rows ≡ length files)
+module _ (files : List FileOf) (reads : List ReadOf) (t : Table) (l : LinkOf) (same : map name_of_row t.rows.items ≡ l.names) (rows : List (Vec ℕ)) (names : AreNamesOf files reads t rows) (paired : length rows ≡ length files)
     (within : All (λ v. All (λ r. r < length t.rows.items) v.items) rows) where
   abbrev dn : ℕ → List (List (List ℕ))
   dn file = declared_names files reads file
@@ -33,10 +33,11 @@ module _ (files : List FileOf) (reads : List ReadOf) (t : Table) (ok : IsTable t
       let v = pick rows file lr in
       let own_is : own file ≡ (get_or rows file v).items = get_or-map (λ v. v.items) rows file v [] lr in
       let there : get_or (own file) j 0 < length t.rows.items = subst (λ (xs : List ℕ). get_or xs j 0 < length t.rows.items) (sym own_is) (within file v lr j 0 (subst (λ (xs : List ℕ). j < length xs) own_is lj)) in
+      let d = pick t.rows.items (get_or (own file) j 0) there in
       let next : suc (get_or (own file) j 0) ≡ get_or (own file) j 0 + 1 = omega arith in
       let count = names.counts file lf in
       ap (name_text l) (get_or_default (own file) j a 0 lj)
-      ∙ text_from t ok l same (get_or (own file) j 0) (joined (get_or (dn file) j [])) there (ap (front (names_of t)) next ∙ names.named file j lf lj)
+      ∙ text_from t l same (get_or (own file) j 0) d (joined (get_or (dn file) j [])) there (names.declared file j d lf lj) (ap (front (names_of t)) next ∙ names.named file j lf lj)
       ∙ ap (λ name. Some (joined name)) (get_or_default (dn file) j [] b (omega (arith, lj, count)))
 
   pub declared_by : map (λ v. v.items) rows ≡ l.rows → (file : ℕ) → file < length files → IsDeclaredBy files reads l file

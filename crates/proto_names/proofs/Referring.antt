@@ -9,7 +9,7 @@ use Rattle.proto_meaning.proofs.Common.{Symbol, Reference, Workspace, is_type, m
 use Rattle.proto_table.specs.declared.table.Row.{Row}
 use Rattle.proto_table.specs.declared.table.Table.{Table}
 use Rattle.proto_table.proofs.Common.{names_of, aboves_of, look, IsTable, IsIndexOf, IsAsked}
-use Rattle.proto_names.specs.Common.{reference_by, first_token_of_use, IsReadBy, IsFlawed, IsFaultless, AreMeant, IsFirstBad, kind_flaw, found_flaw, row_flaw, scope_above, BadReference, Meant, ReferenceFlaw, Unresolved, WrongKind, MapEntry}
+use Rattle.proto_names.specs.Common.{reference_by, first_key, first_token_of_use, IsReadBy, IsFlawed, IsFaultless, AreMeant, IsFirstBad, kind_flaw, found_flaw, row_flaw, scope_above, BadReference, Meant, ReferenceFlaw, Unresolved, WrongKind, MapEntry}
 use Rattle.proto_table.specs.Filling.{number_above}
 use Rattle.proto_listing.proofs.Common.{needs}
 use Rattle.proto_listing.specs.declared.listing.Above.{Above}
@@ -132,21 +132,23 @@ module _ (t : Table) (w : Workspace) (f : Use → Reference) where
   told r = option_map joined (meaning w r)
 
   -- one reference more
-  pub meant_more : (us : List Use) (ms : List Meant) (u : Use) (m : Meant) → AreMeant t w (map f us) (map first_token_of_use us) ms → m.token ≡ first_token_of_use u → Some (get_or (names_of t) m.row []) ≡ option_map joined (meaning w (f u))
+  pub meant_more : (us : List Use) (ms : List Meant) (u : Use) (m : Meant) → AreMeant t w (map f us) (map first_token_of_use us) ms → m.token ≡ first_token_of_use u → m.first ≡ first_key (f u) → Some (get_or (names_of t) m.row []) ≡ option_map joined (meaning w (f u))
       → (m.row < length t.rows.items) × IsFaultless w (f u) → AreMeant t w (map f (us ++ u ∷ [])) (map first_token_of_use (us ++ u ∷ [])) (ms ++ m ∷ [])
-  meant_more us ms u m a token is sound = record {
+  meant_more us ms u m a token first is sound = record {
     places = map-append (λ m. m.token) ms (m ∷ []) ∙ ap (λ z. z ++ m.token ∷ []) a.places ∙ ap (λ z. map first_token_of_use us ++ z ∷ []) token ∙ sym (map-append first_token_of_use us (u ∷ []));
+    firsts = map-append (λ m. m.first) ms (m ∷ []) ∙ ap (λ z. z ++ m.first ∷ []) a.firsts ∙ ap (λ z. map first_key (map f us) ++ z ∷ []) first
+        ∙ sym (map-append first_key (map f us) (f u ∷ [])) ∙ ap (map first_key) (sym (map-append f us (u ∷ [])));
     within = All-append (λ m. m.row < length t.rows.items) ms (m ∷ []) a.within (All-cons (λ m. m.row < length t.rows.items) m [] sound.0 (All-nil (λ m. m.row < length t.rows.items)));
     names = map-append said ms (m ∷ []) ∙ ap (λ z. z ++ said m ∷ []) a.names ∙ ap (λ z. map told (map f us) ++ z ∷ []) is
         ∙ sym (map-append told (map f us) (f u ∷ [])) ∙ ap (map told) (sym (map-append f us (u ∷ [])));
     faultless = subst (All (IsFaultless w)) (sym (map-append f us (u ∷ []))) (All-append (IsFaultless w) (map f us) (f u ∷ []) a.faultless (All-cons (IsFaultless w) (f u) [] sound.1 (All-nil (IsFaultless w))));
   }
 
-  pub meant_step : (uses : List Use) (i : ℕ) (ms : List Meant) (u : Use) (m : Meant) → i < length uses → u ≡ get_or uses i u → AreMeant t w (map f (take i uses)) (map first_token_of_use (take i uses)) ms → m.token ≡ first_token_of_use u → Some (get_or (names_of t) m.row []) ≡ option_map joined (meaning w (f u))
+  pub meant_step : (uses : List Use) (i : ℕ) (ms : List Meant) (u : Use) (m : Meant) → i < length uses → u ≡ get_or uses i u → AreMeant t w (map f (take i uses)) (map first_token_of_use (take i uses)) ms → m.token ≡ first_token_of_use u → m.first ≡ first_key (f u) → Some (get_or (names_of t) m.row []) ≡ option_map joined (meaning w (f u))
       → (m.row < length t.rows.items) × IsFaultless w (f u) → AreMeant t w (map f (take (i + 1) uses)) (map first_token_of_use (take (i + 1) uses)) (ms ++ m ∷ [])
-  meant_step uses i ms u m l here a token is sound =
+  meant_step uses i ms u m l here a token first is sound =
       let more : take (i + 1) uses ≡ take i uses ++ u ∷ [] = take_more uses i u l ∙ ap (λ z. take i uses ++ z ∷ []) (sym here) in
-      subst (λ us. AreMeant t w (map f us) (map first_token_of_use us) (ms ++ m ∷ [])) (sym more) (meant_more (take i uses) ms u m a token is sound)
+      subst (λ us. AreMeant t w (map f us) (map first_token_of_use us) (ms ++ m ∷ [])) (sym more) (meant_more (take i uses) ms u m a token first is sound)
 
   -- a faulty one behind those
   pub first_bad : (file : ℕ) (uses : List Use) (i : ℕ) (ms : List Meant) (u : Use) (bad : BadReference) → i < length uses → u ≡ get_or uses i u → AreMeant t w (map f (take i uses)) (map first_token_of_use (take i uses)) ms → bad.file ≡ file → bad.token ≡ first_token_of_use u → IsFlawed w (f u) bad.flaw → IsFirstBad w f file uses bad

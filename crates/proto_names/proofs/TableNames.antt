@@ -134,6 +134,10 @@ module _ (files : List FileOf) (reads : List ReadOf) (are : AreRead files reads)
         plain = λ k l. plain_names k (in_list k l);
         counts = λ k l. names_count k (in_list k l) ∙ sym (are_rows.counts k (in_list k l));
         named = λ k j l m. row_named k j (in_list k l) (omega (arith, m, are_rows.counts k (in_list k l)));
+        declared = λ k j r l m.
+            (let n : j < length (get_or fs k []) = omega (arith, m, are_rows.counts k (in_list k l)) in
+            let d = pick (named_in k (get_or fs k [])) j (omega (arith, n, named_length k (get_or fs k []))) in
+            (are_rows.each k j 0 d (in_list k l) n).declared r);
         tokens = declared_row;
       }
         where

@@ -5,4 +5,5 @@ pub mod LinkOfFiles
 pub mod Linking
 pub mod Referring
 pub mod Scopes
+pub mod WaysBack
 pub use Rattle.proto_imports.specs.Links

@@ -1,12 +1,11 @@
 -- When a link is that of files: it has their names and imports, what each file declares and sees,
 -- what each reference means, and the references that mean each name.
-use Rattle.std.specs.Prelude.{◌≡◌, ◌≢◌, ℕ, ◌+◌, ◌<◌, Bool, false, List, [], length, get_or, map, Option, Some, None, option_map}
+use Rattle.std.specs.Prelude.{◌≡◌, ◌≢◌, ℕ, ◌+◌, ◌<◌, Bool, true, false, List, [], length, get_or, map, Option, Some, None, option_map}
 use Rattle.std.specs.Global.{Vec}
 use Rattle.std.specs.List.{All, AllPairs, Contains, filter}
 use Rattle.std.specs.Str.{bytes_eq}
 use Rattle.proto_faults.specs.Texts.{Text}
-use Rattle.proto_files.specs.Faults.{HasNoFault}
-use Rattle.proto_files.specs.GivenFiles.{FileOf, file_at, paths_of}
+use Rattle.proto_files.specs.GivenFiles.{FileOf, paths_of}
 use Rattle.proto_case.specs.Camel.{entry_name}
 use Rattle.proto_meaning.specs.Faults.{Fault, ImportFault, NameFault, place_of}
 use Rattle.proto_names.specs.FileReferences.{declared_names, uses_of}
@@ -17,9 +16,10 @@ use Rattle.proto_meaning.specs.Linked.{ImportsAreOfFiles}
 use Rattle.proto_names.specs.Linking.{LinkOf, NameOf, name_at, name_text}
 use Rattle.proto_files.specs.FilesRead.{ReadOf, AreRead}
 use Rattle.proto_imports.specs.Importing.{all_imports}
-use Rattle.proto_imports.specs.Links.{LinkFaults, all_wanted, link_imports, link_skeleton, names_of_files, text_of}
+use Rattle.proto_imports.specs.Links.{all_wanted, link_imports, link_skeleton, names_of_files, text_of}
 use Rattle.proto_meaning.specs.declared.kind.Kind.TheVariants.{Package}
 use Rattle.proto_meaning.specs.Names.{Symbol, Workspace, meaning}
+use Rattle.proto_names.specs.Referring.{first_key}
 use Rattle.proto_table.specs.Naming.{used_named}
 use Rattle.proto_table.specs.Resolved.{IsIndexOf}
 use Rattle.proto_meaning.specs.Marks.{MarksSeen}
@@ -93,13 +93,16 @@ meant_by_use files reads file u = record {
       (meaning (names_of_files files reads) (used_named (text_of files reads) file u));
 }
 
--- what the link has of a file's references: what each means, in the order of their first tokens
+-- what the link has of a file's references: what each means, in the order of their first tokens,
+-- and the key of its first word
 pub record IsMeantIn (files : List FileOf) (reads : List ReadOf) (l : LinkOf) (file : ℕ)
     : Type 0 where
   pub texts : map (meant_by_link l) (get_or l.meant file [])
       ≡ map (meant_by_use files reads file) (uses_of reads file)
+  pub firsts : map (λ m. m.first) (get_or l.meant file [])
+      ≡ map (λ u. first_key (used_named (text_of files reads) file u)) (uses_of reads file)
   pub rising : AllPairs (λ m n. m.token < n.token) (get_or l.meant file [])
-  pub within : All (λ m. m.row < length l.names) (get_or l.meant file [])
+  pub within : All (λ m. (n : NameOf) × (name_at l m.row ≡ Some n)) (get_or l.meant file [])
 
 -- the names of what the file declares, its package first, in order
 abbrev pub IsDeclaredBy : List FileOf → List ReadOf → LinkOf → ℕ → Type 0
@@ -120,26 +123,6 @@ pub record IsLinkRead (files : List FileOf) (reads : List ReadOf) (l : LinkOf) :
 -- the link of files: of whatever is read of them, it is the link
 abbrev pub IsLinkOf : List FileOf → LinkOf → Type 0
 IsLinkOf files l = (reads : List ReadOf) → AreRead files reads → IsLinkRead files reads l
-
--- ---- a link of files some of which are others now
-
--- the link of files that are read and have no fault of imports, names and references
-pub record IsCleanLinkOf (files : List FileOf) (l : LinkOf) : Type 0 where
-  pub link : IsLinkOf files l
-  pub clean : HasNoFault (LinkFaults files)
-  pub reads : List ReadOf
-  pub read : AreRead files reads
-
--- files with the same paths, the same but at these places
-pub record AreSameBut (places : List ℕ) (before files : List FileOf) : Type 0 where
-  pub paths : paths_of before ≡ paths_of files
-  pub others : (file : ℕ) → file < length files → (Contains places file → ⊥)
-      → file_at before file ≡ file_at files file
-
--- it is the link of files that are the same but at these places
-abbrev pub WasLinkOf : List FileOf → List ℕ → LinkOf → Type 0
-WasLinkOf files places l =
-    (before : List FileOf) × IsCleanLinkOf before l × AreSameBut places before files
 
 -- ---- its parts
 
@@ -174,5 +157,9 @@ pub record AreNamesOf (files : List FileOf) (reads : List ReadOf) (t : Table) (r
   pub named : (k j : ℕ) → k < length files → j < length (get_or (map (λ v. v.items) rows) k [])
       → front (names_of t) (get_or (get_or (map (λ v. v.items) rows) k []) j 0 + 1)
       ≡ joined (get_or (declared_names files reads k) j [])
+  pub declared : (k j : ℕ) (r : Row) → k < length files
+      → j < length (get_or (map (λ v. v.items) rows) k [])
+      → (get_or t.rows.items (get_or (get_or (map (λ v. v.items) rows) k []) j 0) r).is_declared
+      ≡ true
   pub tokens : (d : Declared At) → Contains (link_skeleton files reads).declared d
       → d.kind ≢ Package → RowIsDeclaredIn (text_of files reads) t d

@@ -1,6 +1,6 @@
 -- The names of linked files: what is known of each, which files see it, and which references mean
 -- it; and what each reference means.
-use Rattle.std.specs.Prelude.{ℕ, suc, Bool, false, ◌&&◌, ◌==◌, if◌then◌else◌, List, [], ◌∷◌, ◌++◌, map, get_or, slice_get, slice_index_or, Option, Some, None, option_map, string_bytes}
+use Rattle.std.specs.Prelude.{ℕ, suc, Bool, true, false, not, ◌&&◌, ◌==◌, if◌then◌else◌, List, [], ◌∷◌, ◌++◌, map, get_or, slice_get, slice_index_or, Option, Some, None, option_map, string_bytes}
 use Rattle.std.specs.List.{filter, find, list_any}
 use Rattle.std.specs.Option.{option_and_then}
 use Rattle.std.specs.Str.{bytes_eq}
@@ -12,6 +12,11 @@ use Rattle.proto_table.specs.Tables.{files_of}
 use Rattle.proto_names.specs.declared.link.RefId.{RefId}
 use Rattle.proto_names.specs.declared.references.Meant.{Meant}
 use Rattle.proto_table.specs.declared.table.Row.{Row}
+
+-- no element
+abbrev pub is_empty : {A : Type 0} → List A → Bool
+is_empty [] = true
+is_empty (x ∷ xs) = false
 
 -- what a link has of a name: its text, its kind, the files that declare it, and the token of its
 -- first declaration
@@ -40,13 +45,29 @@ pub record LinkOf : Type 0 where
   pub meant : List (List Meant)
   pub references : List (List RefId)
 
--- the name with this number, if there is one
-abbrev pub name_at : LinkOf → ℕ → Option NameOf
-name_at l row = slice_get l.names row
+-- the name, if a file declares it
+abbrev pub if_declared : NameOf → Option NameOf
+if_declared n = if is_empty n.files then None else Some n
 
--- the text of the name with this number, if there is one
+-- the row, if a file declares its name
+abbrev pub declared_row : Row → Option Row
+declared_row r = if r.is_declared then Some r else None
+
+-- the name with this number, if there is one that a file declares
+abbrev pub name_at : LinkOf → ℕ → Option NameOf
+name_at l row = option_and_then if_declared (slice_get l.names row)
+
+-- the text of the name with this number, if there is one that a file declares
 abbrev pub name_text : LinkOf → ℕ → Option Text
 name_text l row = option_map (λ n. n.text) (name_at l row)
+
+-- a file declares the name, and it has this text
+abbrev pub has_name : Text → NameOf → Bool
+has_name text n = not (is_empty n.files) && bytes_eq n.text text
+
+-- the name with this text, if there is one that a file declares
+abbrev pub name_with : LinkOf → Text → Option NameOf
+name_with l text = find (has_name text) l.names
 
 -- the file that declares it (a package is of no file alone)
 abbrev pub own_file : NameOf → Option ℕ

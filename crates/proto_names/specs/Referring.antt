@@ -1,6 +1,6 @@
 -- The references of a file by the words of its tokens: what they mean, and which is faulty.
-use Rattle.std.specs.Prelude.{◌≡◌, ℕ, ◌+◌, ◌<◌, Bool, true, if◌then◌else◌, List, [], ◌∷◌, ◌++◌, length, get_or, slice_get, map, Option, Some, None, option_map, is_some}
-use Rattle.std.specs.List.{All, Contains}
+use Rattle.std.specs.Prelude.{◌≡◌, ℕ, ◌+◌, ◌*◌, ◌^◌, ◌%◌, ◌<◌, Bool, true, if◌then◌else◌, List, [], ◌∷◌, ◌++◌, length, get_or, slice_get, map, Option, Some, None, option_map, is_some}
+use Rattle.std.specs.List.{All, Contains, fold}
 use Rattle.proto_faults.specs.Texts.{Text}
 use Rattle.proto_meaning.specs.declared.kind.Kind.{Kind}
 use Rattle.proto_meaning.specs.declared.kind.Kind.TheVariants.{Entry, Enum}
@@ -38,6 +38,14 @@ reference_by file names text u = record {
   words = map text (dotted u.reference.now.words);
 }
 
+-- the key of a word: its bytes as the digits of a number, modulo 2 ^ 32
+unfoldable pub word_key : Text → ℕ
+word_key word = fold (λ key byte. (key * 31 + byte) % 2 ^ 32) 0 word
+
+-- the key of the first word of a reference
+abbrev pub first_key : Reference → ℕ
+first_key r = word_key (get_or r.words 0 [])
+
 -- the token that a reference begins with: the dot, where there is one, else its first word
 abbrev pub first_token_of_use : Use → ℕ
 first_token_of_use u = first_of u.reference.now.dot u.reference.now.words
@@ -65,10 +73,12 @@ IsFlawed w r MapEntry =
 abbrev pub IsFaultless : Workspace → Reference → Type 0
 IsFaultless w r = (flaw : ReferenceFlaw) → IsFlawed w r flaw → ⊥
 
--- the rows are those of what the references mean, one by one, and no reference is faulty
+-- the rows are those of what the references mean, one by one, with the keys of their first words,
+-- and no reference is faulty
 pub record AreMeant (t : Table) (w : Workspace) (references : List Reference) (tokens : List ℕ)
     (meant : List Meant) : Type 0 where
   pub places : map (λ m. m.token) meant ≡ tokens
+  pub firsts : map (λ m. m.first) meant ≡ map first_key references
   pub within : All (λ m. m.row < length t.rows.items) meant
   pub names : map (λ m. Some (get_or (names_of t) m.row [])) meant
       ≡ map (λ r. option_map joined (meaning w r)) references

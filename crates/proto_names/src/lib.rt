@@ -10,6 +10,7 @@ mod read_files;
 mod references;
 mod resolve;
 mod scope;
+mod way_back;
 mod whole_link;
 
 pub use link::{DeclaredNames, Link, RefId, SymbolId};
@@ -17,4 +18,5 @@ pub use proto_faults::SchemaFault as LinkFault;
 pub use proto_files::are_read;
 pub use proto_meaning::Kind;
 pub use read_files::all_written;
-pub use references::Meant;
+pub use references::{Meant, word_key};
+pub use way_back::WayBack;

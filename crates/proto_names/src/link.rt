@@ -1,6 +1,6 @@
 //! The names of linked files, which files see them, and the references that mean them.
 
-ghost use Rattle.std.specs.Prelude.{◌≡◌, ◌≢◌, ◌↔◌, ℕ, ◌<◌, ◌==◌, List, [], length, map, get_or, slice_get, option_map, option_and_then, Some, None, IfOk, IfSome, IfNone, if◌then◌else◌};
+ghost use Rattle.std.specs.Prelude.{◌≡◌, ◌≢◌, ◌↔◌, ℕ, ◌<◌, ◌==◌, true, List, [], length, map, get_or, slice_get, option_map, option_and_then, Some, None, IfOk, IfSome, IfNone, if◌then◌else◌};
 ghost use Rattle.std.specs.List.{All, AllPairs};
 ghost use Rattle.proto_files.specs.GivenFiles.{FileOf, file_at as file_at_place};
 ghost use Rattle.proto_text.specs.Texts.{words};
@@ -11,12 +11,12 @@ ghost use Rattle.proto_meaning.specs.Joined.{joined, ArePlain};
 ghost use Rattle.proto_names.specs.FileReferences.{declared_names};
 ghost use Rattle.proto_names.specs.LinkOfFiles.{IsLinkOf};
 ghost use Rattle.proto_meaning.specs.Linked.{is_package};
-ghost use Rattle.proto_names.specs.Linking.{name_of_row, name_at, name_text, declaring_file, declaring_token, row_at, meant_at, shows_text, is_visible};
+ghost use Rattle.proto_names.specs.Linking.{NameOf, declared_row, name_of_row, name_at, name_text, declaring_file, declaring_token, row_at, meant_at, shows_text, is_visible};
 ghost use Rattle.proto_files.specs.FilesRead.{ReadOf, AreRead};
 ghost use Rattle.proto_imports.specs.Links.{names_of_files};
 ghost use Rattle.proto_meaning.specs.Names.{meaning};
 ghost use Rattle.proto_names.specs.Scopes.{reference_in};
-ghost use Rattle.proto_table.specs.Tables.{AreDeclared, IsTable};
+ghost use Rattle.proto_table.specs.Tables.{IsTable};
 
 use crate::copying::copied;
 use crate::references::Meant;
@@ -51,6 +51,13 @@ impl Meant {
         ensures { result ≡ self.token }
     {
         self.token
+    }
+
+    /// The key of its first word (`word_key`).
+    pub fn first_key(self) -> u32
+        ensures { result ≡ self.first }
+    {
+        self.first
     }
 
     /// The name that it means.
@@ -101,8 +108,8 @@ pub struct Link {
     rows: Vec<Vec<usize>>,
     /// For each file, the marks of the files that it sees.
     seen: Vec<Vec<bool>>,
-    /// For each file, its references by their first tokens, which rise, and the rows of the names
-    /// that they mean.
+    /// For each file, its references by their first tokens, which rise, with the keys of their first
+    /// words and the rows of the names that they mean.
     meant: Vec<Vec<Meant>>,
     /// For each name, the references that mean it.
     references: Vec<Vec<RefId>>,
@@ -112,7 +119,7 @@ impl Model for Link {
     ghost use Rattle.std.specs.Prelude.{◌≡◌, ◌<◌, length, map};
     ghost use Rattle.std.specs.List.{All, AllPairs};
     ghost use Rattle.proto_names.specs.Linking.{LinkOf, name_of_row};
-    ghost use Rattle.proto_table.specs.Tables.{AreDeclared, IsTable};
+    ghost use Rattle.proto_table.specs.Tables.{IsTable};
 
     ghost Value = { LinkOf };
 
@@ -127,16 +134,26 @@ impl Model for Link {
 
     ghost invariant = { λ l. IsTable l.table
         × (length l.references.items ≡ length l.table.rows.items)
-        × All (λ v. AllPairs (λ m n. m.token < n.token) v.items) l.meant.items
-        × AreDeclared l.table.rows.items };
+        × All (λ v. AllPairs (λ m n. m.token < n.token) v.items) l.meant.items };
 }
 
-/// The row with this index, but for a package's.
+/// The row with this index, if a file declares its name.
 fn declared_row(rows: &[Row], index: usize) -> Option<&Row>
-    ensures { option_map (λ r. r.now) result ≡ option_and_then
-        (λ r. if is_package r.symbol.kind then None else Some r) (slice_get rows.now index) }
+    ensures { option_map (λ r. r.now) result
+        ≡ option_and_then declared_row (slice_get rows.now index) }
 {
     let row = rows.get(index)?;
+    if row.is_declared() { Some(row) } else { None }
+}
+
+/// The row with this index, if a file declares its name, but for a package's.
+fn own_row(rows: &[Row], index: usize) -> Option<&Row>
+    ensures exact { option_map (λ r. r.now) result ≡ option_and_then
+        (λ r. if is_package r.symbol.kind then None else Some r)
+        (option_and_then declared_row (slice_get rows.now index)) }
+    ensures declared { IfSome result (λ r. r.now.is_declared ≡ true) }
+{
+    let row = declared_row(rows, index)?;
     if row.symbol.kind.is_package() {
         None
     } else {
@@ -179,7 +196,6 @@ impl Link {
         requires table { IsTable table }
         requires rising { All (λ v. AllPairs (λ m n. m.token < n.token) v.items) meant.items }
         requires paired { length references.items ≡ length table.rows.items }
-        requires declared { AreDeclared table.rows.items }
         ensures { result ≡ record {
           names = map name_of_row table.rows.items;
           imports = map (λ v. v.items) imports.items;
@@ -199,7 +215,7 @@ impl Link {
         }
     }
 
-    /// The name with this text, if there is one. Takes no memory.
+    /// The name with this text, if there is one that a file declares. Takes no memory.
     pub fn symbol(&self, name: &str) -> Option<SymbolId>
         ensures some { IfSome result (λ id. name_text self.now id.row ≡ Some name.now) }
         ensures none { IfNone result ((row : ℕ) → name_text self.now row ≢ Some name.now) }
@@ -207,32 +223,37 @@ impl Link {
             → name_text self.now i ≡ Some text → name_text self.now j ≡ Some text → i ≡ j }
     {
         let row = self.table.index_of_name(name)?;
-        Some(SymbolId { row })
+        if self.table.rows[row].is_declared() {
+            Some(SymbolId { row })
+        } else {
+            None
+        }
     }
 
-    /// Its text; none where this link has no such name.
+    /// Its text; none where this link has no such name, or no file declares it any more.
     pub fn name_of(&self, id: SymbolId) -> Option<&str>
         ensures { option_map (λ text. text.now) result ≡ name_text self.now id.row }
     {
-        let row = self.table.rows.get(id.row)?;
+        let row = declared_row(&self.table.rows, id.row)?;
         Some(row.name.as_str())
     }
 
-    /// Its kind; none where this link has no such name.
+    /// Its kind; none where `name_of` answers none.
     pub fn kind_of(&self, id: SymbolId) -> Option<Kind>
         ensures { result ≡ option_map (λ n. n.kind) (name_at self.now id.row) }
     {
-        let row = self.table.rows.get(id.row)?;
+        let row = declared_row(&self.table.rows, id.row)?;
         Some(row.symbol.kind)
     }
 
-    /// The number of the file that declares it; none where this link has no such name, and for a
+    /// The number of the file that declares it; none where `name_of` answers none, and for a
     /// package, which many may declare.
     pub fn file_of(&self, id: SymbolId) -> Option<u32>
         ensures exact { result ≡ declaring_file self.now id.row }
-        ensures declared { All (λ n. 0 < length n.files) self.now.names }
+        ensures declared { (row : ℕ) (n : NameOf)
+            → name_at self.now row ≡ Some n → 0 < length n.files }
     {
-        let row = declared_row(&self.table.rows, id.row)?;
+        let row = own_row(&self.table.rows, id.row)?;
         Some(row.symbol.file)
     }
 
@@ -240,7 +261,7 @@ impl Link {
     pub fn token_of(&self, id: SymbolId) -> Option<u32>
         ensures { result ≡ declaring_token self.now id.row }
     {
-        let row = declared_row(&self.table.rows, id.row)?;
+        let row = own_row(&self.table.rows, id.row)?;
         Some(row.symbol.token)
     }
 

@@ -36,11 +36,11 @@ pub(crate) fn listings<'a>(alloc: Global, files: &'a Files) -> Result<Vec<Listin
 }
 
 /// The declarations of each file with their last words.
-pub(crate) fn all_spelled(
+pub(crate) fn all_spelled<'a>(
     alloc: Global,
-    files: &Files,
+    files: &'a Files,
     listings: &[Listing],
-) -> Result<Vec<Vec<Spelled>>, NoMemory>
+) -> Result<Vec<Vec<Spelled<'a>>>, NoMemory>
     requires { AreListings files.now listings.now }
     ensures len { IfOk result (λ ss. length ss.items ≡ length files.now) }
     ensures spelled { IfOk result (λ ss. All (λ v. AreSpelled v.items) ss.items) }

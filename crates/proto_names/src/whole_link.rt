@@ -8,11 +8,14 @@ ghost use Rattle.proto_meaning.specs.Faults.{Fault as FaultAtToken, ReferenceFau
 ghost use Rattle.proto_names.specs.FileReferences.{AreFileMeant, flaw_number};
 ghost use Rattle.proto_imports.specs.Importing.{all_imports, import_flaw_number};
 ghost use Rattle.proto_imports.specs.LinkErrors.{IsLinkError};
-ghost use Rattle.proto_names.specs.LinkOfFiles.{AreNamesOf, HasNoImportFault, HasNoNameFault, IsLinkOf, WasLinkOf};
+ghost use Rattle.proto_names.specs.LinkOfFiles.{AreNamesOf, HasNoImportFault, HasNoNameFault, IsLinkOf};
+ghost use Rattle.proto_names.specs.Linking.{LinkOf};
+ghost use Rattle.proto_names.specs.WaysBack.{LeadsTo};
+ghost use Rattle.proto_relink.specs.Relinked.{WasLink};
 ghost use Rattle.proto_imports.specs.Links.{AreListings, LinkFaults, link_imports, link_skeleton, names_of_files, text_of};
 ghost use Rattle.proto_files.specs.FilesRead.{AreRead, Each, ReadOf};
 ghost use Rattle.proto_meaning.specs.Marks.{MarksSeen};
-ghost use Rattle.proto_table.specs.Tables.{AreDeclared, IsTable};
+ghost use Rattle.proto_table.specs.Tables.{IsTable};
 ghost use Rattle.proto_listing.specs.declared.listing.Listing.{Listing};
 
 use crate::all_references::all_meanings;
@@ -20,6 +23,7 @@ use crate::backlinks::references_by_name;
 use crate::link::Link;
 use crate::read_files::{all_spelled, all_written, listings};
 use crate::references::{Meant, ReferenceError, ReferenceFlaw};
+use crate::way_back::WayBack;
 use proto_faults::{FaultKind, NoMemory, SchemaFault};
 use proto_files::{Files, all_paths, are_read, fault_at_token};
 use proto_imports::import::{FileImport, ImportError, ImportFlaw, resolve_imports};
@@ -77,7 +81,6 @@ fn linked_names(
     requires listings { AreListings files.now listings.now }
     requires imports { HasNoImportFault files.now }
     ensures table { IfOk result (λ x. IsTable x.0) }
-    ensures declared { IfOk result (λ x. AreDeclared x.0.rows.items) }
     ensures names { IfOk result (λ x. (reads : List ReadOf)
         → AreRead files.now reads → AreNamesOf files.now reads x.0 x.1.items) }
     ensures paired { IfOk result (λ x. length x.1.items ≡ length files.now) }
@@ -193,14 +196,42 @@ impl Link {
         places: &[u32],
     ) -> Result<(), SchemaFault>
         requires places { All (λ place. place < length files.now) places.now }
-        requires link { WasLinkOf files.now places.now self.old }
+        requires link { WasLink IsLinkOf files.now places.now self.old }
         ensures link { OnOk result (IsLinkOf files.now self.new) }
         ensures clean { IfOk result (λ _. HasNoFault (LinkFaults files.now)) }
         ensures fault { IfErr result (IsLinkError files.now) }
         ensures kept { OnErr result (self.new ≡ self.old) }
     {
-        let link = Link::new(alloc, files)?;
-        mem::replace(self, link).release();
+        self.exchange(alloc, files, places)?.release();
         Ok(())
+    }
+
+    /// As `replace`, and answers the way back to what this link was.
+    pub fn exchange(
+        &mut self,
+        alloc: Global,
+        files: &Files,
+        places: &[u32],
+    ) -> Result<WayBack, SchemaFault>
+        requires places { All (λ place. place < length files.now) places.now }
+        requires link { WasLink IsLinkOf files.now places.now self.old }
+        ensures link { OnOk result (IsLinkOf files.now self.new) }
+        ensures clean { IfOk result (λ _. HasNoFault (LinkFaults files.now)) }
+        ensures fault { IfErr result (IsLinkError files.now) }
+        ensures kept { OnErr result (self.new ≡ self.old) }
+        ensures back { IfOk result (λ way. LeadsTo way self.new self.old) }
+    {
+        let link = Link::new(alloc, files)?;
+        let was = mem::replace(self, link);
+        Ok(WayBack { link: was })
+    }
+
+    /// Makes this what it was before the call of `exchange` that answered this way. Takes no
+    /// memory.
+    pub fn go_back(&mut self, way: WayBack)
+        requires { (was : LinkOf) × LeadsTo way self.old was }
+        ensures { (was : LinkOf) → LeadsTo way self.old was → self.new ≡ was }
+    {
+        mem::replace(self, way.link).release();
     }
 }

@@ -32,7 +32,7 @@ module _ (files : List FileOf) (reads : List ReadOf) (l : LinkOf) (link : IsLink
       ∙ ap (enum_at files reads) p.place
       ∙ sym (ap (option_and_then (λ (x : Declared At). enum_at files reads (place_of x))) p.is)
 
-  one_meant : (file : ℕ) (m : Meant) (u : Used ℕ) → meant_by_link l m ≡ meant_by_use files reads file u → m.row < length l.names → meant_in_table l enum m ≡ meant_as files reads u.first (meaning_of files reads file u)
+  one_meant : (file : ℕ) (m : Meant) (u : Used ℕ) → meant_by_link l m ≡ meant_by_use files reads file u → (n : NameOf) × (name_at l m.row ≡ Some n) → meant_in_table l enum m ≡ meant_as files reads u.first (meaning_of files reads file u)
   one_meant file m u e within =
       let n = row_means files reads l link file m u e within in
       let named : meant_in_table l enum m ≡ meant_as files reads u.first (Some n.name) =
@@ -46,7 +46,7 @@ module _ (files : List FileOf) (reads : List ReadOf) (l : LinkOf) (link : IsLink
   pub means_are : (file : ℕ) → file < length files → map (meant_in_table l enum) (get_or l.meant file []) ≡ means_of files reads file
   means_are file within = go (get_or l.meant file []) (uses_of reads file) (link.means file within).texts (link.means file within).within
     where
-      go : (ms : List Meant) (us : List (Used ℕ)) → map (meant_by_link l) ms ≡ map (meant_by_use files reads file) us → All (λ m. m.row < length l.names) ms
+      go : (ms : List Meant) (us : List (Used ℕ)) → map (meant_by_link l) ms ≡ map (meant_by_use files reads file) us → All (λ (m : Meant). (n : NameOf) × (name_at l m.row ≡ Some n)) ms
           → map (meant_in_table l enum) ms ≡ map (λ u. meant_as files reads u.first (meaning_of files reads file u)) us
       go [] [] e rows = refl
       go [] (u ∷ us) e rows = absurd (cc)

@@ -1,6 +1,6 @@
 -- Where the name stands that a reference means (for the crates above).
 use Rattle.std.proofs.Common.{◌≡◌, ◌≢◌, ℕ, suc, ◌<◌, Bool, true, false, cond, List, [], ◌∷◌, length, get_or, map, Option, Some, None, option_map, refl, sym, ap, subst, ◌∙◌, inl, inr, arith, All, Contains, find, ◌==◌}
-use Rattle.proto_faults.proofs.Common.{none-some, same_Some, slice_get-get_or, contains_cases, contains_head, contains_later, contains_map, from_map}
+use Rattle.proto_faults.proofs.Common.{none-some, same_Some, contains_cases, contains_head, contains_later, contains_map, from_map}
 use Rattle.proto_files.proofs.Common.{FileOf, ReadOf}
 use Rattle.proto_case.specs.Camel.{entry_name}
 use Rattle.proto_meaning.proofs.Common.{place_of, ArePlain, At, at, joined, is_package, Symbol, is_type, same_name, Declared, Used, name_of, symbol_of, name_from_same, same_from_name, meant}
@@ -95,11 +95,10 @@ module _ (files : List FileOf) (reads : List ReadOf) (l : LinkOf) (link : IsLink
     pub there : name_at l m.row ≡ Some has
     pub text : has.text ≡ joined name
 
-  pub row_means : (file : ℕ) (m : Meant) (u : Used ℕ) → meant_by_link l m ≡ meant_by_use files reads file u → m.row < length l.names → MeansRow file u m
+  pub row_means : (file : ℕ) (m : Meant) (u : Used ℕ) → meant_by_link l m ≡ meant_by_use files reads file u → (n : NameOf) × (name_at l m.row ≡ Some n) → MeansRow file u m
   row_means file m u e within =
-      let blank : NameOf = record { text = []; kind = Package; files = []; token = 0 } in
-      let n : NameOf = get_or l.names m.row blank in
-      let there : name_at l m.row ≡ Some n = slice_get-get_or l.names m.row blank within in
+      let n = within.0 in
+      let there : name_at l m.row ≡ Some n = within.1 in
       let text : Some n.text ≡ option_map joined (meaning_of files reads file u) = sym (ap (option_map (λ (y : NameOf). y.text)) there) ∙ ap (λ (z : TextMeant). z.text) e in
       go n there text (meaning_of files reads file u) refl
     where
@@ -144,12 +143,12 @@ module _ (files : List FileOf) (reads : List ReadOf) (l : LinkOf) (link : IsLink
             ap (λ (b : Bool). cond b (Some u) (find of_file us)) (sym (same_test m u here) ∙ f)
             ∙ on (sym (ap (λ (b : Bool). cond b (Some m) (find of_link ms)) f) ∙ h)
 
-    named_by : (m : Meant) (u : Used ℕ) → meant_by_link l m ≡ meant_by_use files reads file u → m.row < length l.names → find of_file (uses_of reads file) ≡ Some u → Named file token m
+    named_by : (m : Meant) (u : Used ℕ) → meant_by_link l m ≡ meant_by_use files reads file u → (n : NameOf) × (name_at l m.row ≡ Some n) → find of_file (uses_of reads file) ≡ Some u → Named file token m
     named_by m u e within is =
         let n = row_means file m u e within in
         record { reference = u; is = is; name = n.name; means = n.means; has = n.has; there = n.there; text = n.text }
 
-    one_among : (ms : List Meant) (us : List (Used ℕ)) → map (meant_by_link l) ms ≡ map (meant_by_use files reads file) us → All (λ m. m.row < length l.names) ms → (m : Meant) → find of_link ms ≡ Some m → find of_file us ≡ find of_file (uses_of reads file) → Named file token m
+    one_among : (ms : List Meant) (us : List (Used ℕ)) → map (meant_by_link l) ms ≡ map (meant_by_use files reads file) us → All (λ (m : Meant). (n : NameOf) × (name_at l m.row ≡ Some n)) ms → (m : Meant) → find of_link ms ≡ Some m → find of_file us ≡ find of_file (uses_of reads file) → Named file token m
     one_among [] us e rows m h whole = absurd (none-some m h)
     one_among (x ∷ ms) [] e rows m h whole = absurd (cc)
     one_among (x ∷ ms) (u ∷ us) e rows m h whole =

@@ -1,1 +1,2 @@
 mod PlainWords
+mod TwoFiles

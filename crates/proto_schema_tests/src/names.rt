@@ -7,5 +7,6 @@ mod faults;
 mod limits;
 mod meanings;
 mod readers;
+mod replacing;
 mod resolving;
 mod sight;

@@ -1,22 +1,23 @@
--- One declaration of a file more in the table.
-use Rattle.std.proofs.Common.{◌≡◌, ℕ, ◌+◌, ◌<◌, ◌≤◌, List, [], ◌∷◌, ◌++◌, length, get_or, take, drop, refl, sym, ◌∙◌, ap, subst, inl, inr, arith, string_bytes, length-append, append_assoc, append-nil, length-take, length-take-le}
+-- One declaration of a file more in the table (for the crates above).
+use Rattle.std.proofs.Common.{◌≡◌, ℕ, ◌+◌, ◌<◌, ◌≤◌, List, [], ◌∷◌, ◌++◌, length, get_or, take, drop, refl, sym, ◌∙◌, ap, subst, inl, inr, arith, length-append, append_assoc, append-nil, length-take, length-take-le}
+use Rattle.std.specs.Cow.{cow_str_bytes}
 use Rattle.proto_faults.proofs.Common.{cases_eq, take_more, drop_all, drop-append-le}
 use Rattle.proto_meaning.proofs.Common.{at, joined, under, front, get_front, get_last}
-use Rattle.proto_table.specs.Common.{Spelled, Symbol as Declaration, Table, NameError, Clash, NoMemory, names_of, IsTable, SymbolIsDeclared, Named, named_in, AreSpelled, AreRowsOf, declaration_of, Holds, IsClashAt, IsKept, IsRowAt, IsRowOf, number_above, StopsIn}
+use Rattle.proto_table.specs.Common.{Spelled, Symbol as Declaration, Table, NameError, Clash, NoMemory, names_of, IsTable, SymbolIsDeclared, Named, named_in, AreSpelled, AreRowsOfNames, declaration_of, Holds, IsClashAt, IsKept, IsRowAt, IsRowOf, number_above, StopsIn}
 use Rattle.proto_table.proofs.Held.{held_more, held_clash, row_kept}
 use Rattle.proto_table.proofs.Naming.{named_kind, named_length, named_place, named_plain, named_text}
 use Rattle.proto_table.proofs.Search.{pick}
 
-pub no_rows : (t : Table) (ds : List Named) (rows : List ℕ) → rows ≡ [] → AreRowsOf t ds rows
+pub no_rows : (t : Table) (ds : List Named) (rows : List ℕ) → rows ≡ [] → AreRowsOfNames t ds rows
 no_rows t ds rows e = record { count = omega (arith, ap length e); each = λ k row d l. absurd (omega (arith, l, ap length e)) }
 
-pub rows_within : (t : Table) (ds : List Named) (rows : List ℕ) → AreRowsOf t ds rows → (k row : ℕ) → k < length rows → get_or rows k row < length t.rows.items
+pub rows_within : (t : Table) (ds : List Named) (rows : List ℕ) → AreRowsOfNames t ds rows → (k row : ℕ) → k < length rows → get_or rows k row < length t.rows.items
 rows_within t ds rows r k row l = let n = r.count in (r.each k row (pick ds k (omega (arith, l, n))) l).within
 
-pub rows_kept : (old new : Table) (ds : List Named) (rows : List ℕ) → IsKept old new → AreRowsOf old ds rows → AreRowsOf new ds rows
+pub rows_kept : (old new : Table) (ds : List Named) (rows : List ℕ) → IsKept old new → AreRowsOfNames old ds rows → AreRowsOfNames new ds rows
 rows_kept old new ds rows kept r = record { count = r.count; each = λ k row d l. row_kept old new (get_or ds k d) (get_or rows k row) kept (r.each k row d l) }
 
-rows_more : (t : Table) (ds : List Named) (rows : List ℕ) (row : ℕ) → AreRowsOf t ds rows → length rows < length ds → ((d : Named) → IsRowAt t (get_or ds (length rows) d) row) → AreRowsOf t ds (rows ++ row ∷ [])
+rows_more : (t : Table) (ds : List Named) (rows : List ℕ) (row : ℕ) → AreRowsOfNames t ds rows → length rows < length ds → ((d : Named) → IsRowAt t (get_or ds (length rows) d) row) → AreRowsOfNames t ds (rows ++ row ∷ [])
 rows_more t ds rows row r l new =
     let size = length-append rows (row ∷ []) in
     record {
@@ -63,12 +64,12 @@ segment_more ds own start k d s l =
     ∙ sym (append_assoc ds (drop start (take k own)) (get_or own k d ∷ []))
 
 -- the entry with the row that it was declared in
-module _ (t t' : Table) (file : ℕ) (ss : List Spelled) (rows : List ℕ) (k : ℕ) (s : Spelled) (is : s ≡ get_or ss k s) (ok : AreSpelled ss) (l : k < length ss) (size : length rows ≡ k) (known : AreRowsOf t (named_in file ss) rows) where
+module _ (t t' : Table) (file : ℕ) (ss : List Spelled) (rows : List ℕ) (k : ℕ) (s : Spelled) (is : s ≡ get_or ss k s) (ok : AreSpelled ss) (l : k < length ss) (size : length rows ≡ k) (known : AreRowsOfNames t (named_in file ss) rows) where
   abbrev text : List ℕ
-  text = under (front (names_of t) (number_above rows s.above)) (string_bytes s.word)
+  text = under (front (names_of t) (number_above rows s.above)) (cow_str_bytes s.word)
 
   text_is : (d : Named) → text ≡ joined (get_or (named_in file ss) k d).name
-  text_is d = ap (λ (z : Spelled). under (front (names_of t) (number_above rows z.above)) (string_bytes z.word)) is ∙ named_text t file ss rows k s d ok known size l
+  text_is d = ap (λ (z : Spelled). under (front (names_of t) (number_above rows z.above)) (cow_str_bytes z.word)) is ∙ named_text t file ss rows k s d ok known size l
 
   kind_is : (d : Named) → (get_or (named_in file ss) k d).kind ≡ s.kind
   kind_is d = named_kind file ss k s d ok l ∙ ap (λ z. z.kind) (sym is)
@@ -92,7 +93,7 @@ module _ (t t' : Table) (file : ℕ) (ss : List Spelled) (rows : List ℕ) (k : 
       ];
     }
 
-    pub rows_next : AreRowsOf t' (named_in file ss) (rows ++ row ∷ [])
+    pub rows_next : AreRowsOfNames t' (named_in file ss) (rows ++ row ∷ [])
     rows_next =
         let n = named_length file ss in
         rows_more t' (named_in file ss) rows row (rows_kept t t' (named_in file ss) rows there.kept known) (omega (arith, size, l, n)) (λ d. subst (λ z. IsRowAt t' (get_or (named_in file ss) z d) row) (sym size) (row_at d))

@@ -2,7 +2,7 @@ pub mod Alike
 mod Clashing
 pub mod Common
 mod Copied
-mod Filled
+pub mod Filled
 mod Forgotten
 mod Gathered
 pub mod Held

@@ -1,12 +1,13 @@
 -- The declarations of files by their full names (for the crates above).
-use Rattle.std.proofs.Common.{◌≡◌, ◌≢◌, ◌⊎◌, ℕ, zero, suc, ◌+◌, ◌-◌, ◌<◌, ◌≤◌, List, [], ◌∷◌, ◌++◌, length, get_or, map, take, drop, refl, sym, ◌∙◌, ap, subst, inl, inr, arith, string_bytes, length-append, append_assoc, AllPairs, Contains, append-nil}
+use Rattle.std.proofs.Common.{◌≡◌, ◌≢◌, ◌⊎◌, ℕ, zero, suc, ◌+◌, ◌-◌, ◌<◌, ◌≤◌, List, [], ◌∷◌, ◌++◌, length, get_or, map, take, drop, refl, sym, ◌∙◌, ap, subst, inl, inr, arith, length-append, append_assoc, AllPairs, Contains, append-nil}
+use Rattle.std.specs.Cow.{cow_str_bytes}
 use Rattle.proto_faults.proofs.Common.{cases_eq, cases_lt, get_or-map, length-map, map-append, get_or_at, get_or-append_right, get_or_default, Contains-append_cases}
 use Rattle.proto_meaning.specs.declared.kind.Kind.TheVariants.{Package}
 use Rattle.proto_meaning.proofs.Common.{at, joined, ArePlain, IsPlain, under, front, get_front}
 use Rattle.proto_listing.specs.Listing.{needs}
 use Rattle.proto_listing.specs.declared.listing.Above.{Above}
 use Rattle.proto_listing.specs.declared.listing.Above.TheVariants.{Outermost, Below}
-use Rattle.proto_table.specs.Common.{Spelled, Table, names_of, Named, name_above, named_by, named_on, named_in, all_named, AreSpelled, AreInFront, AreRowsOf, number_above}
+use Rattle.proto_table.specs.Common.{Spelled, Table, names_of, Named, name_above, named_by, named_on, named_in, all_named, AreSpelled, AreInFront, AreRowsOfNames, number_above}
 use Rattle.proto_table.proofs.Search.{joined_more, pick}
 
 pub contains_at : {X : Type 0} (xs : List X) (i : ℕ) (d : X) → i < length xs → Contains xs (get_or xs i d)
@@ -30,7 +31,7 @@ above_front before xs Outermost l = refl
 above_front before xs (Below k) l = ap (λ z. get_or z k []) (map-append (λ d. d.name) before xs) ∙ get_front (map (λ d. d.name) before) (map (λ d. d.name) xs) k [] (let n = length-map before (λ d. d.name) in omega (arith, l, n))
 
 by_name : (file : ℕ) (xs ys : List Named) (s : Spelled) → name_above xs s.above ≡ name_above ys s.above → named_by file xs s ≡ named_by file ys s
-by_name file xs ys s e = ap (λ (z : List (List ℕ)). let i : Named = record { name = z ++ string_bytes s.word ∷ []; kind = s.kind; place = at file s.token } in i) e
+by_name file xs ys s e = ap (λ (z : List (List ℕ)). let i : Named = record { name = z ++ cow_str_bytes s.word ∷ []; kind = s.kind; place = at file s.token } in i) e
 
 on_front : (file : ℕ) (before : List Named) (ss : List Spelled) → (xs : List Named) × (named_on file before ss ≡ before ++ xs)
 on_front file before [] = ([], sym (append-nil before))
@@ -92,7 +93,7 @@ front_plain file ss (suc n) k d ok kn l =
     let h = ok.ordered k s l in
     let size = named_length file ss in
     subst (λ z. ArePlain z.name) (sym (named_at file ss k s d ok l))
-    (plain_last (name_above (named_in file ss) (get_or ss k s).above) (string_bytes (get_or ss k s).word)
+    (plain_last (name_above (named_in file ss) (get_or ss k s).above) (cow_str_bytes (get_or ss k s).word)
     (above_plain (named_in file ss) (get_or ss k s).above d (omega (arith, h, l, size)) (λ j lj. front_plain file ss n j d ok (omega (arith, lj, h, kn)) (omega (arith, lj, h, l))))
     (ok.plain k s l))
 
@@ -100,7 +101,7 @@ pub named_plain : (file : ℕ) (ss : List Spelled) (k : ℕ) (d : Named) → Are
 named_plain file ss k d ok l = front_plain file ss (suc k) k d ok (omega arith) l
 
 -- the text above an entry, by the row of what it stands below
-above_text : (t : Table) (ds : List Named) (rows : List ℕ) (a : Above) (d : Named) → AreRowsOf t ds rows → needs a ≤ length rows → front (names_of t) (number_above rows a) ≡ joined (name_above ds a)
+above_text : (t : Table) (ds : List Named) (rows : List ℕ) (a : Above) (d : Named) → AreRowsOfNames t ds rows → needs a ≤ length rows → front (names_of t) (number_above rows a) ≡ joined (name_above ds a)
 above_text t ds rows Outermost d r l = refl
 above_text t ds rows (Below j) d r l =
     let z : get_or rows j 0 + 1 ≡ suc (get_or rows j 0) = omega arith in
@@ -108,12 +109,12 @@ above_text t ds rows (Below j) d r l =
     ap (front (names_of t)) z ∙ (r.each j 0 d (omega (arith, l))).name ∙ ap joined (sym (get_or-map (λ x. x.name) ds j d [] (omega (arith, l, c))))
 
 -- the text of the next entry
-pub named_text : (t : Table) (file : ℕ) (ss : List Spelled) (rows : List ℕ) (k : ℕ) (s : Spelled) (d : Named) → AreSpelled ss → AreRowsOf t (named_in file ss) rows → length rows ≡ k → k < length ss
-    → under (front (names_of t) (number_above rows (get_or ss k s).above)) (string_bytes (get_or ss k s).word) ≡ joined (get_or (named_in file ss) k d).name
+pub named_text : (t : Table) (file : ℕ) (ss : List Spelled) (rows : List ℕ) (k : ℕ) (s : Spelled) (d : Named) → AreSpelled ss → AreRowsOfNames t (named_in file ss) rows → length rows ≡ k → k < length ss
+    → under (front (names_of t) (number_above rows (get_or ss k s).above)) (cow_str_bytes (get_or ss k s).word) ≡ joined (get_or (named_in file ss) k d).name
 named_text t file ss rows k s d ok r e l =
     let h = ok.ordered k s l in
     let size = named_length file ss in
-    let w = string_bytes (get_or ss k s).word in
+    let w = cow_str_bytes (get_or ss k s).word in
     ap (λ z. under z w) (above_text t (named_in file ss) rows (get_or ss k s).above d r (omega (arith, h, e)))
     ∙ sym (joined_more (name_above (named_in file ss) (get_or ss k s).above) w
     (above_plain (named_in file ss) (get_or ss k s).above d (omega (arith, h, l, size)) (λ j lj. named_plain file ss j d ok (omega (arith, lj, h, l)))))

@@ -3,7 +3,7 @@ use Rattle.std.proofs.Common.{◌≡◌, ◌≢◌, ℕ, zero, suc, ◌<◌, fal
 use Rattle.proto_faults.proofs.Common.{cases_eq, get_or_default}
 use Rattle.std.proofs.lemmas.List.{length-set, get_or-set_same, get_or-set_other}
 use Rattle.proto_meaning.specs.Forest.{IsForest}
-use Rattle.proto_table.specs.Common.{Row, Table, IsTable, AreAlone, aboves_of, is_shared, look, names_of}
+use Rattle.proto_table.specs.Common.{Row, Table, IsTable, AreAlone, aboves_of, is_shared_row, look, names_of}
 use Rattle.proto_table.specs.Indexes.{aboves_in, HasWords}
 
 pub map_set_same : {X Y : Type 0} (f : X → Y) (xs : List X) (i : ℕ) (x : X) → i < length xs → ((d : X) → f x ≡ f (get_or xs i d)) → map f (slice_set xs i x) ≡ map f xs
@@ -31,13 +31,13 @@ module _ (t t' : Table) (k : ℕ) (r r' : Row) (l : k < length t.rows.items) (is
   pub there : (j : ℕ) (d : Row) → j ≢ k → get_or t'.rows.items j d ≡ get_or t.rows.items j d
   there j d ne = ap (λ z. get_or z j d) rows ∙ get_or-set_other t.rows.items k j r' d ne
 
-  alone_same : (is_shared r' ≡ false → r'.more.items ≡ []) → AreAlone t.rows.items → AreAlone t'.rows.items
+  alone_same : (is_shared_row r' ≡ false → r'.more.items ≡ []) → AreAlone t.rows.items → AreAlone t'.rows.items
   alone_same own ok j d lj = elim (cases_eq j k) [
-    | inl e ↦ subst (λ (z : Row). is_shared z ≡ false → z.more.items ≡ []) (sym (ap (λ i. get_or t'.rows.items i d) e ∙ here d)) own
-    | inr ne ↦ subst (λ (z : Row). is_shared z ≡ false → z.more.items ≡ []) (sym (there j d ne)) (ok j d (omega (arith, lj, size_same)))
+    | inl e ↦ subst (λ (z : Row). is_shared_row z ≡ false → z.more.items ≡ []) (sym (ap (λ i. get_or t'.rows.items i d) e ∙ here d)) own
+    | inr ne ↦ subst (λ (z : Row). is_shared_row z ≡ false → z.more.items ≡ []) (sym (there j d ne)) (ok j d (omega (arith, lj, size_same)))
   ]
 
-  pub table_same : (is_shared r' ≡ false → r'.more.items ≡ []) → IsTable t → IsTable t'
+  pub table_same : (is_shared_row r' ≡ false → r'.more.items ≡ []) → IsTable t → IsTable t'
   table_same own ok = record {
     forest = subst (λ z. IsForest z (aboves_of t') (look t')) (sym names_same) (subst (λ z. IsForest (names_of t) z (look t')) (sym aboves_same) (subst (λ z. IsForest (names_of t) (aboves_of t) (look (record { rows = t.rows; below = z }))) (sym below) ok.forest));
     sized = ap (λ z. length z.rows.keys) below ∙ ok.sized ∙ sym size_same;

@@ -3,7 +3,7 @@ use Rattle.std.proofs.Common.{◌≡◌, ◌≢◌, ℕ, zero, suc, ◌+◌, ◌
 use Rattle.proto_faults.proofs.Common.{cases_eq, cases_Bool, cond-true, cond-false, take_more, length-map, get_or-map, take-append-le, Contains-append_cases, Contains-append_left, Contains-append_right, filter-append, contains_map, from_map, contains_filter, from_filter}
 use Rattle.proto_meaning.specs.declared.kind.Kind.TheVariants.{Package}
 use Rattle.proto_meaning.proofs.Common.{Symbol, is_package, Fault, fault, IsLeast, get_front, get_last, package_from, package_or}
-use Rattle.proto_table.specs.Common.{Spelled, Table, NameError, Clash, NoMemory, AreDeclared, IsIndexOf, Named, named_in, all_named, symbol_named, AreSpelled, ClashFault, AreInFront, AreNamesApart, ArePackageRows, AreRows, AreRowsOf, Clashes, Holds, IsKept, IsNameError, StopsIn, packages_in, others_in}
+use Rattle.proto_table.specs.Common.{Spelled, Table, NameError, Clash, NoMemory, AreDeclared, IsIndexOf, Named, named_in, all_named, symbol_named, AreSpelled, ClashFault, AreInFront, AreNamesApart, ArePackageRows, AreRows, AreRowsOfNames, Clashes, Holds, IsKept, IsNameError, StopsIn, packages_in, others_in}
 use Rattle.proto_table.proofs.Clashing.{clash_least, clash_none, held_at, is_other}
 use Rattle.proto_table.proofs.Filled.{rows_kept}
 use Rattle.proto_table.proofs.Held.{index_same}
@@ -116,7 +116,7 @@ packages_next fs i c start l ok f z =
 pub no_package_rows : (t : Table) → AreDeclared t.rows.items → ArePackageRows t [] []
 no_package_rows t declared = record { declared = declared; paired = refl; counts = λ i l. absurd (omega (arith, l)); each = λ i l. absurd (omega (arith, l)) }
 
-pub package_rows_more : (old new : Table) (fs : List (List Spelled)) (rows : List (List ℕ)) (i : ℕ) (own : List ℕ) → i < length fs → IsKept old new → ArePackageRows old (take i fs) rows → AreInFront (length own) (get_or fs i []) → AreRowsOf new (named_in i (get_or fs i [])) own
+pub package_rows_more : (old new : Table) (fs : List (List Spelled)) (rows : List (List ℕ)) (i : ℕ) (own : List ℕ) → i < length fs → IsKept old new → ArePackageRows old (take i fs) rows → AreInFront (length own) (get_or fs i []) → AreRowsOfNames new (named_in i (get_or fs i [])) own
     → ArePackageRows new (take (i + 1) fs) (rows ++ own ∷ [])
 package_rows_more old new fs rows i own l kept r front rows_own =
     let n = length-take-le i fs (omega (arith, l)) in
@@ -139,12 +139,12 @@ package_rows_more old new fs rows i own l kept r front rows_own =
       each = λ j lj. elim (cases_eq j (length rows)) [
         | inl e ↦
             let ji : j ≡ i = omega (arith, e, n, p) in
-            subst (AreRowsOf new (named_in j (get_or (take (i + 1) fs) j []))) (sym (last j e))
-            (subst (λ z. AreRowsOf new (named_in j z) own) (sym (own_at j ji)) (subst (λ z. AreRowsOf new (named_in z (get_or fs i [])) own) (sym ji) rows_own))
+            subst (AreRowsOfNames new (named_in j (get_or (take (i + 1) fs) j []))) (sym (last j e))
+            (subst (λ z. AreRowsOfNames new (named_in j z) own) (sym (own_at j ji)) (subst (λ z. AreRowsOfNames new (named_in z (get_or fs i [])) own) (sym ji) rows_own))
         | inr ne ↦
             let lr : j < length rows = omega (arith, lj, ne, n, m, p) in
-            subst (AreRowsOf new (named_in j (get_or (take (i + 1) fs) j []))) (sym (get_front rows (own ∷ []) j [] lr))
-            (subst (λ z. AreRowsOf new (named_in j z) (get_or rows j [])) (before j (omega (arith, lr, n, p))) (rows_kept old new (named_in j (get_or (take i fs) j [])) (get_or rows j []) kept (r.each j (omega (arith, lr, p)))))
+            subst (AreRowsOfNames new (named_in j (get_or (take (i + 1) fs) j []))) (sym (get_front rows (own ∷ []) j [] lr))
+            (subst (λ z. AreRowsOfNames new (named_in j z) (get_or rows j [])) (before j (omega (arith, lr, n, p))) (rows_kept old new (named_in j (get_or (take i fs) j [])) (get_or rows j []) kept (r.each j (omega (arith, lr, p)))))
       ];
     }
   where
@@ -165,7 +165,7 @@ pub record AreRowsTo (t : Table) (fs : List (List Spelled)) (rows : List (List �
   pub paired : length rows ≡ length fs
   pub counts : (j : ℕ) → j < i → j < length fs → length (get_or rows j []) ≡ length (get_or fs j [])
   pub fronts : (j : ℕ) → i ≤ j → j < length fs → AreInFront (length (get_or rows j [])) (get_or fs j [])
-  pub each : (j : ℕ) → j < length fs → AreRowsOf t (named_in j (get_or fs j [])) (get_or rows j [])
+  pub each : (j : ℕ) → j < length fs → AreRowsOfNames t (named_in j (get_or fs j [])) (get_or rows j [])
 
 -- before the first file
 pub rows_first : (t : Table) (fs : List (List Spelled)) (rows : List (List ℕ)) → ArePackageRows t fs rows → AreRowsTo t fs rows 0
@@ -179,7 +179,7 @@ rows_last t fs rows i e r = record {
   each = λ j k row d lj lk. (r.each j lj).each k row d (let n = r.counts j (omega (arith, lj, e)) lj in omega (arith, lk, n));
 }
 
-pub rows_file : (old new : Table) (fs : List (List Spelled)) (rows rows' : List (List ℕ)) (i : ℕ) (own : List ℕ) → i < length fs → IsKept old new → AreRowsTo old fs rows i → rows' ≡ slice_set rows i own → length own ≡ length (get_or fs i []) → AreRowsOf new (named_in i (get_or fs i [])) own → AreRowsTo new fs rows' (i + 1)
+pub rows_file : (old new : Table) (fs : List (List Spelled)) (rows rows' : List (List ℕ)) (i : ℕ) (own : List ℕ) → i < length fs → IsKept old new → AreRowsTo old fs rows i → rows' ≡ slice_set rows i own → length own ≡ length (get_or fs i []) → AreRowsOfNames new (named_in i (get_or fs i [])) own → AreRowsTo new fs rows' (i + 1)
 rows_file old new fs rows rows' i own l kept r set full rows_own =
     let p = r.paired in
     let here : get_or rows' i [] ≡ own = ap (λ z. get_or z i []) set ∙ get_or-set_same rows i own [] (omega (arith, l, p)) in
@@ -193,8 +193,8 @@ rows_file old new fs rows rows' i own l kept r set full rows_own =
       ];
       fronts = λ j lj lf. subst (λ z. AreInFront (length z) (get_or fs j [])) (sym (there j (λ e. omega (arith, e, lj)))) (r.fronts j (omega (arith, lj)) lf);
       each = λ j lf. elim (cases_eq j i) [
-        | inl e ↦ subst (λ z. AreRowsOf new (named_in z (get_or fs z [])) (get_or rows' z [])) (sym e) (subst (AreRowsOf new (named_in i (get_or fs i []))) (sym here) rows_own)
-        | inr ne ↦ subst (AreRowsOf new (named_in j (get_or fs j []))) (sym (there j ne)) (rows_kept old new (named_in j (get_or fs j [])) (get_or rows j []) kept (r.each j lf))
+        | inl e ↦ subst (λ z. AreRowsOfNames new (named_in z (get_or fs z [])) (get_or rows' z [])) (sym e) (subst (AreRowsOfNames new (named_in i (get_or fs i []))) (sym here) rows_own)
+        | inr ne ↦ subst (AreRowsOfNames new (named_in j (get_or fs j []))) (sym (there j ne)) (rows_kept old new (named_in j (get_or fs j [])) (get_or rows j []) kept (r.each j lf))
       ];
     }
 

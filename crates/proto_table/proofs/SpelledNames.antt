@@ -1,5 +1,6 @@
 -- Declarations with their last words have the names that their paths spell (for the crates above).
-use Rattle.std.proofs.Common.{◌≡◌, ◌≢◌, ℕ, zero, suc, ◌<◌, ◌≤◌, List, [], ◌∷◌, ◌++◌, length, get_or, map, refl, sym, ◌∙◌, ap, subst, arith, append_assoc, string_bytes, Option, Some, append-nil}
+use Rattle.std.proofs.Common.{◌≡◌, ◌≢◌, ℕ, zero, suc, ◌<◌, ◌≤◌, List, [], ◌∷◌, ◌++◌, length, get_or, map, refl, sym, ◌∙◌, ap, subst, arith, append_assoc, Option, Some, append-nil}
+use Rattle.std.specs.Cow.{cow_str_bytes}
 use Rattle.std.proofs.lemmas.List.{map-append, append_cancel_left, length-map, get_or-map}
 use Rattle.proto_meaning.specs.declared.kind.Kind.{Kind}
 use Rattle.proto_meaning.specs.declared.kind.Kind.TheVariants.{Package}
@@ -36,7 +37,7 @@ pub record Bare : Type 0 where
   pub token : ℕ
 
 abbrev pub bare : Spelled → Bare
-bare s = record { above = s.above; word = string_bytes s.word; kind = s.kind; token = s.token }
+bare s = record { above = s.above; word = cow_str_bytes s.word; kind = s.kind; token = s.token }
 
 abbrev pub bare_of : (ℕ → List ℕ) → Listed → Bare
 bare_of text e = record { above = e.above; word = last_word text e; kind = e.kind; token = e.token }

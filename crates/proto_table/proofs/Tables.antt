@@ -13,7 +13,7 @@ use Rattle.proto_meaning.specs.Joined.{IsPlain}
 use Rattle.proto_meaning.specs.Forest.{under, front, IsForest}
 use Rattle.proto_table.specs.declared.index.Below.{Below}
 use Rattle.proto_table.specs.Indexes.{aboves_in, HasWords, is_below_number, word_place}
-use Rattle.proto_table.specs.Tables.{names_of, aboves_of, is_shared, look, AreAlone, IsTable}
+use Rattle.proto_table.specs.Tables.{names_of, aboves_of, is_shared_row, look, AreAlone, IsTable}
 use Rattle.proto_table.proofs.Positions.{nowhere}
 use Rattle.proto_table.proofs.IndexAdded.{first_false, second_false, both_true}
 use Rattle.proto_faults.proofs.Lists.{word_from_same, same_from_word}
@@ -113,7 +113,7 @@ table_added t t' p word r ok lp plain none rows name above here keyed long words
       sized = omega (arith, long, size, lr, ap length rows);
       keyed = keyed ∙ ap (λ z. z ++ p ∷ []) ok.keyed ∙ sym aboves;
       words = words;
-      alone = subst AreAlone (sym rows) (All-push (λ (z : Row). is_shared z ≡ false → z.more.items ≡ []) t.rows.items r ok.alone (λ _. none_more));
+      alone = subst AreAlone (sym rows) (All-push (λ (z : Row). is_shared_row z ≡ false → z.more.items ≡ []) t.rows.items r ok.alone (λ _. none_more));
     }
   where
     differs : (w v : List ℕ) → v ≢ w → bytes_eq w v ≡ false

@@ -46,7 +46,7 @@ pub record AreRows (t : Table) (files : List (List Spelled)) (rows : List (List 
       → IsRowAt t (get_or (named_in i (get_or files i [])) k d) (get_or (get_or rows i []) k row)
 
 -- the rows of the first of some declarations
-pub record AreRowsOf (t : Table) (ds : List Named) (rows : List ℕ) : Type 0 where
+pub record AreRowsOfNames (t : Table) (ds : List Named) (rows : List ℕ) : Type 0 where
   pub count : length rows ≤ length ds
   pub each : (k row : ℕ) (d : Named) → k < length rows
       → IsRowAt t (get_or ds k d) (get_or rows k row)
@@ -75,14 +75,14 @@ pub record IsKept (old new : Table) : Type 0 where
   pub declared : AreDeclared old.rows.items → AreDeclared new.rows.items
 
 -- the table has no such row, or no file declares it
-abbrev pub IsFree : Table → ℕ → Type 0
-IsFree t row =
+abbrev pub IsRowFree : Table → ℕ → Type 0
+IsRowFree t row =
     row < length t.rows.items → (r : Row) → (get_or t.rows.items row r).is_declared ≡ false
 
 -- the row was free and now is the symbol's, or was there as a package's
 abbrev pub IsNewOrPackage : Table → Table → Declaration → ℕ → Type 0
 IsNewOrPackage old new symbol row =
-    (IsFree old row × ((r : Row) → (get_or new.rows.items row r).symbol ≡ symbol))
+    (IsRowFree old row × ((r : Row) → (get_or new.rows.items row r).symbol ≡ symbol))
     ⊎ ((row < length old.rows.items) × (symbol.kind ≡ Package)
     × ((r : Row) → (get_or old.rows.items row r).symbol.kind ≡ Package)
     × ((r : Row) → (get_or old.rows.items row r).is_declared ≡ true))
@@ -154,4 +154,4 @@ pub record ArePackageRows (t : Table) (files : List (List Spelled)) (rows : List
   pub counts : (i : ℕ) → i < length files
       → AreInFront (length (get_or rows i [])) (get_or files i [])
   pub each : (i : ℕ) → i < length files
-      → AreRowsOf t (named_in i (get_or files i [])) (get_or rows i [])
+      → AreRowsOfNames t (named_in i (get_or files i [])) (get_or rows i [])

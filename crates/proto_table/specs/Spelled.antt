@@ -1,5 +1,6 @@
 -- Declarations by their full names, and names that clash.
-use Rattle.std.specs.Prelude.{◌≡◌, ◌≢◌, ℕ, suc, ◌<◌, ◌≤◌, List, [], ◌∷◌, ◌++◌, length, get_or, map, string_bytes}
+use Rattle.std.specs.Prelude.{◌≡◌, ◌≢◌, ℕ, suc, ◌<◌, ◌≤◌, List, [], ◌∷◌, ◌++◌, length, get_or, map}
+use Rattle.std.specs.Cow.{cow_str_bytes}
 use Rattle.std.specs.List.{All, AllPairs, Contains}
 use Rattle.proto_meaning.specs.declared.kind.Kind.{Kind}
 use Rattle.proto_meaning.specs.declared.kind.Kind.TheVariants.{Package}
@@ -26,7 +27,7 @@ name_above before (Below k) = get_or (map (λ d. d.name) before) k []
 -- a declaration of a file with its full name, given those before it
 abbrev pub named_by : ℕ → List Named → Spelled → Named
 named_by file before s = record {
-  name = name_above before s.above ++ string_bytes s.word ∷ [];
+  name = name_above before s.above ++ cow_str_bytes s.word ∷ [];
   kind = s.kind;
   place = at file s.token;
 }
@@ -53,7 +54,7 @@ symbol_named d = record { name = d.name; kind = d.kind; file = d.place.file }
 -- tokens.
 pub record AreSpelled (ss : List Spelled) : Type 0 where
   pub ordered : (k : ℕ) (d : Spelled) → k < length ss → needs (get_or ss k d).above ≤ k
-  pub plain : All (λ s. IsPlain (string_bytes s.word)) ss
+  pub plain : All (λ s. IsPlain (cow_str_bytes s.word)) ss
   pub packages : AllPairs (λ s t. t.kind ≡ Package → s.kind ≡ Package) ss
   pub rising : AllPairs (λ s t. s.kind ≢ Package → s.token ≤ t.token) ss
 

@@ -26,12 +26,12 @@ abbrev pub files_of : Row → List ℕ
 files_of r = if r.is_declared then r.symbol.file ∷ r.more.items else []
 
 -- many files may declare its name: it is a package, which some file declares
-abbrev pub is_shared : Row → Bool
-is_shared r = r.is_declared && is_package r.symbol.kind
+abbrev pub is_shared_row : Row → Bool
+is_shared_row r = r.is_declared && is_package r.symbol.kind
 
 -- a name that no two files may declare has no further file
 abbrev pub AreAlone : List Row → Type 0
-AreAlone rows = All (λ r. is_shared r ≡ false → r.more.items ≡ []) rows
+AreAlone rows = All (λ r. is_shared_row r ≡ false → r.more.items ≡ []) rows
 
 -- some file declares each of these rows
 abbrev pub AreDeclared : List Row → Type 0

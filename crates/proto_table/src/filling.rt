@@ -1,9 +1,10 @@
 //! The names of all files in a table, packages first, or the first name that clashes.
 
-ghost use Rattle.std.specs.Prelude.{◌≡◌, ℕ, ◌<◌, ◌≤◌, ◌^◌, List, [], ◌++◌, length, get_or, map, take, drop, string_bytes, IfOk, IfErr, OnOk};
+ghost use Rattle.std.specs.Prelude.{◌≡◌, ℕ, ◌<◌, ◌≤◌, ◌^◌, List, [], ◌++◌, length, get_or, map, take, drop, IfOk, IfErr, OnOk};
+ghost use Rattle.std.specs.Cow.{cow_str_bytes};
 ghost use Rattle.std.specs.List.{All};
 ghost use Rattle.proto_meaning.specs.Faults.{Fault};
-ghost use Rattle.proto_table.specs.Filling.{AreInFront, ArePackageRows, AreRows, AreRowsOf, declaration_of, Holds, IsClashAt, IsKept, IsNameError, IsRowOf, number_above, others_in, packages_in, StopsIn};
+ghost use Rattle.proto_table.specs.Filling.{AreInFront, ArePackageRows, AreRows, AreRowsOfNames, declaration_of, Holds, IsClashAt, IsKept, IsNameError, IsRowOf, number_above, others_in, packages_in, StopsIn};
 ghost use Rattle.proto_meaning.specs.Forest.{front, under};
 ghost use Rattle.proto_meaning.specs.Joined.{IsPlain};
 ghost use Rattle.proto_listing.specs.Listing.{needs};
@@ -193,11 +194,11 @@ fn fill(
     requires spelled { AreSpelled spelled.now }
     requires end { end ≤ length spelled.now }
     requires start { length rows.items ≤ end }
-    requires rows { AreRowsOf table (named_in file spelled.now) rows.items }
+    requires rows { AreRowsOfNames table (named_in file spelled.now) rows.items }
     ensures table { IfOk result (λ x. IsTable x.0) }
     ensures kept { IfOk result (λ x. IsKept table x.0) }
     ensures count { IfOk result (λ x. length x.1.items ≡ end) }
-    ensures rows { IfOk result (λ x. AreRowsOf x.0 (named_in file spelled.now) x.1.items) }
+    ensures rows { IfOk result (λ x. AreRowsOfNames x.0 (named_in file spelled.now) x.1.items) }
     ensures held { IfOk result (λ x. (ds : List Named) → Holds table ds
         → Holds x.0 (ds ++ drop (length rows.items) (take end (named_in file spelled.now)))) }
     ensures fault { IfErr result (λ e. (ds : List Named)
@@ -223,19 +224,19 @@ fn declare_one(
 ) -> Result<usize, NameError>
     requires table { IsTable table.old }
     requires ordered { needs spelled.now.above ≤ length rows.now }
-    requires plain { IsPlain (string_bytes spelled.now.word) }
+    requires plain { IsPlain (cow_str_bytes spelled.now.word) }
     requires within { (k row : ℕ) → k < length rows.now
         → get_or rows.now k row < length table.old.rows.items }
     ensures table { OnOk result (IsTable table.new) }
     ensures row { IfOk result (IsRowOf table.old table.new
         (under (front (names_of table.old) (number_above rows.now spelled.now.above))
-        (string_bytes spelled.now.word)) (declaration_of file spelled.now)) }
+        (cow_str_bytes spelled.now.word)) (declaration_of file spelled.now)) }
     ensures index { OnOk result (SymbolIsDeclared table.old table.new
         (under (front (names_of table.old) (number_above rows.now spelled.now.above))
-        (string_bytes spelled.now.word)) (declaration_of file spelled.now)) }
+        (cow_str_bytes spelled.now.word)) (declaration_of file spelled.now)) }
     ensures clash { IfErr result (IsClashAt table.old
         (under (front (names_of table.old) (number_above rows.now spelled.now.above))
-        (string_bytes spelled.now.word)) (declaration_of file spelled.now)) }
+        (cow_str_bytes spelled.now.word)) (declaration_of file spelled.now)) }
 {
     let above = match spelled.above {
         Above::Outermost => 0,

@@ -1,7 +1,7 @@
 //! The declarations of a file with their last words.
 
 ghost use Rattle.std.specs.Prelude.{◌≡◌, ◌<◌, ◌≤◌, ℕ, length, get_or, map, Some, IfOk};
-ghost use Rattle.std.specs.String.{string_bytes};
+ghost use Rattle.std.specs.Cow.{cow_str_bytes};
 ghost use Rattle.proto_text.specs.Texts.{word_at};
 ghost use Rattle.proto_table.specs.LastWords.{AreListed, EntriesAreKept, last_word, named_as};
 ghost use Rattle.proto_listing.specs.Listing.{last_token, needs, read, whole};
@@ -13,33 +13,30 @@ use proto_faults::NoMemory;
 use proto_files::Words;
 use proto_listing::listing::{LastWord, Listed};
 use std::alloc::Global;
+use std::borrow::CowStr;
 
-/// A text of its own.
-fn copy_text(alloc: Global, text: &str) -> Result<String, NoMemory>
-    ensures { IfOk result (λ word. string_bytes word ≡ text.now) }
-{
-    Ok(String::from_str(alloc, text)?)
-}
-
-/// The last word of a declaration's name.
-fn last_word(alloc: Global, words: &Words, entry: &Listed) -> Result<String, NoMemory>
-    ensures { IfOk result (λ word. string_bytes word ≡ last_word (word_at words.now) entry.now) }
+/// The last word of a declaration's name, borrowed unless it is that of a map's entry.
+fn last_word<'a>(alloc: Global, words: &Words<'a>, entry: &Listed) -> Result<CowStr<'a>, NoMemory>
+    ensures { IfOk result (λ word. cow_str_bytes word ≡ last_word (word_at words.now) entry.now) }
 {
     match entry.word {
-        LastWord::Text => copy_text(alloc, words.get(entry.token)),
-        LastWord::EntryName => entry_name(alloc, words.get(entry.token)),
-        LastWord::Key => copy_text(alloc, "key"),
-        LastWord::Value => copy_text(alloc, "value"),
+        LastWord::Text => Ok(CowStr::Borrowed(words.get(entry.token))),
+        LastWord::EntryName => {
+            let name = entry_name(alloc, words.get(entry.token))?;
+            Ok(CowStr::Owned(name))
+        }
+        LastWord::Key => Ok(CowStr::Borrowed("key")),
+        LastWord::Value => Ok(CowStr::Borrowed("value")),
     }
 }
 
 /// The declarations of a file, in their order, with their last words. Refused for want of memory
 /// alone.
-pub fn spelled_names(
+pub fn spelled_names<'a>(
     alloc: Global,
-    words: &Words,
+    words: &Words<'a>,
     declared: &[Listed],
-) -> Result<Vec<Spelled>, NoMemory>
+) -> Result<Vec<Spelled<'a>>, NoMemory>
     requires ordered { (k : ℕ) (d : Listed) → k
         < length declared.now → needs (get_or declared.now k d).above ≤ k }
     requires tokens { map (λ e. Some e.token) declared.now

@@ -2,15 +2,16 @@
 
 use proto_listing::listing::Above;
 use proto_meaning::Kind;
+use std::borrow::CowStr;
 
 /// A declaration of a file: what it stands right below, by its index among those of the file, and
 /// its last word.
 #[derive(Drop)]
-pub struct Spelled {
+pub struct Spelled<'a> {
     /// What it stands right below.
     pub above: Above,
-    /// The last word of its full name.
-    pub word: String,
+    /// The last word of its full name; a text of its own for a map's entry alone.
+    pub word: CowStr<'a>,
     /// What it declares.
     pub kind: Kind,
     /// The token that it stands at, by its index among those of the file.

@@ -13,6 +13,7 @@ ghost use Rattle.proto_meaning.specs.declared.kind.Kind.TheVariants.{Package};
 ghost use Rattle.proto_table.specs.Resolved.{IsAsked, SymbolIsDeclared, IsIndexOf, IsTaken, IsTypeAt, IsWithout, under_all};
 ghost use Rattle.proto_meaning.specs.Marks.{MarksSeen};
 ghost use Rattle.proto_table.specs.Search.{is_seen, passes, HitsAt, IsHit};
+ghost use Rattle.proto_table.specs.Undone.{TakesRow};
 ghost use Rattle.proto_table.specs.Tables.{AreAlike, IsTable, IsUnchanged, with_declaration, names_of, look, row_of};
 
 use crate::index::Index;
@@ -280,8 +281,9 @@ impl Table {
     /// Declares a symbol by the number of the name above it; answers the index of its row, which is
     /// the old one where its name was declared before. Packages alone share a name: none for
     /// another symbol whose name is taken. Refused for want of memory alone. Where it declares
-    /// nothing, the table stays as it was.
-    pub(crate) fn declare(
+    /// nothing, the table stays as it was. `cut_back` and `put_back` take back what it changes, but
+    /// for a further file of a package: what keeps a log finds packages and does not declare them.
+    pub fn declare(
         &mut self,
         alloc: Global,
         above: usize,
@@ -297,6 +299,7 @@ impl Table {
             (under (front (names_of self.old) above) word.now) symbol)) }
         ensures row { IfOk result (λ o. IfSome o
             (IsRowOf self.old self.new (under (front (names_of self.old) above) word.now) symbol)) }
+        ensures change { IfOk result (λ o. IfSome o (TakesRow self.old self.new symbol)) }
         ensures clash { IfOk result (λ o. IfNone o
             (IsTaken self.old (under (front (names_of self.old) above) word.now) symbol)) }
         ensures clash_kept { IfOk result (λ o. IfNone o (IsUnchanged self.old self.new)) }
@@ -322,6 +325,7 @@ impl Table {
             (λ _. SymbolIsDeclared self.old self.new (get_or (names_of self.old) row []) symbol)) }
         ensures row { IfOk result (λ o. IfSome o
             (IsRowOf self.old self.new (get_or (names_of self.old) row []) symbol)) }
+        ensures change { IfOk result (λ o. IfSome o (TakesRow self.old self.new symbol)) }
         ensures clash { IfOk result (λ o. IfNone o
             (IsTaken self.old (get_or (names_of self.old) row []) symbol)) }
         ensures clash_kept { IfOk result (λ o. IfNone o (IsUnchanged self.old self.new)) }
@@ -347,6 +351,7 @@ impl Table {
             (λ _. SymbolIsDeclared self.old self.new (get_or (names_of self.old) row []) symbol)) }
         ensures row { IfOk result (λ o. IfSome o
             (IsRowOf self.old self.new (get_or (names_of self.old) row []) symbol)) }
+        ensures change { IfOk result (λ o. IfSome o (TakesRow self.old self.new symbol)) }
         ensures clash { IfOk result (λ o. IfNone o
             (IsTaken self.old (get_or (names_of self.old) row []) symbol)) }
         ensures clash_kept { IfOk result (λ o. IfNone o (IsUnchanged self.old self.new)) }
@@ -379,6 +384,7 @@ impl Table {
             (string_bytes r.name ≡ under (front (names_of self.old) above) word.now)
             × (r.symbol ≡ symbol) × (r.more.items ≡ []) × (r.is_declared ≡ true))) }
         ensures front { OnOk result (IsFrontOf self.old.below self.new.below) }
+        ensures change { IfOk result (TakesRow self.old self.new symbol) }
         ensures kept { OnErr result (IsUnchanged self.old self.new) }
     {
         let name = full_name(alloc, self.text(above), word)?;
@@ -427,6 +433,7 @@ impl Table {
         ensures rows { (r : Row) → self.new.rows.items ≡ slice_set self.old.rows.items row
             (with_declaration symbol true (get_or self.old.rows.items row r)) }
         ensures below { self.new.below ≡ self.old.below }
+        ensures change { TakesRow self.old self.new symbol row }
         ensures index { SymbolIsDeclared self.old self.new
             (get_or (names_of self.old) row []) symbol }
     {

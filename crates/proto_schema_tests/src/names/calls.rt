@@ -70,9 +70,13 @@ pub(crate) fn expect_text<R: Abort>(rt: &R, row: &str, found: &str, said: &str) 
     assert!(rt; found == said, "{row}: {found}, not {said}");
 }
 
-/// The files link, or have this fault, as `path:offset: number name`.
-pub(crate) fn expect<R: AllocGlobal + Abort>(rt: &R, given: Given, said: &str) {
-    match link(rt, given, &[]) {
+/// A link is there, or this fault, as `path:offset: number name`.
+pub(crate) fn expect_fault<R: AllocGlobal + Abort>(
+    rt: &R,
+    linked: Result<(), SchemaFault>,
+    said: &str,
+) {
+    match linked {
         Ok(()) => expect_text(rt, "files", "links", said),
         Err(SchemaFault::Schema(fault)) => {
             let (offset, number, name) = (fault.offset, fault.number(), fault.name());
@@ -84,6 +88,11 @@ pub(crate) fn expect<R: AllocGlobal + Abort>(rt: &R, given: Given, said: &str) {
         }
         Err(SchemaFault::NoMemory) => expect_text(rt, "files", "no memory", said),
     }
+}
+
+/// The files link, or have this fault.
+pub(crate) fn expect<R: AllocGlobal + Abort>(rt: &R, given: Given, said: &str) {
+    expect_fault(rt, link(rt, given, &[]), said);
 }
 
 /// Files that are written as one text, and what is answered for them.
@@ -229,7 +238,13 @@ fn tell<R: Abort>(rt: &R, out: &mut String, link: &Link, files: &Files, row: &To
     }
 }
 
-fn expect_rows<R: AllocGlobal + Abort>(rt: &R, link: &Link, files: &Files, rows: &[Told]) {
+/// The link of the files tells each row.
+pub(crate) fn expect_rows<R: AllocGlobal + Abort>(
+    rt: &R,
+    link: &Link,
+    files: &Files,
+    rows: &[Told],
+) {
     for row in rows {
         let mut found = String::new(rt.alloc());
         tell(rt, &mut found, link, files, row);

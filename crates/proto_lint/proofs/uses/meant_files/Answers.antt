@@ -6,7 +6,7 @@ use Rattle.proto_lint.proofs.uses.meant_files.Goals as goal
 
 -- a reference for no place
 abbrev no_reference : Meant
-no_reference = record { token = 0; row = 0 }
+no_reference = record { token = 0; first = 0; row = 0 }
 
 pub loop-meant-preserved : goal.loop-meant-preserved
 loop-meant-preserved c =

@@ -6,12 +6,12 @@ use Rattle.proto_names.proofs.backlinks.put_all.Goals as goal
 
 pub put-requires : goal.put-requires
 put-requires c =
-    let none : Meant = record { token = 0; row = 0 } in
+    let none : Meant = record { token = 0; first = 0; row = 0 } in
     omega (arith, c.requires c.loop-one.one-index none c.loop-one-test.true, c.loop-one.invariant.len)
 
 pub loop-one-preserved : goal.loop-one-preserved
 loop-one-preserved c =
-    let none : Meant = record { token = 0; row = 0 } in
+    let none : Meant = record { token = 0; first = 0; row = 0 } in
     let m = get_or c.args.meant.now c.loop-one.one-index none in
     let old = map (λ v. v.items) c.loop-one.references.items in
     let n = length-map c.loop-one.references.items (λ v. v.items) in

@@ -1,4 +1,4 @@
-use Rattle.std.proofs.Common.{List, [], ◌∷◌, ◌++◌, map, take, sym, ◌∙◌, ap, take_all}
+use Rattle.std.proofs.Common.{[], ◌∷◌, ◌++◌, map, take, sym, ◌∙◌, ap, take_all}
 use Rattle.proto_faults.proofs.Common.{map-append, map_more}
 use Rattle.proto_names.proofs.copying.copied.Goals as goal
 

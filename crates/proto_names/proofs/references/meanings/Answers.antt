@@ -4,7 +4,7 @@ use Rattle.proto_text.specs.Texts.{word_at}
 use Rattle.proto_listing.specs.Listing.{needs}
 use Rattle.proto_table.specs.Filling.{number_above}
 use Rattle.proto_table.specs.Tables.{names_of}
-use Rattle.proto_names.specs.Referring.{first_token_of_use, reference_by, row_flaw, AreMeant}
+use Rattle.proto_names.specs.Referring.{first_token_of_use, reference_by, row_flaw, word_key, AreMeant}
 use Rattle.proto_names.proofs.Referring.{asked_in, row_flawed, row_faultless, meant_step, first_bad}
 use Rattle.proto_names.proofs.references.meanings.Goals.{in-Outermost, in-Below, After-row_meant}
 use Rattle.proto_names.proofs.references.meanings.Goals as goal
@@ -35,10 +35,10 @@ loop-used-preserved c = λ w names read. (
     let asked = asked_in c.args.table.now c.args.seen.now c.args.rows.now names c.args.file w read (word_at c.args.words.now) c.used-item.result within c.match-used.scope scope in
     let is = ap (option_map (λ k. get_or (names_of c.args.table.now) k [])) (sym c.in-Ok.ensures.row.0) ∙ c.in_ok-row.ensures w (f c.used-item.result) asked refl refl in
     let sound = ap (λ o. row_flaw c.args.table.now o c.used-item.result.wants_message) (sym c.in-Ok.ensures.row.0) ∙ c.in-Ok.ensures.row.1 in
-    let items = c.push.ensures.items ∙ cond-true (is_ok c.push.result) (c.loop-used.meant.items ++ record { token = c.token_of-token.result; row = c.in-Ok.row } ∷ []) c.loop-used.meant.items (sym c.map_err.ensures.variant ∙ ap is_ok c.in_ok-map_err-in-Ok.was) in
+    let items = c.push.ensures.items ∙ cond-true (is_ok c.push.result) (c.loop-used.meant.items ++ record { token = c.token_of-token.result; first = c.word_key-first.result; row = c.in-Ok.row } ∷ []) c.loop-used.meant.items (sym c.map_err.ensures.variant ∙ ap is_ok c.in_ok-map_err-in-Ok.was) in
     subst (AreMeant c.args.table.now w (map f (take (c.loop-used.used-index + 1) c.args.uses.now)) (map first_token_of_use (take (c.loop-used.used-index + 1) c.args.uses.now))) (sym items)
-    (meant_step c.args.table.now w f c.args.uses.now c.loop-used.used-index c.loop-used.meant.items c.used-item.result (record { token = c.token_of-token.result; row = c.in-Ok.row }) c.loop-used-test.true c.used-item.is
-    (c.loop-used.invariant w names read) c.token_of-token.ensures is (row_faultless c.args.table.now c.requires.table w read.index (f c.used-item.result) c.in-Ok.row is sound)))
+    (meant_step c.args.table.now w f c.args.uses.now c.loop-used.used-index c.loop-used.meant.items c.used-item.result (record { token = c.token_of-token.result; first = c.word_key-first.result; row = c.in-Ok.row }) c.loop-used-test.true c.used-item.is
+    (c.loop-used.invariant w names read) c.token_of-token.ensures (c.word_key-first.ensures ∙ ap word_key c.get-word.ensures) is (row_faultless c.args.table.now c.requires.table w read.index (f c.used-item.result) c.in-Ok.row is sound)))
 
 pub returns-clause-meant : goal.returns-clause-meant
 returns-clause-meant c = λ w names read. (

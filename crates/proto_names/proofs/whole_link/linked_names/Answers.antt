@@ -50,9 +50,6 @@ declare_all-requires-clause-count c = omega (arith, ap length c.deref.ensures.va
 pub declare_all-requires-clause-spelled : goal.declare_all-requires-clause-spelled
 declare_all-requires-clause-spelled c = subst (All (λ v. AreSpelled v.items)) (sym c.deref.ensures.value) c.in_ok-spelled.ensures.spelled
 
-pub returns-in-Ok-clause-declared : goal.returns-in-Ok-clause-declared
-returns-in-Ok-clause-declared c = c.in-Ok.ensures.rows.declared
-
 pub returns-in-Ok-clause-table : goal.returns-in-Ok-clause-table
 returns-in-Ok-clause-table c = c.in-Ok.ensures.table
 
@@ -61,4 +58,4 @@ returns-in-Ok-clause-paired c =
     sym (length-map c.in-Ok.names.1.items (λ v. v.items)) ∙ c.in-Ok.ensures.rows.paired ∙ length-map c.deref.result.now (λ v. v.items) ∙ ap length c.deref.ensures.value ∙ c.in_ok-spelled.ensures.len
 
 pub returns-in_err-spelled : goal.returns-in_err-spelled
-returns-in_err-spelled c = let e = err_from_is_err_and c.from_residual.result c.from_residual.ensures.1 in rw (e.1, e.2) (record { table = tt; declared = tt; names = tt; paired = tt; rows = tt; within = tt; clean = tt; fault = tt })
+returns-in_err-spelled c = let e = err_from_is_err_and c.from_residual.result c.from_residual.ensures.1 in rw (e.1, e.2) (record { table = tt; names = tt; paired = tt; rows = tt; within = tt; clean = tt; fault = tt })

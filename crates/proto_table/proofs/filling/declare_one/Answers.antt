@@ -1,11 +1,12 @@
-use Rattle.std.proofs.Common.{◌≡◌, ap, sym, ◌∙◌, subst, IfSome, string_bytes}
+use Rattle.std.proofs.Common.{◌≡◌, ap, sym, ◌∙◌, subst, IfSome}
+use Rattle.std.specs.Cow.{cow_str_bytes}
 use Rattle.proto_meaning.specs.Forest.{under, front}
 use Rattle.proto_table.specs.Common.{names_of, SymbolIsDeclared, IsRowOf, declaration_of, number_above}
 use Rattle.proto_table.proofs.filling.declare_one.Goals.{in-Outermost, in-Below, After-as_str}
 use Rattle.proto_table.proofs.filling.declare_one.Goals as goal
 
 -- the name that is declared
-text_is : (c : After-as_str) → under (front (names_of c.args.table.now) c.match-spelled.above) c.as_str.result.now ≡ under (front (names_of c.args.table.now) (number_above c.args.rows.now c.args.spelled.now.above)) (string_bytes c.args.spelled.now.word)
+text_is : (c : After-as_str) → under (front (names_of c.args.table.now) c.match-spelled.above) c.as_str.result.now ≡ under (front (names_of c.args.table.now) (number_above c.args.rows.now c.args.spelled.now.above)) (cow_str_bytes c.args.spelled.now.word)
 text_is c =
     ap (λ n. under (front (names_of c.args.table.now) n) c.as_str.result.now) (elim c.match-spelled.branch [
       | in-Outermost w ↦ w.above-is ∙ ap (number_above c.args.rows.now) (sym w.in-Outermost.is)

@@ -1,6 +1,6 @@
 use Rattle.std.proofs.Common.{◌≡◌, ◌<◌, [], ◌++◌, length, get_or, map, take, drop, sym, ◌∙◌, ap, subst, arith, slice_set, append-nil, set-set, take_all}
 use Rattle.proto_faults.proofs.Common.{length-map, map-set, err_from_is_err_and}
-use Rattle.proto_table.specs.Common.{all_named, named_in, AreSpelled, AreInFront, AreRowsOf, Holds, StopsIn, others_in, packages_in}
+use Rattle.proto_table.specs.Common.{all_named, named_in, AreSpelled, AreInFront, AreRowsOfNames, Holds, StopsIn, others_in, packages_in}
 use Rattle.proto_table.proofs.Passes.{item_at, others_next, rows_file, rows_first, rows_last, spelled_at, stops_least, within_map}
 use Rattle.proto_table.proofs.filling.declare_others.Goals as goal
 
@@ -31,8 +31,8 @@ fill-requires-clause-rows c =
     let l = within_map (λ v. v.items) c.args.files.now c.loop-file.file c.loop-file-test.true in
     let lr : c.loop-file.file < length c.loop-file.rows.items = omega (arith, l, m, p) in
     let own = ap (λ v. v.items) c.replace-own.ensures.value ∙ item_at (λ v. v.items) c.loop-file.rows.items c.loop-file.file c.index_mut-slot.result.now lr c.index_mut-slot.ensures.value in
-    subst (AreRowsOf c.loop-file.names (named_in c.loop-file.file c.deref.result.now)) (sym own)
-    (subst (λ z. AreRowsOf c.loop-file.names (named_in c.loop-file.file z) (get_or (map (λ v. v.items) c.loop-file.rows.items) c.loop-file.file [])) (sym e) (c.loop-file.invariant.rows.each c.loop-file.file l))
+    subst (AreRowsOfNames c.loop-file.names (named_in c.loop-file.file c.deref.result.now)) (sym own)
+    (subst (λ z. AreRowsOfNames c.loop-file.names (named_in c.loop-file.file z) (get_or (map (λ v. v.items) c.loop-file.rows.items) c.loop-file.file [])) (sym e) (c.loop-file.invariant.rows.each c.loop-file.file l))
 
 pub loop-file-preserved : goal.loop-file-preserved
 loop-file-preserved c =
@@ -56,7 +56,7 @@ loop-file-preserved c =
       rows = rows_file c.loop-file.names c.in_ok-filled.filled.0 (map (λ v. v.items) c.args.files.now) (map (λ v. v.items) c.loop-file.rows.items) (map (λ v. v.items) (slice_set (slice_set c.loop-file.rows.items c.loop-file.file c.replace-own.new.dest) c.loop-file.file c.in_ok-filled.filled.1)) c.loop-file.file c.in_ok-filled.filled.1.items
           l c.in_ok-filled.ensures.kept c.loop-file.invariant.rows
           (ap (map (λ v. v.items)) (set-set c.loop-file.rows.items c.loop-file.file c.replace-own.new.dest c.in_ok-filled.filled.1) ∙ map-set (λ v. v.items) c.loop-file.rows.items c.loop-file.file c.in_ok-filled.filled.1) (c.in_ok-filled.ensures.count ∙ len)
-          (subst (λ z. AreRowsOf c.in_ok-filled.filled.0 (named_in c.loop-file.file z) c.in_ok-filled.filled.1.items) e c.in_ok-filled.ensures.rows);
+          (subst (λ z. AreRowsOfNames c.in_ok-filled.filled.0 (named_in c.loop-file.file z) c.in_ok-filled.filled.1.items) e c.in_ok-filled.ensures.rows);
     }
 
 pub returns-clause-rows : goal.returns-clause-rows

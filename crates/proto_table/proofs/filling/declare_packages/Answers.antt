@@ -1,6 +1,6 @@
 use Rattle.std.proofs.Common.{[], ◌∷◌, ◌++◌, ◌+◌, length, get_or, map, take, drop, refl, sym, ◌∙◌, ap, subst, arith, take_all}
 use Rattle.proto_faults.proofs.Common.{length-map, map-append, err_from_is_err_and}
-use Rattle.proto_table.specs.Common.{all_named, named_in, AreSpelled, AreInFront, ArePackageRows, AreRowsOf, Holds, packages_in}
+use Rattle.proto_table.specs.Common.{all_named, named_in, AreSpelled, AreInFront, ArePackageRows, AreRowsOfNames, Holds, packages_in}
 use Rattle.proto_table.proofs.Filled.{no_rows}
 use Rattle.proto_table.proofs.Passes.{item_at, no_package_rows, package_rows_more, packages_next, packages_pass, spelled_at, within_map}
 use Rattle.proto_table.proofs.filling.declare_packages.Goals as goal
@@ -33,7 +33,7 @@ loop-file-preserved c =
           (sym (ap (map (λ v. v.items)) c.in_ok-push.ensures.items ∙ map-append (λ v. v.items) c.loop-file.rows.items (c.in_ok-filled.filled.1 ∷ [])))
           (package_rows_more c.loop-file.names c.in_ok-filled.filled.0 (map (λ v. v.items) c.args.files.now) (map (λ v. v.items) c.loop-file.rows.items) c.loop-file.file c.in_ok-filled.filled.1.items l c.in_ok-filled.ensures.kept c.loop-file.invariant.rows
           (subst (λ z. AreInFront z (get_or (map (λ v. v.items) c.args.files.now) c.loop-file.file [])) (sym c.in_ok-filled.ensures.count) front)
-          (subst (λ z. AreRowsOf c.in_ok-filled.filled.0 (named_in c.loop-file.file z) c.in_ok-filled.filled.1.items) e c.in_ok-filled.ensures.rows));
+          (subst (λ z. AreRowsOfNames c.in_ok-filled.filled.0 (named_in c.loop-file.file z) c.in_ok-filled.filled.1.items) e c.in_ok-filled.ensures.rows));
     }
 
 pub fill-requires-clause-table : goal.fill-requires-clause-table

@@ -1,7 +1,8 @@
-use Rattle.std.proofs.Common.{◌≡◌, ◌<◌, ◌≤◌, IfErr, length-append, string_bytes, List, [], ◌∷◌, ◌++◌, length, get_or, drop, take, sym, ◌∙◌, ap, subst, arith}
+use Rattle.std.proofs.Common.{◌≡◌, ◌<◌, ◌≤◌, IfErr, length-append, List, [], ◌∷◌, ◌++◌, length, get_or, drop, take, sym, ◌∙◌, ap, subst, arith}
+use Rattle.std.specs.Cow.{cow_str_bytes}
 use Rattle.proto_listing.specs.Listing.{needs}
 use Rattle.proto_meaning.proofs.Common.{IsPlain, under, front}
-use Rattle.proto_table.specs.Common.{Named, named_in, names_of, AreRowsOf, declaration_of, Holds, IsClashAt, number_above, StopsIn}
+use Rattle.proto_table.specs.Common.{Named, named_in, names_of, AreRowsOfNames, declaration_of, Holds, IsClashAt, number_above, StopsIn}
 use Rattle.std.proofs.lemmas.Result.{IfOk-from_err, err_from_is_err_and}
 use Rattle.proto_table.proofs.Filled.{rows_within, rows_next, held_next, stops_here, kept_itself, kept_both, segment_none}
 use Rattle.proto_table.proofs.filling.fill.Goals as goal
@@ -16,7 +17,7 @@ pub loop-k-preserved : goal.loop-k-preserved
 loop-k-preserved c =
     let n = c.requires.end in
     let l : c.loop-k.k < length c.args.spelled.now = let m = c.loop-k-test.true in omega (arith, m, n) in
-    let known = subst (AreRowsOf c.loop-k.names (named_in c.args.file c.args.spelled.now)) (sym c.deref.ensures.value) c.loop-k.invariant.rows in
+    let known = subst (AreRowsOfNames c.loop-k.names (named_in c.args.file c.args.spelled.now)) (sym c.deref.ensures.value) c.loop-k.invariant.rows in
     let count = c.loop-k.invariant.count in
     let size = ap length c.deref.ensures.value ∙ count in
     let e = c.in_ok-push.ensures.items in
@@ -28,7 +29,7 @@ loop-k-preserved c =
       table = c.in_ok-row.ensures.table;
       kept = kept_both c.args.table c.loop-k.names c.declare_one.new.table c.loop-k.invariant.kept there.kept;
       count = omega (arith, ap length e, more, count);
-      rows = subst (AreRowsOf c.declare_one.new.table (named_in c.args.file c.args.spelled.now)) (ap (λ z. z ++ c.in_ok-row.row ∷ []) c.deref.ensures.value ∙ sym e)
+      rows = subst (AreRowsOfNames c.declare_one.new.table (named_in c.args.file c.args.spelled.now)) (ap (λ z. z ++ c.in_ok-row.row ∷ []) c.deref.ensures.value ∙ sym e)
           (rows_next c.loop-k.names c.declare_one.new.table c.args.file c.args.spelled.now c.deref.result.now c.loop-k.k c.index-spelled-k.result c.index-spelled-k.is c.requires.spelled l size known c.in_ok-row.row there);
       held = λ ds held.
           held_next c.loop-k.names c.declare_one.new.table c.args.file c.args.spelled.now c.deref.result.now c.loop-k.k c.index-spelled-k.result c.index-spelled-k.is c.requires.spelled l size known c.in_ok-row.row there
@@ -81,7 +82,7 @@ pub declare_one-requires-clause-plain : goal.declare_one-requires-clause-plain
 declare_one-requires-clause-plain c =
     let m = c.loop-k-test.true in
     let n = c.requires.end in
-    subst (λ z. IsPlain (string_bytes z.word)) (sym c.index-spelled-k.is) (c.requires.spelled.plain c.loop-k.k c.index-spelled-k.result (omega (arith, m, n)))
+    subst (λ z. IsPlain (cow_str_bytes z.word)) (sym c.index-spelled-k.is) (c.requires.spelled.plain c.loop-k.k c.index-spelled-k.result (omega (arith, m, n)))
 
 pub returns-clause-count : goal.returns-clause-count
 returns-clause-count c =
@@ -99,7 +100,7 @@ returns-in_err-row c =
     let start : length c.args.rows.items ≤ c.loop-k.k = let a = c.loop-k.auto.k in omega (arith, a, len) in
     let n = c.requires.end in
     let l : c.loop-k.k < length c.args.spelled.now = let m = c.loop-k-test.true in omega (arith, m, n) in
-    let known = subst (AreRowsOf c.loop-k.names (named_in c.args.file c.args.spelled.now)) (sym c.deref.ensures.value) c.loop-k.invariant.rows in
+    let known = subst (AreRowsOfNames c.loop-k.names (named_in c.args.file c.args.spelled.now)) (sym c.deref.ensures.value) c.loop-k.invariant.rows in
     let size = ap length c.deref.ensures.value ∙ c.loop-k.invariant.count in
     record {
       table = IfOk-from_err c.from_residual.result _ c.from_residual.ensures.0;
@@ -109,7 +110,7 @@ returns-in_err-row c =
       held = IfOk-from_err c.from_residual.result _ c.from_residual.ensures.0;
       fault = subst (λ r. IfErr r (λ e. (ds : List Named) → Holds c.args.table ds → StopsIn ds (named_in c.args.file c.args.spelled.now) (length c.args.rows.items) c.args.end e)) (sym p.1) (λ ds held.
           stops_here c.loop-k.names c.loop-k.names c.args.file c.args.spelled.now c.deref.result.now c.loop-k.k c.index-spelled-k.result c.index-spelled-k.is c.requires.spelled l size known
-          ds (length c.args.rows.items) c.args.end p.0 start c.loop-k-test.true (c.loop-k.invariant.held ds held) (subst (IsClashAt c.loop-k.names (under (front (names_of c.loop-k.names) (number_above c.deref.result.now c.index-spelled-k.result.above)) (string_bytes c.index-spelled-k.result.word)) (declaration_of c.args.file c.index-spelled-k.result)) (sym p.2) c.in_err-row.ensures.clash));
+          ds (length c.args.rows.items) c.args.end p.0 start c.loop-k-test.true (c.loop-k.invariant.held ds held) (subst (IsClashAt c.loop-k.names (under (front (names_of c.loop-k.names) (number_above c.deref.result.now c.index-spelled-k.result.above)) (cow_str_bytes c.index-spelled-k.result.word)) (declaration_of c.args.file c.index-spelled-k.result)) (sym p.2) c.in_err-row.ensures.clash));
     }
 
 pub returns-in_err-push : goal.returns-in_err-push

@@ -1,5 +1,5 @@
 use Rattle.std.proofs.Common.{◌≡◌, List, ◌++◌, length, drop, take}
-use Rattle.proto_table.specs.Common.{Named, named_in, IsTable, AreRowsOf, Holds, IsKept}
+use Rattle.proto_table.specs.Common.{Named, named_in, IsTable, AreRowsOfNames, Holds, IsKept}
 use Rattle.proto_table.proofs.filling.fill.Given as goal
 
 abbrev pub invariant-loop-k : goal.invariant-loop-k
@@ -7,6 +7,6 @@ invariant-loop-k l = record {
   table : IsTable l.names;
   kept : IsKept l.fn.table l.names;
   count : length l.all.items ≡ l.k;
-  rows : AreRowsOf l.names (named_in l.file l.spelled) l.all.items;
+  rows : AreRowsOfNames l.names (named_in l.file l.spelled) l.all.items;
   held : (ds : List Named) → Holds l.fn.table ds → Holds l.names (ds ++ drop (length l.fn.rows.items) (take l.k (named_in l.file l.spelled)));
 }

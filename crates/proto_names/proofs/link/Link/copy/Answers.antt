@@ -1,7 +1,7 @@
 use Rattle.std.proofs.Common.{◌<◌, length, map, ◌∙◌, ap, arith, AllPairs}
 use Rattle.proto_faults.proofs.Common.{length-map}
 use Rattle.proto_names.specs.Common.{name_of_row}
-use Rattle.proto_names.proofs.Copies.{all_items, declared_alike, names_alike}
+use Rattle.proto_names.proofs.Copies.{all_items, names_alike}
 use Rattle.proto_names.proofs.link.Link.copy.Goals as goal
 
 pub from_parts-requires-clause-table : goal.from_parts-requires-clause-table
@@ -24,9 +24,6 @@ from_parts-requires-clause-paired c =
       length-map c.in_ok-table.table.rows.items name_of_row,
       length-map c.self.inside.table.rows.items name_of_row,
     )
-
-pub from_parts-requires-clause-declared : goal.from_parts-requires-clause-declared
-from_parts-requires-clause-declared c = declared_alike c.self.inside.table c.in_ok-table.table c.in_ok-table.ensures.alike c.self.invariant.3
 
 pub returns : goal.returns
 returns c =

@@ -41,7 +41,7 @@ returns-clause-link c = λ reads are.
     let table = c.in_ok-table.table in
     let same = sym (ap (λ (l : LinkOf). l.names) c.from_parts.ensures) in
     let known = c.in_ok-table.ensures.names reads are in
-    let by = is_link files reads are table c.in_ok-table.ensures.table c.in_ok-table.rows.items known c.in_ok-table.ensures.declared
+    let by = is_link files reads are table c.in_ok-table.ensures.table c.in_ok-table.rows.items known
     (map (λ v. v.items) seen) (map (λ v. v.items) meant) c.from_parts.result same
     (sym (ap (λ (l : LinkOf). l.seen) c.from_parts.ensures))
     (length-map seen (λ v. v.items) ∙ c.in_ok-seen.ensures.len ∙ ap length c.deref.ensures.value ∙ c.in_ok-imports.ensures.len)
@@ -62,10 +62,10 @@ returns-clause-link c = λ reads are.
       imported = ap length imported ∙ length-map c.in_ok-imports.imports.items (λ v. v.items) ∙ c.in_ok-imports.ensures.len;
       imports = ap (all_imports 0) imported ∙ c.in_ok-imports.ensures.imports reads are;
       listed = ap length rows ∙ length-map c.in_ok-table.rows.items (λ v. v.items) ∙ c.in_ok-table.ensures.paired;
-      declares = declared_by files reads table c.in_ok-table.ensures.table c.from_parts.result same c.in_ok-table.rows.items known c.in_ok-table.ensures.paired c.in_ok-table.ensures.within (sym rows);
+      declares = declared_by files reads table c.from_parts.result same c.in_ok-table.rows.items known c.in_ok-table.ensures.paired c.in_ok-table.ensures.within (sym rows);
       lists = ap length kept ∙ length-map meant (λ v. v.items) ∙ c.in_ok-meant.ensures.len;
       means = λ file l.
-          is_meant_in files reads table c.in_ok-table.ensures.table c.from_parts.result same are file l
+          is_meant_in files reads table c.in_ok-table.ensures.table c.from_parts.result same known.index are file l
           (subst (λ (vs : List (List Meant)). AreFileMeant table files reads file (get_or vs file [])) (sym kept) (c.in_ok-meant.ensures.meant reads are file l));
     })
 
@@ -145,9 +145,6 @@ linked_references-requires-clause-no_import_fault c = c.in_ok-imports.ensures.cl
 
 pub linked_references-requires-clause-no_name_fault : goal.linked_references-requires-clause-no_name_fault
 linked_references-requires-clause-no_name_fault c = c.in_ok-table.ensures.clean
-
-pub from_parts-requires-clause-declared : goal.from_parts-requires-clause-declared
-from_parts-requires-clause-declared c = c.in_ok-table.ensures.declared
 
 pub from_parts-requires-clause-table : goal.from_parts-requires-clause-table
 from_parts-requires-clause-table c = c.in_ok-table.ensures.table

@@ -4,8 +4,10 @@ use Rattle.proto_files.specs.GivenFiles.{file_at}
 use Rattle.proto_meaning.specs.Joined.{joined}
 use Rattle.proto_names.specs.Linking.{name_text}
 use Rattle.proto_table.specs.Tables.{names_of}
-use Rattle.proto_names.proofs.LinkIndex.{marks_at, meant_in, none_meant}
-use Rattle.proto_names.proofs.Linking.{text_from}
+use Rattle.proto_imports.proofs.Common.{names_are_plain, names_of_files}
+use Rattle.proto_names.specs.Scopes.{reference_in}
+use Rattle.proto_names.proofs.LinkIndex.{link_index, marks_at, meant_in, none_meant}
+use Rattle.proto_names.proofs.NamesThere.{text_there}
 use Rattle.proto_names.proofs.link.Link.resolve.Goals as goal
 
 pub returns-in_err-row-clause-meant : goal.returns-in_err-row-clause-meant
@@ -22,8 +24,11 @@ returns-clause-meant c = λ reads are path plain e. (
     let marks = marks_at c.args.self.now c.self.inside.seen.items (ap (λ l. l.seen) c.self.view_is) c.deref.result.now c.deref.ensures.value c.args.file look_up.3.0 c.in_ok-seen.seen.now look_up.1 c.deref-2.result.now c.deref-2.ensures.value in
     let meant = meant_in c.self.inside.table c.args.self.now (ap (λ l. l.names) c.self.view_is) c.args.files.now reads are c.args.file c.requires.file (c.requires.link reads are).by c.deref-2.result.now marks
     (file_at c.args.files.now c.args.file).bytes c.new-words.ensures.some.0 c.new-words.result c.new-words.ensures.some.2 refl c.new-words.ensures.some.1 c.args.scope.now c.args.reference.now c.row_in_scope.result c.row_in_scope.ensures.meant path plain e in
-    text_from c.self.inside.table c.self.invariant.0 c.args.self.now (ap (λ l. l.names) c.self.view_is) c.in_ok-row.row (get_or (names_of c.self.inside.table) c.in_ok-row.row []) c.in_ok-row.ensures.within refl
-    ∙ ap (option_map (λ k. get_or (names_of c.self.inside.table) k [])) (sym c.in_ok-row.was) ∙ meant)
+    let told = ap (option_map (λ k. get_or (names_of c.self.inside.table) k [])) (sym c.in_ok-row.was) ∙ meant in
+    let w = names_of_files c.args.files.now reads in
+    let index = link_index c.self.inside.table c.args.self.now (ap (λ l. l.names) c.self.view_is) w (c.requires.link reads are).by.names (names_are_plain c.args.files.now reads are) in
+    text_there c.self.inside.table c.self.invariant.0 c.args.self.now (ap (λ l. l.names) c.self.view_is) w index (reference_in c.args.files.now reads c.args.file path c.args.reference.now) c.in_ok-row.row told
+    ∙ told)
 
 pub returns-in_err-row-clause-none : goal.returns-in_err-row-clause-none
 returns-in_err-row-clause-none c = λ reads are path plain e. (
@@ -35,7 +40,10 @@ pub returns-clause-none : goal.returns-clause-none
 returns-clause-none c = λ reads are path plain e. (
   λ h. absurd (none-some _ (sym h)),
   λ h.
-      let text = get_or (names_of c.self.inside.table) c.in_ok-row.row [] in
-      let named = text_from c.self.inside.table c.self.invariant.0 c.args.self.now (ap (λ l. l.names) c.self.view_is) c.in_ok-row.row (get_or (names_of c.self.inside.table) c.in_ok-row.row []) c.in_ok-row.ensures.within refl in
-      absurd (none-some text (sym (sym named ∙ returns-clause-meant c reads are path plain e ∙ ap (option_map joined) h))),
+      let look_up = c.in_ok-seen.ensures.lookup in
+      let marks = marks_at c.args.self.now c.self.inside.seen.items (ap (λ l. l.seen) c.self.view_is) c.deref.result.now c.deref.ensures.value c.args.file look_up.3.0 c.in_ok-seen.seen.now look_up.1 c.deref-2.result.now c.deref-2.ensures.value in
+      let meant = meant_in c.self.inside.table c.args.self.now (ap (λ l. l.names) c.self.view_is) c.args.files.now reads are c.args.file c.requires.file (c.requires.link reads are).by c.deref-2.result.now marks
+      (file_at c.args.files.now c.args.file).bytes c.new-words.ensures.some.0 c.new-words.result c.new-words.ensures.some.2 refl c.new-words.ensures.some.1 c.args.scope.now c.args.reference.now c.row_in_scope.result c.row_in_scope.ensures.meant path plain e in
+      let told = ap (option_map (λ k. get_or (names_of c.self.inside.table) k [])) (sym c.in_ok-row.was) ∙ meant in
+      absurd (none-some (get_or (names_of c.self.inside.table) c.in_ok-row.row []) (sym (told ∙ ap (option_map joined) h))),
 )

@@ -1,6 +1,7 @@
 use Rattle.std.proofs.Common.{◌≡◌, [], ◌∷◌, ◌++◌, refl, ◌∙◌, ap, if◌then◌else◌, is_ok, true}
 use Rattle.proto_table.specs.declared.table.Row.{Row}
 use Rattle.proto_meaning.specs.Forest.{under}
+use Rattle.proto_table.specs.Undone.{new_row}
 use Rattle.proto_table.proofs.Tables.{table_added}
 use Rattle.proto_table.proofs.table.Table.add.Goals as goal
 
@@ -26,3 +27,6 @@ returns-clause-rows c = (
 
 pub returns-clause-front : goal.returns-clause-front
 returns-clause-front c = c.in_ok-add.ensures.front
+
+pub returns-clause-change : goal.returns-clause-change
+returns-clause-change c = new_row (row c) (c.len-index.ensures ∙ c.args.self.now.rows.ok.0) (rows c) refl c.new.ensures.items refl c.in_ok-add.ensures.front

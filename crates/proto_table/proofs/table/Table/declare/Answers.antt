@@ -35,6 +35,7 @@ returns-in_err-row-in-None c =
       table = IfOk-from_err r _ err;
       index = IfOk-from_err r _ err;
       row = IfOk-from_err r _ err;
+      change = IfOk-from_err r _ err;
       clash = IfOk-from_err r _ err;
       clash_kept = IfOk-from_err r _ err;
       kept = at_refusal r _ c.in_err-row-in-None.ensures.kept;

@@ -2,6 +2,7 @@ use Rattle.std.proofs.Common.{◌≡◌, [], false, true, sym, ◌∙◌, ap, re
 use Rattle.proto_faults.proofs.Common.{get_or_default}
 use Rattle.proto_table.specs.declared.table.Row.{Row}
 use Rattle.proto_table.specs.Tables.{with_declaration}
+use Rattle.proto_table.specs.Undone.{free_row}
 use Rattle.proto_table.proofs.Forgotten.{declared_revived}
 use Rattle.proto_table.proofs.IndexAdded.{first_false}
 use Rattle.proto_table.proofs.OneRow.{table_same}
@@ -27,6 +28,9 @@ returns-clause-table c =
 
 pub returns-clause-was : goal.returns-clause-was
 returns-clause-was c = λ d. ap (λ (z : Row). z.symbol) (c.index.ensures ∙ get_or_default c.args.self.now.rows.items c.args.row c.index.result.now d c.requires.within)
+
+pub returns-clause-change : goal.returns-clause-change
+returns-clause-change c = free_row c.requires.within c.requires.free c.put_back.ensures.rows c.put_back.ensures.below
 
 pub returns-clause-index : goal.returns-clause-index
 returns-clause-index c =

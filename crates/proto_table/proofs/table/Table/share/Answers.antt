@@ -2,7 +2,8 @@ use Rattle.std.proofs.Common.{◌≡◌, [], Bool, true, false, ◌&&◌, get_or
 use Rattle.proto_faults.proofs.Common.{both_ways, get_or_default, IfOk-from_err}
 use Rattle.proto_meaning.specs.declared.kind.Kind.TheVariants.{Package}
 use Rattle.proto_meaning.proofs.Common.{is_package, package_from}
-use Rattle.proto_table.specs.Common.{Row, is_shared, names_of}
+use Rattle.proto_table.specs.Common.{Row, is_shared_row, names_of}
+use Rattle.proto_table.specs.Undone.{shared_row}
 use Rattle.proto_table.proofs.Indexed.{declared_again}
 use Rattle.proto_table.proofs.IndexAdded.{both_true}
 use Rattle.proto_table.proofs.Kept.{row_again}
@@ -23,7 +24,7 @@ returns-in_ok-add_file-clause-table c =
     let alive : f.1.is_declared ≡ true = f.8 ∙ ap (λ (z : Row). z.is_declared) f.2 ∙ c.requires.declared f.0 in
     let shared : f.1.symbol.kind ≡ Package = ap (λ z. z.kind) f.5 ∙ ap (λ (z : Row). z.symbol.kind) (sym same) ∙ two in
     table_same c.args.self.now (record { rows = c.add_file.new.rows; below = c.args.self.now.below }) c.args.row f.0 f.1 c.requires.within f.2 f.3 refl f.4 f.6
-    (λ h. absurd (both_ways (is_shared f.1) h (both_true f.1.is_declared (is_package f.1.symbol.kind) alive (ap is_package shared)))) c.requires.table
+    (λ h. absurd (both_ways (is_shared_row f.1) h (both_true f.1.is_declared (is_package f.1.symbol.kind) alive (ap is_package shared)))) c.requires.table
 
 pub returns-in_ok-add_file-clause-index : goal.returns-in_ok-add_file-clause-index
 returns-in_ok-add_file-clause-index c =
@@ -44,6 +45,15 @@ returns-in_ok-add_file-clause-row c =
     let was : f.0.is_declared ≡ true = ap (λ (z : Row). z.is_declared) f.2 ∙ c.requires.declared f.0 in
     row_again c.args.self.now (record { rows = c.add_file.new.rows; below = c.args.self.now.below }) c.args.row f.0 f.1 (get_or (names_of c.args.self.now) c.args.row []) c.args.symbol
     c.requires.within f.2 f.3 f.4 f.5 was (f.8 ∙ was) refl one (ap (λ (z : Row). z.symbol.kind) (sym same) ∙ two)
+
+pub returns-in_ok-add_file-clause-change : goal.returns-in_ok-add_file-clause-change
+returns-in_ok-add_file-clause-change c =
+    let f = c.in_ok-add_file.ensures.added in
+    let one = package_from c.args.symbol.kind (sym c.is_package.ensures ∙ c.if-is_package.true) in
+    let two = package_from c.index.result.now.symbol.kind (sym c.is_package-then-is_package.ensures ∙ c.if-is_package-2.true) in
+    let same : c.index.result.now ≡ f.0 = c.index.ensures ∙ get_or_default c.args.self.now.rows.items c.args.row c.index.result.now f.0 c.requires.within ∙ sym f.2 in
+    let was : f.0.is_declared ≡ true = ap (λ (z : Row). z.is_declared) f.2 ∙ c.requires.declared f.0 in
+    shared_row f.0 f.1 c.requires.within f.2 one (ap (λ (z : Row). z.symbol.kind) (sym same) ∙ two) was f.4 f.5 f.6 f.7 (f.8 ∙ was) f.3 refl
 
 pub returns-else-is_package-clause-clash : goal.returns-else-is_package-clause-clash
 returns-else-is_package-clause-clash c = record {
@@ -70,6 +80,7 @@ returns-in_err-add_file c =
       table = IfOk-from_err r _ err;
       index = IfOk-from_err r _ err;
       row = IfOk-from_err r _ err;
+      change = IfOk-from_err r _ err;
       clash = IfOk-from_err r _ err;
       clash_kept = IfOk-from_err r _ err;
       kept = at_refusal r _ (record { rows = c.in_err-add_file.ensures.kept; below = refl });
