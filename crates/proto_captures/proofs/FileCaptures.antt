@@ -48,7 +48,7 @@ module _ (files : List FileOf) (reads : List ReadOf) (t : Target) (to : List ℕ
   name_last : (s : Source At) → name_of T entry_name (t.above ++ s ∷ []) ≡ name_of T entry_name t.above ++ spell T entry_name s ∷ []
   name_last s = map_append (spell T entry_name) t.above (s ∷ [])
 
-  is_renaming : IsRenaming e w
+  pub is_renaming : IsRenaming e w
   is_renaming = record {
     target_is = (symbol_of T entry_name t.aim, contains_map (symbol_of T entry_name) (link_skeleton files reads).declared t.aim r.named.within, ap (name_of T entry_name) r.named.path ∙ name_last (Token t.token), no_package t.aim.kind r.named.kind, no_entry t.aim.kind r.named.kind);
     entry_is = go t.is_map r.named.entry;
@@ -58,12 +58,24 @@ module _ (files : List FileOf) (reads : List ReadOf) (t : Target) (to : List ℕ
       go true h = (entry_differs (T t.token), entry_differs to, (symbol_of T entry_name h.0, contains_map (symbol_of T entry_name) (link_skeleton files reads).declared h.0 h.1, ap (name_of T entry_name) h.2 ∙ name_last (EntryOf t.token), h.3))
       go false h = tt
 
-  texts_are : (n : NewTexts) → AreNewNames files reads t to n → n ≡ texts_for e
+  pub texts_are : (n : NewTexts) → AreNewNames files reads t to n → n ≡ texts_for e
   texts_are n h = h ∙ ap (λ o. let x : NewTexts = record { target = joined (target e); old = T t.token; new = to; entry = o } in x) (by t.is_map)
     where
       by : (b : Bool) → entry_words b (T t.token) to ≡ (if b then Some (entry_name (T t.token), entry_name to) else None)
       by true = refl
       by false = refl
+
+  pub linked : IsLinked w
+  linked = files_are_linked files reads r.read r.clean
+
+  module _ (file : ℕ) (within : file < length files) where
+    inside : file < length reads
+    inside = let s = r.read.same in omega (arith, within, s)
+
+    pub there : (v : Used ℕ) → Contains (uses_of reads file) v → Contains (link_skeleton files reads).used (used_in file v)
+    there v c =
+        let e : 0 + file ≡ file = omega arith in
+        subst (λ m. Contains (link_skeleton files reads).used (used_in m v)) e (use_there 0 reads file v inside c)
 
   module _ (l : LinkOf) (link : IsLinkOf files l) (law : VisibleIsShown) (file : ℕ) (within : file < length files) where
     abbrev own : ℕ → List ℕ
@@ -72,17 +84,6 @@ module _ (files : List FileOf) (reads : List ReadOf) (t : Target) (to : List ℕ
     -- whether the use is captured
     abbrev P : Used ℕ → Type 0
     P v = Captures files reads t to (used_in file v)
-
-    linked : IsLinked w
-    linked = files_are_linked files reads r.read r.clean
-
-    inside : file < length reads
-    inside = let s = r.read.same in omega (arith, within, s)
-
-    there : (v : Used ℕ) → Contains (uses_of reads file) v → Contains (link_skeleton files reads).used (used_in file v)
-    there v c =
-        let e : 0 + file ≡ file = omega arith in
-        subst (λ m. Contains (link_skeleton files reads).used (used_in m v)) e (use_there 0 reads file v inside c)
 
     module _ (declared : List Listed) (u : Use) (c : Contains (uses_of reads file) (used_by (read declared) u)) where
       abbrev v : Used ℕ
@@ -104,7 +105,7 @@ module _ (files : List FileOf) (reads : List ReadOf) (t : Target) (to : List ℕ
       scope_is = name_in T file (path_at (read declared) u.scope)
 
       scoped : HasScope w q
-      scoped = has_scope T entry_name (link_skeleton files reads) (files_are_woven files reads r.read) (used_in file v) (there v c)
+      scoped = has_scope T entry_name (link_skeleton files reads) (files_are_woven files reads r.read) (used_in file v) (there file within v c)
 
       word_plain : IsPlain p
       word_plain = (uses_plain (file_at files file).bytes (read_at reads file).tokens (read_at reads file).tree (r.read.trees file within) v c).0.0
@@ -113,7 +114,7 @@ module _ (files : List FileOf) (reads : List ReadOf) (t : Target) (to : List ℕ
       has_meaning = by (meaning w q) refl
         where
           by : (o : Option (List (List ℕ))) → meaning w q ≡ o → (m : List (List ℕ)) × (meaning w q ≡ Some m)
-          by None h = absurd (linked.resolved q (contains_map (reference_of T entry_name) (link_skeleton files reads).used (used_in file v) (there v c)) h)
+          by None h = absurd (linked.resolved q (contains_map (reference_of T entry_name) (link_skeleton files reads).used (used_in file v) (there file within v c)) h)
           by (Some m) h = (m, h)
 
       abbrev answer : List (List ℕ) → Bool
@@ -143,7 +144,7 @@ module _ (files : List FileOf) (reads : List ReadOf) (t : Target) (to : List ℕ
           let is : captures_by l file (texts_for e) own declared u x ≡ (not q.is_absolute && answer m.0) = ap (λ o. captures_use l file (texts_for e) own declared u (or_nothing o)) text ∙ answer_is m.0 in (
             (λ h.
                 let k = and_parts (not q.is_absolute) (answer m.0) (sym is ∙ h) in
-                record { used = there v c; captured = to_captured m.0 m.1 (not-true q.is_absolute k.0) k.1 }),
+                record { used = there file within v c; captured = to_captured m.0 m.1 (not-true q.is_absolute k.0) k.1 }),
             λ h.
                 let k = from_captured m.0 m.1 h.captured in
                 is ∙ and_from (not q.is_absolute) (answer m.0) (not_from_false q.is_absolute k.0) k.1,

@@ -6,6 +6,7 @@ mod CapturedWords
 pub mod Common
 mod FileCaptures
 mod FileOvertaken
+mod FilesToAsk
 mod FirstOnes
 mod FrontLengths
 mod IfOks

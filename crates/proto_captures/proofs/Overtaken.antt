@@ -5,26 +5,14 @@ use Rattle.proto_meaning.specs.declared.kind.Kind.{Kind}
 use Rattle.proto_meaning.specs.declared.kind.Kind.TheVariants.{Package}
 use Rattle.proto_meaning.proofs.Common.{IsOvertaken, ArePlain, IsPlain, below, joined, AreApart, is_package, MarksSeen, Reference, Symbol, Workspace, fits_at_first, front_at, hit, hits_at, meaning, meaning_at, same_name, sees, shows, typed, same_from_name, joined_apart, hit_relative, package_from, one_symbol, shown}
 use Rattle.proto_imports.proofs.PlainNames.{plain_join}
-use Rattle.proto_names.proofs.Common.{HoldsNames, LinkOf, NameOf, name_at, name_text}
+use Rattle.proto_names.proofs.Common.{HoldsNames, LinkOf, NameOf, name_at, name_with, name_text}
 use Rattle.proto_rename_laws.proofs.PlacesSuit.{meaning_parts}
 use Rattle.proto_captures.specs.Common.{bytes_before, is_cons, shown_from, fits_seen, is_marked, sees_name, overtakes_words, sees_text, first_fits}
 use Rattle.proto_captures.proofs.ByTexts.{below_is, named_at}
 use Rattle.proto_captures.proofs.CapturedWords.{plain_take, taken}
 use Rattle.proto_captures.proofs.FrontLengths.{before_first, deeper, not_deeper, scan_from, scan_to}
-use Rattle.proto_captures.proofs.KindNamed.{found_at}
+use Rattle.proto_captures.proofs.KindNamed.{found_at, found_some}
 use Rattle.proto_captures.proofs.NewlyShown.{same_truth}
-
--- a name that is found stands in the list, with this text
-found_some : (ns : List NameOf) (text : List ℕ) (n : NameOf) → find (λ n. bytes_eq n.text text) ns ≡ Some n → (row : ℕ) × (slice_get ns row ≡ Some n) × (n.text ≡ text)
-found_some [] text n h = absurd (none-some n h)
-found_some (m ∷ ns) text n h = elim (cases_Bool (bytes_eq m.text text)) [
-  | inl same ↦
-      let e : m ≡ n = same_Some m n (sym (cond-true (bytes_eq m.text text) (Some m) (find (λ n. bytes_eq n.text text) ns) same) ∙ h) in
-      (0, ap Some e, sym (ap (λ (z : NameOf). z.text) e) ∙ word_from_same m.text text same)
-  | inr other ↦
-      let r = found_some ns text n (sym (cond-false (bytes_eq m.text text) (Some m) (find (λ n. bytes_eq n.text text) ns) other) ∙ h) in
-      (suc r.0, r.1, r.2)
-]
 
 -- a marked file is seen
 marked_is : (marks : List Bool) (g : ℕ) → is_marked marks g ≡ get_or marks g false
@@ -44,7 +32,7 @@ module _ (w v : Workspace) (l : LinkOf) (file : ℕ) (marks : List Bool) (packag
       let n = named_at l j t k in
       names.once i j m.0 n.0 m.1 n.1 (m.2 ∙ sym n.2)
 
-  name_found : (row : ℕ) (n : NameOf) (text : List ℕ) → name_at l row ≡ Some n → n.text ≡ text → find (λ n. bytes_eq n.text text) l.names ≡ Some n
+  name_found : (row : ℕ) (n : NameOf) (text : List ℕ) → name_at l row ≡ Some n → n.text ≡ text → name_with l text ≡ Some n
   name_found row n text h e =
       let there : name_text l row ≡ Some text = ap (option_map (λ n. n.text)) h ∙ ap Some e in
       found_at l.names text row there (λ i k. one_text i row text k there) ∙ h
@@ -57,7 +45,7 @@ module _ (w v : Workspace) (l : LinkOf) (file : ℕ) (marks : List Bool) (packag
     good k = first_fits is_long k
 
     abbrev found : Option NameOf
-    found = find (λ n. bytes_eq n.text (joined x)) l.names
+    found = name_with l (joined x)
 
     shows_it : (s : Symbol) → Contains w.symbols s → joined s.name ≡ joined x → good s.kind ≡ true → is_marked marks s.file ≡ true → shows v file good x ≡ true
     shows_it s c text fine marked =

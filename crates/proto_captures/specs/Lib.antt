@@ -1,5 +1,6 @@
 pub mod Capturing
 pub mod FirstCaptured
+pub mod FirstKeys
 pub mod NewTexts
 pub mod OvertakenLaw
 pub mod Overtaking

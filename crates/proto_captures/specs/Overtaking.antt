@@ -1,7 +1,7 @@
 -- The first reference of a file that is overtaken where the file sees more: by the
 -- names of the workspace, and by texts.
 use Rattle.std.specs.Prelude.{◌≡◌, ◌↔◌, ℕ, ◌-◌, ◌<◌, length, Bool, true, false, not, ◌&&◌, if◌then◌else◌, List, [], ◌∷◌, map, get_or, Option, Some, None, is_some, slice_index_or}
-use Rattle.std.specs.List.{Contains, find}
+use Rattle.std.specs.List.{Contains}
 use Rattle.std.specs.Str.{bytes_eq}
 use Rattle.proto_faults.specs.Texts.{Text, or_nothing}
 use Rattle.proto_case.specs.Camel.{entry_name}
@@ -21,7 +21,7 @@ use Rattle.proto_meaning.specs.Names.{Workspace}
 use Rattle.proto_meaning.specs.Skeleton.{Used, name_of}
 use Rattle.proto_meaning.specs.Tree.{package_of}
 use Rattle.proto_imports.specs.Links.{uses_of}
-use Rattle.proto_names.specs.Linking.{LinkOf, NameOf, name_text}
+use Rattle.proto_names.specs.Linking.{LinkOf, NameOf, name_with, name_text}
 use Rattle.proto_names.specs.declared.references.Meant.{Meant}
 use Rattle.proto_imports.specs.Links.{used_named}
 use Rattle.proto_captures.specs.Capturing.{bytes_before, is_cons, shown_from}
@@ -94,7 +94,7 @@ fits_seen marks packages is_long (Some n) = first_fits is_long n.kind && sees_na
 -- a name with this text fits, and is seen
 abbrev pub sees_text : LinkOf → List Bool → (Text → Bool) → Bool → Text → Bool
 sees_text l marks packages is_long text =
-    fits_seen marks packages is_long (find (λ n. bytes_eq n.text text) l.names)
+    fits_seen marks packages is_long (name_with l text)
 
 -- in a front of the scope that is longer than that of the hit,
 -- something is seen under the first word

@@ -1,12 +1,11 @@
 -- What fits and is visible below a scope by a link, under the new names of a rename: all by texts.
 use Rattle.std.specs.Prelude.{ℕ, Bool, true, false, ◌&&◌, ◌||◌, if◌then◌else◌, Option, Some, None, option_map}
-use Rattle.std.specs.List.{find}
 use Rattle.std.specs.Str.{bytes_eq}
 use Rattle.proto_faults.specs.Texts.{Text}
 use Rattle.proto_meaning.specs.declared.kind.Kind.{Kind}
 use Rattle.proto_meaning.specs.Joined.{below}
 use Rattle.proto_meaning.specs.Names.{is_type, is_outer}
-use Rattle.proto_names.specs.Linking.{LinkOf, is_visible}
+use Rattle.proto_names.specs.Linking.{LinkOf, is_visible, name_with}
 use Rattle.proto_captures.specs.NewTexts.{NewTexts}
 
 -- what fits at the first word, of several or of one
@@ -14,9 +13,9 @@ abbrev pub first_fits : Bool → Kind → Bool
 first_fits true k = is_outer k
 first_fits false k = is_type k
 
--- the kind of the name with this text
+-- the kind of the name with this text, which some file declares
 abbrev pub kind_named : LinkOf → Text → Option Kind
-kind_named l text = option_map (λ n. n.kind) (find (λ n. bytes_eq n.text text) l.names)
+kind_named l text = option_map (λ n. n.kind) (name_with l text)
 
 -- there is such a kind, and it fits
 abbrev pub kind_fits : Bool → Option Kind → Bool

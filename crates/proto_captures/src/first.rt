@@ -2,6 +2,7 @@
 
 ghost use Rattle.std.specs.Prelude.{◌≡◌, ◌<◌, ℕ, List, length, true, IfOk};
 ghost use Rattle.proto_captures.specs.FirstCaptured.{IsFirstCaptured, IsFirstIn, IsRenameOf, AreNewNames, first_passing, captures_by};
+ghost use Rattle.proto_captures.specs.FirstKeys.{first_keys_of};
 ghost use Rattle.proto_captures.specs.NewTexts.{texts_of};
 ghost use Rattle.proto_files.specs.FilesRead.{ReadOf, AreRead};
 ghost use Rattle.proto_files.specs.Faults.{HasNoFault};
@@ -16,9 +17,11 @@ ghost use Rattle.proto_text.specs.Words.{is_run};
 
 use crate::aim::Aim;
 use crate::capturing::{is_captured, meaning};
+use crate::first_keys::FirstKeys;
 use crate::names::NewNames;
 use proto_faults::NoMemory;
 use proto_files::{Files, Words, are_read};
+use proto_kept::laws::captures_begin_so;
 use proto_listing::file_listing::list_file;
 use proto_listing::listing::Listing;
 use proto_names::laws::visible_is_seen;
@@ -87,6 +90,30 @@ fn first_in<'a>(
     )
 }
 
+/// The same, where the file is listed only if one of its references begins with a word of these
+/// keys: no other reference is captured.
+fn first_in_asked<'a>(
+    alloc: Global,
+    files: &'a Files,
+    link: &Link,
+    names: &NewNames<'a>,
+    keys: FirstKeys,
+    file: u32,
+) -> Result<Option<u32>, NoMemory>
+    requires file { file < length files.now }
+    requires link { IsLinkOf files.now link.now }
+    requires keys { keys ≡ first_keys_of (texts_of names.now) }
+    ensures { IfOk result (λ first. (reads : List ReadOf) (t : Target) (to : List ℕ)
+        → IsRenameOf files.now reads t to → AreNewNames files.now reads t to (texts_of names.now)
+        → IsFirstIn files.now reads t to file first) }
+{
+    captures_begin_so();
+    if !keys.begin_one(link.meant_in(file)) {
+        return Ok(None);
+    }
+    first_in(alloc, files, link, names, file)
+}
+
 /// The first reference that a rename captures, by file and first token, where nothing collides.
 pub fn first_captured<'a>(
     alloc: Global,
@@ -108,8 +135,9 @@ pub fn first_captured<'a>(
     are_read(files);
     let own = Words::new(files, aim.file);
     let names = NewNames::new(alloc, &own, aim, to)?;
+    let keys = FirstKeys::new(&names);
     for file in 0..files.len() as u32 {
-        if let Some(token) = first_in(alloc, files, link, &names, file)? {
+        if let Some(token) = first_in_asked(alloc, files, link, &names, keys, file)? {
             return Ok(Some(RefId { file, token }));
         }
     }

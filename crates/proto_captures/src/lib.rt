@@ -7,6 +7,7 @@ mod aiming;
 mod capturing;
 mod collisions;
 mod first;
+mod first_keys;
 pub mod laws;
 mod names;
 mod overtaking;
