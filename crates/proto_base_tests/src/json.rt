@@ -2,12 +2,14 @@
 
 use crate::expect::{expect, owned_text};
 use proto_descriptors::{
-    Descriptors, EnumDescriptor, EnumOptions, EnumReservedRange, EnumValueDescriptor,
-    EnumValueOptions, FieldDescriptor, FieldOptions, FieldRole, FieldType, FileDescriptor,
-    FileOptions, IdempotencyLevel, Label, MessageDescriptor, MessageOptions, MethodDescriptor,
-    MethodOptions, NumberRange, OptimizeMode, ServiceDescriptor, ServiceOptions, Syntax,
+    EnumDescriptor, EnumOptions, EnumReservedRange, EnumValueDescriptor, EnumValueOptions,
+    FieldDescriptor, FieldOptions, FieldRole, FieldType, FileDescriptor, FileOptions,
+    IdempotencyLevel, Label, MessageDescriptor, MessageOptions, MethodDescriptor, MethodOptions,
+    NumberRange, OptimizeMode, ServiceDescriptor, ServiceOptions, Syntax, copy_files,
 };
+use proto_faults::NoMemory;
 use proto_json::text_of_files;
+use std::alloc::Global;
 use std::process::Abort;
 
 /// What descriptors are made of: one file, and what stands in it.
@@ -98,15 +100,19 @@ fn set<R: AllocGlobal + Abort>(rt: &R, place: &mut Option<String>, text: &str) {
 }
 
 fn file_of<R: AllocGlobal + Abort>(rt: &R, name: &str, syntax: Syntax) -> FileDescriptor {
+    empty_file(rt.alloc(), owned_text(rt, name), syntax)
+}
+
+fn empty_file(alloc: Global, name: String, syntax: Syntax) -> FileDescriptor {
     FileDescriptor {
-        name: owned_text(rt, name),
+        name,
         package: None,
-        dependency: Vec::new(rt.alloc()),
-        public_dependency: Vec::new(rt.alloc()),
-        message_type: Vec::new(rt.alloc()),
-        enum_type: Vec::new(rt.alloc()),
-        service: Vec::new(rt.alloc()),
-        extension: Vec::new(rt.alloc()),
+        dependency: Vec::new(alloc),
+        public_dependency: Vec::new(alloc),
+        message_type: Vec::new(alloc),
+        enum_type: Vec::new(alloc),
+        service: Vec::new(alloc),
+        extension: Vec::new(alloc),
         options: FileOptions {
             java_package: None,
             java_outer_classname: None,
@@ -124,16 +130,20 @@ fn file_of<R: AllocGlobal + Abort>(rt: &R, name: &str, syntax: Syntax) -> FileDe
 }
 
 fn message_of<R: AllocGlobal + Abort>(rt: &R, name: &str, map_entry: bool) -> MessageDescriptor {
+    empty_message(rt.alloc(), owned_text(rt, name), map_entry)
+}
+
+fn empty_message(alloc: Global, name: String, map_entry: bool) -> MessageDescriptor {
     MessageDescriptor {
-        name: owned_text(rt, name),
-        field: Vec::new(rt.alloc()),
-        extension: Vec::new(rt.alloc()),
-        nested_type: Vec::new(rt.alloc()),
-        enum_type: Vec::new(rt.alloc()),
-        extension_range: Vec::new(rt.alloc()),
-        oneof_decl: Vec::new(rt.alloc()),
-        reserved_range: Vec::new(rt.alloc()),
-        reserved_name: Vec::new(rt.alloc()),
+        name,
+        field: Vec::new(alloc),
+        extension: Vec::new(alloc),
+        nested_type: Vec::new(alloc),
+        enum_type: Vec::new(alloc),
+        extension_range: Vec::new(alloc),
+        oneof_decl: Vec::new(alloc),
+        reserved_range: Vec::new(alloc),
+        reserved_name: Vec::new(alloc),
         options: MessageOptions {
             deprecated: None,
             map_entry,
@@ -358,18 +368,36 @@ fn put<R: AllocGlobal + Abort>(rt: &R, files: &mut Vec<FileDescriptor>, sample: 
     push(rt, files, file);
 }
 
+// Whether the files have this text; where memory is refused once, that of the next call.
 fn are_text<R: AllocGlobal + Abort>(rt: &R, files: &[FileDescriptor], json: &str) -> bool {
-    let text = text_of_files(rt.alloc(), "file", files).expect(rt, "memory");
+    let text = match text_of_files(rt.alloc(), "file", files) {
+        Ok(text) => text,
+        Err(_) => text_of_files(rt.alloc(), "file", files).expect(rt, "memory"),
+    };
     text.as_str() == json
 }
 
-// The one owner of descriptors.
-fn is_text<R: AllocGlobal + Abort>(rt: &R, sample: &Sample, json: &str) -> bool {
-    let mut made = Descriptors {
-        file: Vec::new(rt.alloc()),
+// The one place where descriptors are dropped.
+fn release(_files: Vec<FileDescriptor>) {}
+
+// Whether the copy has this text; where memory is refused once, that of the next call.
+fn is_copied<R: AllocGlobal + Abort>(rt: &R, made: &[FileDescriptor], json: &str) -> bool {
+    let copy = match copy_files(rt.alloc(), made) {
+        Ok(copy) => copy,
+        Err(_) => copy_files(rt.alloc(), made).expect(rt, "memory"),
     };
-    put(rt, &mut made.file, sample);
-    are_text(rt, &made.file, json)
+    let is_so = are_text(rt, &copy, json);
+    release(copy);
+    is_so
+}
+
+// Whether the sample and its copy have this text.
+fn is_text<R: AllocGlobal + Abort>(rt: &R, sample: &Sample, json: &str) -> bool {
+    let mut made = Vec::new(rt.alloc());
+    put(rt, &mut made, sample);
+    let is_so = are_text(rt, &made, json) && is_copied(rt, &made, json);
+    release(made);
+    is_so
 }
 
 #[test]
@@ -377,6 +405,35 @@ fn descriptors_as_json(rt: HostRuntime) {
     for (sample, json) in TEXTS {
         expect(&rt, is_text(&rt, sample, json), json);
     }
+}
+
+// A file whose message has another in it, unless memory is refused.
+fn nested_file(alloc: Global) -> Result<FileDescriptor, NoMemory> {
+    let inner = empty_message(alloc, String::from_str(alloc, "N")?, false);
+    let mut outer = empty_message(alloc, String::from_str(alloc, "M")?, false);
+    outer.nested_type.push(inner)?;
+    let mut file = empty_file(alloc, String::from_str(alloc, "a.proto")?, Syntax::Proto2);
+    file.message_type.push(outer)?;
+    Ok(file)
+}
+
+// Fails only where no memory is there for the descriptors.
+fn expect_copy<R: AllocGlobal + Abort>(rt: &R) -> Result<(), NoMemory> {
+    let mut made = Vec::new(rt.alloc());
+    made.push(nested_file(rt.alloc())?)?;
+    let is_so = is_copied(rt, &made, NESTED);
+    release(made);
+    assert!(rt; is_so);
+    Ok(())
+}
+
+const NESTED: &str =
+    "{\"file\":[{\"messageType\":[{\"name\":\"M\",\"nestedType\":[{\"name\":\"N\"}]}],\"name\":\"a.proto\"}]}";
+
+/// In a run that refuses one allocation this test still passes, whichever it is.
+#[test]
+fn one_is_refused(rt: HostRuntime) {
+    assert!(rt; expect_copy(&rt).is_ok() || expect_copy(&rt).is_ok());
 }
 
 /// A value whose name stands in the text.

@@ -1,2 +1,3 @@
 pub mod Common
+pub mod Copied
 pub mod Mapped

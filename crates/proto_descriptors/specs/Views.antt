@@ -6,7 +6,6 @@ use Rattle.proto_descriptors.specs.declared.enumeration.EnumValueDescriptor.{Enu
 use Rattle.proto_descriptors.specs.declared.field.FieldDescriptor.{FieldDescriptor}
 use Rattle.proto_descriptors.specs.declared.field.FieldRole.{FieldRole}
 use Rattle.proto_descriptors.specs.declared.field.FieldRole.TheVariants as role
-use Rattle.proto_descriptors.specs.declared.file.Descriptors.{Descriptors}
 use Rattle.proto_descriptors.specs.declared.file.FileDescriptor.{FileDescriptor}
 use Rattle.proto_descriptors.specs.declared.file.FileOptions.{FileOptions}
 use Rattle.proto_descriptors.specs.declared.message.MessageDescriptor.{MessageDescriptor}
@@ -145,7 +144,3 @@ file_desc f = record {
   options = file_options_desc f.options;
   syntax = f.syntax;
 }
-
--- a set, file by file
-abbrev pub files_desc : Descriptors → List FileDesc
-files_desc d = map file_desc d.file.items

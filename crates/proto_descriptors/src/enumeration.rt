@@ -1,5 +1,12 @@
 //! Enums and their values.
 
+ghost use Rattle.proto_descriptors.specs.Descriptors.{EnumDesc, EnumValueDesc};
+ghost use Rattle.proto_descriptors.specs.Views.{enum_desc, enum_value_desc};
+
+use crate::copying::{HasCopy, copies};
+use proto_faults::NoMemory;
+use std::alloc::Global;
+
 /// An enum. All lists are in source order.
 #[derive(Drop)]
 pub struct EnumDescriptor {
@@ -15,6 +22,26 @@ pub struct EnumDescriptor {
     pub options: EnumOptions,
 }
 
+impl HasCopy for EnumDescriptor {
+    ghost View = { EnumDesc };
+
+    ghost view = { λ e. enum_desc e };
+
+    fn copy(&self, alloc: Global) -> Result<EnumDescriptor, NoMemory> {
+        let name = self.name.copy(alloc)?;
+        let value = copies(alloc, &self.value)?;
+        let reserved_range = Vec::from_slice(alloc, &self.reserved_range)?;
+        let reserved_name = copies(alloc, &self.reserved_name)?;
+        Ok(EnumDescriptor {
+            name,
+            value,
+            reserved_range,
+            reserved_name,
+            options: self.options,
+        })
+    }
+}
+
 /// A value of an enum.
 #[derive(Drop)]
 pub struct EnumValueDescriptor {
@@ -24,6 +51,21 @@ pub struct EnumValueDescriptor {
     pub number: i32,
     /// The options in brackets behind it.
     pub options: EnumValueOptions,
+}
+
+impl HasCopy for EnumValueDescriptor {
+    ghost View = { EnumValueDesc };
+
+    ghost view = { λ v. enum_value_desc v };
+
+    fn copy(&self, alloc: Global) -> Result<EnumValueDescriptor, NoMemory> {
+        let name = self.name.copy(alloc)?;
+        Ok(EnumValueDescriptor {
+            name,
+            number: self.number,
+            options: self.options,
+        })
+    }
 }
 
 /// Numbers from `start` to `end`, both among them.

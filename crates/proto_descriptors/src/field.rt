@@ -1,7 +1,13 @@
 //! Fields of messages, and extensions.
 
-ghost use Rattle.std.specs.Prelude.{◌≡◌};
+ghost use Rattle.std.specs.Prelude.{◌≡◌, IfOk};
+ghost use Rattle.proto_descriptors.specs.Descriptors.{FieldDesc};
 ghost use Rattle.proto_descriptors.specs.Names.{label_name, type_word};
+ghost use Rattle.proto_descriptors.specs.Views.{field_desc, role_extendee, role_json_name};
+
+use crate::copying::{HasCopy, copied_text};
+use proto_faults::NoMemory;
+use std::alloc::Global;
 
 /// A field, or an extension: a field that an `extend` block gives another message.
 #[derive(Drop)]
@@ -100,6 +106,48 @@ pub struct FieldOptions {
     pub packed: Option<bool>,
     /// Whether the field is no longer to be used.
     pub deprecated: Option<bool>,
+}
+
+impl HasCopy for FieldDescriptor {
+    ghost View = { FieldDesc };
+
+    ghost view = { λ f. field_desc f };
+
+    fn copy(&self, alloc: Global) -> Result<FieldDescriptor, NoMemory> {
+        let name = self.name.copy(alloc)?;
+        let type_name = copied_text(alloc, &self.type_name)?;
+        let default_value = copied_text(alloc, &self.default_value)?;
+        let role = copied_role(alloc, &self.role)?;
+        Ok(FieldDescriptor {
+            name,
+            number: self.number,
+            label: self.label,
+            field_type: self.field_type,
+            type_name,
+            default_value,
+            oneof_index: self.oneof_index,
+            role,
+            proto3_optional: self.proto3_optional,
+            options: self.options,
+        })
+    }
+}
+
+/// The same role.
+fn copied_role(alloc: Global, role: &FieldRole) -> Result<FieldRole, NoMemory>
+    ensures extendee { IfOk result (λ copy. role_extendee copy ≡ role_extendee role.now) }
+    ensures json_name { IfOk result (λ copy. role_json_name copy ≡ role_json_name role.now) }
+{
+    match role {
+        FieldRole::Regular { json_name } => {
+            let json_name = json_name.copy(alloc)?;
+            Ok(FieldRole::Regular { json_name })
+        }
+        FieldRole::Extension { extendee } => {
+            let extendee = extendee.copy(alloc)?;
+            Ok(FieldRole::Extension { extendee })
+        }
+    }
 }
 
 impl Label {

@@ -1,18 +1,24 @@
-//! A set of files, and one file.
+//! The descriptor of a file, and copies of those of files.
 
-ghost use Rattle.std.specs.Prelude.{◌≡◌};
+ghost use Rattle.std.specs.Prelude.{◌≡◌, IfOk, map, option_map, string_bytes};
+ghost use Rattle.proto_descriptors.specs.Descriptors.{FileDesc};
 ghost use Rattle.proto_descriptors.specs.Names.{optimize_mode_name};
+ghost use Rattle.proto_descriptors.specs.Views.{descriptor_tree, enum_desc, field_desc, file_desc, file_options_desc, service_desc};
 
+use crate::copying::{HasCopy, copied_text, copies};
 use crate::enumeration::EnumDescriptor;
 use crate::field::FieldDescriptor;
-use crate::message::MessageDescriptor;
+use crate::message::{MessageDescriptor, copied_messages};
 use crate::service::ServiceDescriptor;
+use proto_faults::NoMemory;
+use std::alloc::Global;
 
-/// The descriptors of a workspace: one per file, in the order of the paths.
-#[derive(Drop)]
-pub struct Descriptors {
-    /// The descriptors of the files.
-    pub file: Vec<FileDescriptor>,
+/// The same files in the same order, with texts and lists of their own. Refused for want of memory
+/// alone.
+pub fn copy_files(alloc: Global, files: &[FileDescriptor]) -> Result<Vec<FileDescriptor>, NoMemory>
+    ensures { IfOk result (λ copy. map file_desc copy.items ≡ map file_desc files.now) }
+{
+    copies(alloc, files)
 }
 
 /// What one file declares. All lists are in source order.
@@ -38,6 +44,91 @@ pub struct FileDescriptor {
     pub options: FileOptions,
     /// The language version.
     pub syntax: Syntax,
+}
+
+impl HasCopy for FileDescriptor {
+    ghost View = { FileDesc };
+
+    ghost view = { λ f. file_desc f };
+
+    fn copy(&self, alloc: Global) -> Result<FileDescriptor, NoMemory> {
+        let head = copied_head(alloc, self)?;
+        let contents = copied_contents(alloc, self)?;
+        let options = copied_options(alloc, &self.options)?;
+        Ok(FileDescriptor {
+            name: head.name,
+            package: head.package,
+            dependency: head.dependency,
+            public_dependency: head.public_dependency,
+            message_type: contents.message_type,
+            enum_type: contents.enum_type,
+            service: contents.service,
+            extension: contents.extension,
+            options,
+            syntax: self.syntax,
+        })
+    }
+}
+
+/// The name of a file, its package and its imports.
+#[derive(Drop)]
+struct Head {
+    name: String,
+    package: Option<String>,
+    dependency: Vec<String>,
+    public_dependency: Vec<usize>,
+}
+
+fn copied_head(alloc: Global, file: &FileDescriptor) -> Result<Head, NoMemory>
+    ensures name { IfOk result (λ copy. string_bytes copy.name ≡ string_bytes file.now.name) }
+    ensures package_name { IfOk result (λ copy.
+        option_map string_bytes copy.package ≡ option_map string_bytes file.now.package) }
+    ensures dependency { IfOk result (λ copy.
+        map string_bytes copy.dependency.items ≡ map string_bytes file.now.dependency.items) }
+    ensures public_dependency { IfOk result
+        (λ copy. copy.public_dependency.items ≡ file.now.public_dependency.items) }
+{
+    let name = file.name.copy(alloc)?;
+    let package = copied_text(alloc, &file.package)?;
+    let dependency = copies(alloc, &file.dependency)?;
+    let public_dependency = Vec::from_slice(alloc, &file.public_dependency)?;
+    Ok(Head {
+        name,
+        package,
+        dependency,
+        public_dependency,
+    })
+}
+
+/// What stands in a file.
+#[derive(Drop)]
+struct Contents {
+    message_type: Vec<MessageDescriptor>,
+    enum_type: Vec<EnumDescriptor>,
+    service: Vec<ServiceDescriptor>,
+    extension: Vec<FieldDescriptor>,
+}
+
+fn copied_contents(alloc: Global, file: &FileDescriptor) -> Result<Contents, NoMemory>
+    ensures message_type { IfOk result (λ copy. map descriptor_tree copy.message_type.items
+        ≡ map descriptor_tree file.now.message_type.items) }
+    ensures enum_type { IfOk result (λ copy.
+        map enum_desc copy.enum_type.items ≡ map enum_desc file.now.enum_type.items) }
+    ensures service { IfOk result (λ copy.
+        map service_desc copy.service.items ≡ map service_desc file.now.service.items) }
+    ensures extension { IfOk result (λ copy.
+        map field_desc copy.extension.items ≡ map field_desc file.now.extension.items) }
+{
+    let message_type = copied_messages(alloc, &file.message_type)?;
+    let enum_type = copies(alloc, &file.enum_type)?;
+    let service = copies(alloc, &file.service)?;
+    let extension = copies(alloc, &file.extension)?;
+    Ok(Contents {
+        message_type,
+        enum_type,
+        service,
+        extension,
+    })
 }
 
 /// The language version of a file.
@@ -72,6 +163,30 @@ pub struct FileOptions {
     pub csharp_namespace: Option<String>,
     /// The namespace of the PHP classes.
     pub php_namespace: Option<String>,
+}
+
+/// The same options.
+fn copied_options(alloc: Global, options: &FileOptions) -> Result<FileOptions, NoMemory>
+    ensures { IfOk result (λ copy. file_options_desc copy ≡ file_options_desc options.now) }
+{
+    let java_package = copied_text(alloc, &options.java_package)?;
+    let java_outer_classname = copied_text(alloc, &options.java_outer_classname)?;
+    let go_package = copied_text(alloc, &options.go_package)?;
+    let objc_class_prefix = copied_text(alloc, &options.objc_class_prefix)?;
+    let csharp_namespace = copied_text(alloc, &options.csharp_namespace)?;
+    let php_namespace = copied_text(alloc, &options.php_namespace)?;
+    Ok(FileOptions {
+        java_package,
+        java_outer_classname,
+        java_multiple_files: options.java_multiple_files,
+        optimize_for: options.optimize_for,
+        go_package,
+        deprecated: options.deprecated,
+        cc_enable_arenas: options.cc_enable_arenas,
+        objc_class_prefix,
+        csharp_namespace,
+        php_namespace,
+    })
 }
 
 /// What generated code is optimized for.

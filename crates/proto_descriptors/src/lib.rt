@@ -1,6 +1,7 @@
 //! Descriptors, with the field names of descriptor.proto.
 #![tactic(auto)]
 
+mod copying;
 mod enumeration;
 mod field;
 mod file;
@@ -11,7 +12,7 @@ pub use enumeration::{
     EnumDescriptor, EnumOptions, EnumReservedRange, EnumValueDescriptor, EnumValueOptions,
 };
 pub use field::{FieldDescriptor, FieldOptions, FieldRole, FieldType, Label};
-pub use file::{Descriptors, FileDescriptor, FileOptions, OptimizeMode, Syntax};
+pub use file::{FileDescriptor, FileOptions, OptimizeMode, Syntax, copy_files};
 pub use message::{MessageDescriptor, MessageOptions, NumberRange, OneofDescriptor};
 pub use service::{
     IdempotencyLevel, MethodDescriptor, MethodOptions, ServiceDescriptor, ServiceOptions,

@@ -1,7 +1,13 @@
 //! Services and their methods.
 
 ghost use Rattle.std.specs.Prelude.{◌≡◌};
+ghost use Rattle.proto_descriptors.specs.Descriptors.{MethodDesc, ServiceDesc};
 ghost use Rattle.proto_descriptors.specs.Names.{idempotency_level_name};
+ghost use Rattle.proto_descriptors.specs.Views.{method_desc, service_desc};
+
+use crate::copying::{HasCopy, copies};
+use proto_faults::NoMemory;
+use std::alloc::Global;
 
 /// A service.
 #[derive(Drop)]
@@ -12,6 +18,22 @@ pub struct ServiceDescriptor {
     pub method: Vec<MethodDescriptor>,
     /// The options right in its block.
     pub options: ServiceOptions,
+}
+
+impl HasCopy for ServiceDescriptor {
+    ghost View = { ServiceDesc };
+
+    ghost view = { λ s. service_desc s };
+
+    fn copy(&self, alloc: Global) -> Result<ServiceDescriptor, NoMemory> {
+        let name = self.name.copy(alloc)?;
+        let method = copies(alloc, &self.method)?;
+        Ok(ServiceDescriptor {
+            name,
+            method,
+            options: self.options,
+        })
+    }
 }
 
 /// A method. The types are full names behind a dot.
@@ -29,6 +51,26 @@ pub struct MethodDescriptor {
     pub client_streaming: bool,
     /// Whether it answers a stream of messages.
     pub server_streaming: bool,
+}
+
+impl HasCopy for MethodDescriptor {
+    ghost View = { MethodDesc };
+
+    ghost view = { λ m. method_desc m };
+
+    fn copy(&self, alloc: Global) -> Result<MethodDescriptor, NoMemory> {
+        let name = self.name.copy(alloc)?;
+        let input_type = self.input_type.copy(alloc)?;
+        let output_type = self.output_type.copy(alloc)?;
+        Ok(MethodDescriptor {
+            name,
+            input_type,
+            output_type,
+            options: self.options,
+            client_streaming: self.client_streaming,
+            server_streaming: self.server_streaming,
+        })
+    }
 }
 
 /// The options that stand in a service.
