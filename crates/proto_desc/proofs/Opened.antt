@@ -126,7 +126,7 @@ pub path_error : (given : List FileOf) (e : SchemaFault) → IsFilesError (PathF
 path_error given (Schema fault) h = paths_first given (fault_at fault) h
 path_error given NoMemory h = tt
 
-read_error : (given sorted : List FileOf) (e : SchemaFault) → HasNoFault (PathFaults 4096 (paths_of given)) → IsPermutation given sorted → AreWorkspaceFiles sorted → IsFilesError (ReadFaults sorted) e → IsOpenError given e
+pub read_error : (given sorted : List FileOf) (e : SchemaFault) → HasNoFault (PathFaults 4096 (paths_of given)) → IsPermutation given sorted → AreWorkspaceFiles sorted → IsFilesError (ReadFaults sorted) e → IsOpenError given e
 read_error given sorted (Schema fault) named same workspace h = files_first given sorted (fault_at fault) named same workspace (read_first sorted (fault_at fault) h)
 read_error given sorted NoMemory named same workspace h = tt
 

@@ -1,6 +1,9 @@
 pub mod CheckSteps
 pub mod Checked
 pub mod Common
+pub mod Edited
+pub mod NewTexts
 pub mod Opening
+pub mod Views
 pub mod Whole
 pub use Rattle.proto_scenes.specs.SceneOf

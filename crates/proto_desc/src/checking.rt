@@ -12,12 +12,14 @@ ghost use Rattle.proto_scenes.specs.Scenes.{AreScenes, IsSceneOf};
 ghost use Rattle.proto_desc.specs.CheckSteps.{AreOfWorkspace, HasNoFlaw, IsFaultOf, IsLeastFlawError};
 ghost use Rattle.proto_scenes.specs.Enums.{IsEnumTable};
 ghost use Rattle.proto_extensions.specs.Listed.{AreWorkspaceFlaws};
-ghost use Rattle.proto_descriptors.specs.Views.{file_desc, files_desc};
+ghost use Rattle.proto_desc.specs.Views.{files_desc};
+ghost use Rattle.proto_descriptors.specs.Views.{file_desc};
 
 use crate::described::file_descriptor;
+use crate::descriptors::Descriptors;
 use indexmap::IndexMap;
 use proto_checks::{Flaw, file_flaws, least};
-use proto_descriptors::{Descriptors, FileDescriptor};
+use proto_descriptors::FileDescriptor;
 use proto_extensions::workspace_flaws;
 use proto_faults::{NoMemory, SchemaFault};
 use proto_files::{Files, are_read, fault_at_token};

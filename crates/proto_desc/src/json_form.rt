@@ -2,9 +2,9 @@
 
 ghost use Rattle.std.specs.Prelude.{◌≡◌, IfOk, string_bytes};
 ghost use Rattle.proto_json.specs.DescriptorText.{json_text};
-ghost use Rattle.proto_descriptors.specs.Views.{files_desc};
+ghost use Rattle.proto_desc.specs.Views.{files_desc};
 
-use proto_descriptors::Descriptors;
+use crate::descriptors::Descriptors;
 use proto_faults::NoMemory;
 use proto_json::text_of_files;
 use std::alloc::Global;

@@ -5,21 +5,29 @@
 mod checking;
 mod described;
 mod described_items;
+mod descriptor_copies;
+mod descriptors;
 mod file_options;
 mod head;
 mod json_form;
 pub mod laws;
+mod new_texts;
+mod put_texts;
+mod replacing;
 mod schema;
+mod text_faults;
+mod texts;
 
 pub use checking::{check, pass_checks};
 pub use described::file_descriptor;
+pub use descriptors::Descriptors;
 pub use json_form::to_json;
 pub use proto_descriptors::{
-    Descriptors, EnumDescriptor, EnumOptions, EnumReservedRange, EnumValueDescriptor,
-    EnumValueOptions, FieldDescriptor, FieldOptions, FieldRole, FieldType, FileDescriptor,
-    FileOptions, IdempotencyLevel, Label, MessageDescriptor, MessageOptions, MethodDescriptor,
-    MethodOptions, NumberRange, OneofDescriptor, OptimizeMode, ServiceDescriptor, ServiceOptions,
-    Syntax,
+    EnumDescriptor, EnumOptions, EnumReservedRange, EnumValueDescriptor, EnumValueOptions,
+    FieldDescriptor, FieldOptions, FieldRole, FieldType, FileDescriptor, FileOptions,
+    IdempotencyLevel, Label, MessageDescriptor, MessageOptions, MethodDescriptor, MethodOptions,
+    NumberRange, OneofDescriptor, OptimizeMode, ServiceDescriptor, ServiceOptions, Syntax,
 };
 pub use proto_faults::{NoMemory, SchemaFault as CheckFault, SchemaFault as OpenFault};
+pub use proto_tree::Steps;
 pub use schema::{CheckedSchema, Schema};

@@ -2,7 +2,7 @@
 
 ghost use Rattle.std.specs.Prelude.{◌≡◌, List, IfOk, IfErr};
 ghost use Rattle.proto_desc.specs.Checked.{AreDescribed};
-ghost use Rattle.proto_descriptors.specs.Views.{files_desc};
+ghost use Rattle.proto_desc.specs.Views.{files_desc};
 ghost use Rattle.proto_files.specs.Faults.{HasNoFault, IsFilesError};
 ghost use Rattle.proto_files.specs.GivenFiles.{files_of};
 ghost use Rattle.proto_files.specs.ReadFaults.{ReadFaults};
@@ -12,7 +12,7 @@ ghost use Rattle.proto_desc.specs.Opening.{AreReadOf, IsOpenError};
 ghost use Rattle.proto_desc.specs.Whole.{FileFaults, WorkspaceFaults, IsSortedOf};
 
 use crate::checking::{check, pass_checks};
-use proto_descriptors::Descriptors;
+use crate::descriptors::Descriptors;
 use proto_faults::SchemaFault;
 use proto_files::{Files, Paths, are_read};
 use proto_scenes::Link;
@@ -46,9 +46,9 @@ impl Model for CheckedSchema {
 /// descriptors.
 #[derive(Drop)]
 pub struct Schema {
-    files: Files,
-    link: Link,
-    descriptors: Descriptors,
+    pub(crate) files: Files,
+    pub(crate) link: Link,
+    pub(crate) descriptors: Descriptors,
 }
 
 impl Model for Schema {
@@ -58,7 +58,7 @@ impl Model for Schema {
     ghost Value = { List FileOf };
 
     ghost use Rattle.proto_desc.specs.Checked.{AreDescribed};
-    ghost use Rattle.proto_descriptors.specs.Views.{files_desc};
+    ghost use Rattle.proto_desc.specs.Views.{files_desc};
     ghost use Rattle.proto_files.specs.Faults.{HasNoFault};
     ghost use Rattle.proto_scenes.specs.LinkOfFiles.{IsLinkOf};
     ghost use Rattle.proto_desc.specs.Whole.{FileFaults};
@@ -69,8 +69,11 @@ impl Model for Schema {
         × (IsLinkOf s.files s.link × AreDescribed s.files (files_desc s.descriptors)) };
 }
 
-// The link of files that were read, and their descriptors, where they have no fault.
-fn link_and_descriptors(alloc: Global, files: &Files) -> Result<(Link, Descriptors), SchemaFault>
+/// The link of files that were read, and their descriptors, where they have no fault.
+pub fn link_and_descriptors(
+    alloc: Global,
+    files: &Files,
+) -> Result<(Link, Descriptors), SchemaFault>
     requires { HasNoFault (ReadFaults files.now) }
     ensures clean { IfOk result (λ _. HasNoFault (FileFaults files.now)) }
     ensures link { IfOk result (λ l. IsLinkOf files.now l.0) }

@@ -1,22 +1,28 @@
 -- Runs and undoings, one step more: what a loop over edits or entries has done so far.
-use Rattle.std.proofs.Common.{◌≡◌, ◌≢◌, ℕ, ◌+◌, ◌<◌, List, [], ◌∷◌, ◌++◌, length, map, take, drop, get_or, reverse, refl, sym, ap, subst, ◌∙◌, Bor, Result, Ok, Err, Some, take-append-drop}
+use Rattle.std.proofs.Common.{◌≡◌, ◌≢◌, ℕ, ◌+◌, ◌<◌, List, [], ◌∷◌, ◌++◌, length, map, take, drop, get_or, reverse, refl, sym, ap, subst, ◌∙◌, Bor, Result, Ok, Err, take-append-drop}
 use Rattle.std.proofs.lemmas.List.{map_more, map_push, drop_more}
 use Rattle.proto_files.specs.GivenFiles.{FileOf}
-use Rattle.proto_edit.specs.Common.{AreCompiled, asked, IsReopened, IsUndoRefusal, IsUndoAllRefusal, LeadsBack, Asked, IsAdmissible, AreChanges, IsMappedStep, IsRefusal, IsUndo, Run, Undone, StatementLaws}
+use Rattle.proto_edit.specs.Common.{AreCompiled, asked, IsPutRefusal, IsUndoRefusal, IsUndoAllRefusal, LeadsBack, Asked, IsAdmissible, AreChanges, IsMappedStep, IsRefusal, IsUndo, Run, Undone, StatementLaws}
 use Rattle.proto_entries.specs.declared.edit.Edit.{Edit}
 use Rattle.proto_entries.specs.declared.refusal.Refusal.{Refusal}
 use Rattle.proto_entries.specs.declared.refusal.Refusal.TheVariants as refusal
 use Rattle.proto_entries.specs.Entries.{ChangeOf}
-use Rattle.proto_edit.proofs.Steps.{steps_compile, run_more, undone_append, undone_once, leads_back, leads_somewhere}
+use Rattle.proto_entries.specs.Putting.{IsPut}
+use Rattle.proto_edit.proofs.EditSteps.{cannot_fail, steps_compile, run_more, undone_append, undone_once, leads_back, leads_somewhere}
 
 abbrev pub Answer : Type 0
 Answer = Result (List ChangeOf) Refusal
 
 -- ---- one edit
 
-pub step_made : StatementLaws → (w : List FileOf) (e : Asked) (cs entry : List ChangeOf) (after : List FileOf) → AreCompiled w → entry ≡ cs → IsAdmissible w e × AreChanges w e cs → IsReopened w cs (Some after) → IsMappedStep w e entry after
-step_made laws w e cs entry after has same ok put =
-    subst (λ (z : List ChangeOf). IsMappedStep w e z after) (sym same) (steps_compile laws w after e cs has (record { admissible = ok.0; changes = ok.1; put = put.0 }))
+pub step_made : StatementLaws → (w : List FileOf) (e : Asked) (cs : List ChangeOf) (after : List FileOf) → AreCompiled w → IsAdmissible w e × AreChanges w e cs → IsPut w cs after → IsMappedStep w e cs after
+step_made laws w e cs after has ok put = steps_compile laws w after e cs has (record { admissible = ok.0; changes = ok.1; put = put })
+
+-- what an admissible edit changes is not stale
+pub never_stale : StatementLaws → (w : List FileOf) (e : Asked) (cs : List ChangeOf) → AreCompiled w → IsAdmissible w e × AreChanges w e cs → (r : Refusal) → r ≢ refusal.NoMemory → IsPutRefusal w cs r → ⊥
+never_stale laws w e cs has ok refusal.Stale ne h = cannot_fail laws w e cs has ok.0 ok.1 h
+never_stale laws w e cs has ok refusal.NoMemory ne h = ne refl
+never_stale laws w e cs has ok _ ne h = absurd h
 
 -- ---- runs
 

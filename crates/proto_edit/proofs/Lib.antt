@@ -1,5 +1,6 @@
 mod Chains
 pub mod Common
+pub mod EditSteps
 pub mod GivenAgain
 mod MappedSteps
 mod NamedFields
@@ -8,4 +9,3 @@ pub mod OneAnswer
 mod Refusals
 mod Reopening
 mod StatementSteps
-pub mod Steps

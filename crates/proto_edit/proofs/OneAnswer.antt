@@ -20,7 +20,7 @@ use Rattle.proto_tree.specs.declared.tree.Import.{Import}
 use Rattle.proto_edit.proofs.GivenAgain.{compiled_are_read}
 use Rattle.proto_edit.proofs.NamedFields.{fields_are_one}
 use Rattle.proto_edit.proofs.StatementSteps.{faultless_by, place_is_one}
-use Rattle.proto_edit.proofs.Steps.{step_back, undo_once}
+use Rattle.proto_edit.proofs.EditSteps.{step_back, undo_once}
 
 pub described_once : DescribedOnce
 described_once w a b has x y = let read = compiled_are_read w has in x read.0 read.1 ∙ sym (y read.0 read.1)

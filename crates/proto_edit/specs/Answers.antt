@@ -1,5 +1,5 @@
 -- What the calls of a workspace answer.
-use Rattle.std.specs.Prelude.{◌≡◌, List, Option, Some, None, Result, Ok, Err}
+use Rattle.std.specs.Prelude.{◌≡◌, List, Result, Ok, Err}
 use Rattle.proto_files.specs.GivenFiles.{FileOf}
 use Rattle.proto_entries.specs.declared.refusal.Refusal.{Refusal}
 use Rattle.proto_entries.specs.declared.refusal.Refusal.TheVariants as refusal
@@ -15,10 +15,11 @@ IsUndoRefusal w cs refusal.Stale = (before : List FileOf) → IsUndo w cs before
 IsUndoRefusal w cs refusal.NoMemory = Unit {0}
 IsUndoRefusal w cs _ = ⊥
 
--- the files with the changes, which compile; or there are none
-abbrev pub IsReopened : List FileOf → List ChangeOf → Option (List FileOf) → Type 0
-IsReopened w cs (Some after) = IsPut w cs after × AreCompiled after
-IsReopened w cs None = (after : List FileOf) → IsPut w cs after → AreCompiled after → ⊥
+-- changes are stale where no files with them are there, or they don't compile
+abbrev pub IsPutRefusal : List FileOf → List ChangeOf → Refusal → Type 0
+IsPutRefusal w cs refusal.Stale = (after : List FileOf) → IsPut w cs after → AreCompiled after → ⊥
+IsPutRefusal w cs refusal.NoMemory = Unit {0}
+IsPutRefusal w cs _ = ⊥
 
 -- memory, or an entry that can't be undone from where the ones after it lead;
 -- then no files are before them all

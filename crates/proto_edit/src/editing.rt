@@ -1,21 +1,22 @@
 //! Edits of a workspace, and the way back.
 
-ghost use Rattle.std.specs.Prelude.{◌≡◌, map, reverse, IfOk, IfErr};
-ghost use Rattle.proto_edit.specs.Answers.{asked, IsUndoRefusal, IsReopened, IsUndoAllRefusal, LeadsBack};
-ghost use Rattle.proto_entries.specs.declared.refusal.Refusal.TheVariants as Refusal;
+ghost use Rattle.std.specs.Prelude.{◌≡◌, ◌+◌, ◌≤◌, ◌^◌, length, map, reverse, IfOk, IfErr, OnOk, OnErr};
+ghost use Rattle.proto_edit.specs.Answers.{asked, IsPutRefusal, IsUndoRefusal, IsUndoAllRefusal, LeadsBack};
+ghost use Rattle.proto_edit.specs.Compiled.{AreCompiled};
 ghost use Rattle.proto_entries.specs.Entries.{change_of, AreRising};
+ghost use Rattle.proto_entries.specs.Putting.{IsPut};
 ghost use Rattle.proto_edit.specs.Workspaces.{rename as rename_asked, delete_field as delete_asked, add_import as add_asked, drop_import as drop_asked, IsAdmissible, AreChanges, IsRefusal, IsMappedStep, IsUndo, Run, Undone};
 
 use crate::laws::statements_are_known;
 use crate::workspace::Workspace;
-use proto_entries::{Change, Edit, Entry, Refusal, all_turned_round, put_all};
-use proto_faults::{NoMemory, SchemaFault};
+use proto_entries::{Change, Edit, Entry, Refusal, all_turned_round};
+use proto_faults::NoMemory;
 use proto_files::are_read;
 use proto_rename::rename;
 use proto_statement_deleted::laws::numbers_are_read;
 use proto_statement_edits::{add_import, delete_field, drop_import};
+use proto_tree::Steps;
 use std::alloc::Global;
-use std::mem;
 
 impl Workspace {
     // What a rename changes, file by file, or the least case that refuses it.
@@ -84,19 +85,57 @@ impl Workspace {
         }
     }
 
-    // The workspace with changes, if they can be made and what they leave compiles.
-    fn with_changes(&self, alloc: Global, changes: &[Change]) -> Result<Option<Workspace>, Refusal>
-        requires { AreRising (map change_of changes.now) }
-        ensures ok { IfOk result (λ found. IsReopened self.now (map change_of changes.now) found) }
-        ensures err { IfErr result (λ r. r ≡ Refusal.NoMemory) }
+    // What an edit changes, as an entry, or the least case that refuses it.
+    fn entry_of(&self, alloc: Global, edit: &Edit) -> Result<Entry, Refusal>
+        ensures ok { IfOk result (λ entry. IsAdmissible self.now
+            (asked edit.now) × AreChanges self.now (asked edit.now) entry) }
+        ensures err { IfErr result (IsRefusal self.now (asked edit.now)) }
     {
-        let Some(list) = put_all(alloc, self.files(), changes)? else {
-            return Ok(None);
-        };
-        match Workspace::open(alloc, list) {
-            Ok(workspace) => Ok(Some(workspace)),
-            Err(SchemaFault::NoMemory) => Err(Refusal::NoMemory),
-            Err(SchemaFault::Schema(_)) => Ok(None),
+        // The files compile, so what is admissible changes them.
+        statements_are_known();
+        self.files();
+        let changes = self.change(alloc, edit)?;
+        match Entry::new(changes) {
+            Some(entry) => Ok(entry),
+            None => unreachable!(),
+        }
+    }
+
+    // Edits this workspace; each changed file is read again, once.
+    fn make(&mut self, alloc: Global, edit: &Edit, steps: &mut Steps) -> Result<Entry, Refusal>
+        requires steps { steps.old ≤ 2 ^ 63 }
+        ensures ok { IfOk result (λ entry. IsMappedStep self.old (asked edit.now) entry self.new) }
+        ensures err { IfErr result (λ r. IsRefusal self.old
+            (asked edit.now) r × (self.new ≡ self.old)) }
+        ensures counted { IfOk result (λ entry. steps.new ≡ steps.old + length entry) }
+        ensures refused { OnErr result ((steps.old ≤ steps.new)
+            × (steps.new ≤ steps.old + 4096)) }
+    {
+        // The files compile, so what is admissible can be made.
+        statements_are_known();
+        self.files();
+        let entry = self.entry_of(alloc, edit)?;
+        match self.put(alloc, entry.changes(), steps) {
+            Ok(()) => Ok(entry),
+            Err(Refusal::NoMemory) => Err(Refusal::NoMemory),
+            Err(_) => unreachable!(),
+        }
+    }
+
+    // The workspace with changes, if they can be made and what they leave compiles.
+    fn with_changes(&self, alloc: Global, changes: &[Change]) -> Result<Workspace, Refusal>
+        requires { AreRising (map change_of changes.now) }
+        ensures put { IfOk result (IsPut self.now (map change_of changes.now)) }
+        ensures compiled { IfOk result AreCompiled }
+        ensures err { IfErr result (IsPutRefusal self.now (map change_of changes.now)) }
+    {
+        let mut workspace = self.copy(alloc)?;
+        match workspace.put(alloc, changes, &mut Steps::new()) {
+            Ok(()) => Ok(workspace),
+            Err(refusal) => {
+                workspace.release();
+                Err(refusal)
+            }
         }
     }
 
@@ -110,14 +149,11 @@ impl Workspace {
         // The files compile, so what is admissible can be made.
         statements_are_known();
         self.files();
-        let changes = self.change(alloc, edit)?;
-        let workspace = match self.with_changes(alloc, &changes)? {
-            Some(workspace) => workspace,
-            None => unreachable!(),
-        };
-        match Entry::new(changes) {
-            Some(entry) => Ok((workspace, entry)),
-            None => unreachable!(),
+        let entry = self.entry_of(alloc, edit)?;
+        match self.with_changes(alloc, entry.changes()) {
+            Ok(workspace) => Ok((workspace, entry)),
+            Err(Refusal::NoMemory) => Err(Refusal::NoMemory),
+            Err(_) => unreachable!(),
         }
     }
 
@@ -128,10 +164,7 @@ impl Workspace {
         ensures err { IfErr result (IsUndoRefusal self.now entry.now) }
     {
         let back = all_turned_round(alloc, entry.changes())?;
-        match self.with_changes(alloc, &back)? {
-            Some(workspace) => Ok(workspace),
-            None => Err(Refusal::Stale),
-        }
+        self.with_changes(alloc, &back)
     }
 
     /// Edits this workspace and answers what was changed; a refused edit changes nothing.
@@ -140,9 +173,26 @@ impl Workspace {
         ensures err { IfErr result (λ r. IsRefusal self.old
             (asked edit) r × (self.new ≡ self.old)) }
     {
-        let (next, entry) = self.with_edit(alloc, &edit)?;
-        mem::replace(self, next).release();
-        Ok(entry)
+        self.apply_counted(alloc, edit, &mut Steps::new())
+    }
+
+    /// The same, and counts the files that are parsed: those that it changes, once each. An edit
+    /// that is refused has counted at most 4,096.
+    pub fn apply_counted(
+        &mut self,
+        alloc: Global,
+        edit: Edit,
+        steps: &mut Steps,
+    ) -> Result<Entry, Refusal>
+        requires steps { steps.old ≤ 2 ^ 63 }
+        ensures ok { IfOk result (λ entry. IsMappedStep self.old (asked edit) entry self.new) }
+        ensures err { IfErr result (λ r. IsRefusal self.old
+            (asked edit) r × (self.new ≡ self.old)) }
+        ensures counted { IfOk result (λ entry. steps.new ≡ steps.old + length entry) }
+        ensures refused { OnErr result ((steps.old ≤ steps.new)
+            × (steps.new ≤ steps.old + 4096)) }
+    {
+        self.make(alloc, &edit, steps)
     }
 
     /// Goes back before an entry; a stale entry changes nothing.
@@ -151,28 +201,27 @@ impl Workspace {
         ensures err { IfErr result (λ r. IsUndoRefusal self.old entry.now r
             × (self.new ≡ self.old)) }
     {
-        let before = self.without_entry(alloc, entry)?;
-        mem::replace(self, before).release();
-        Ok(())
+        self.undo_counted(alloc, entry, &mut Steps::new())
     }
 
-    // The same files, compiled anew.
-    fn recompile(&self, alloc: Global) -> Result<Workspace, Refusal>
-        ensures ok { IfOk result (λ w. w ≡ self.now) }
-        ensures err { IfErr result (λ r. r ≡ Refusal.NoMemory) }
+    /// The same, and counts the files that are parsed: those of the entry, once each. Where it is
+    /// refused it has counted at most 4,096.
+    pub fn undo_counted(
+        &mut self,
+        alloc: Global,
+        entry: &Entry,
+        steps: &mut Steps,
+    ) -> Result<(), Refusal>
+        requires steps { steps.old ≤ 2 ^ 63 }
+        ensures ok { IfOk result (λ _. IsUndo self.old entry.now self.new) }
+        ensures err { IfErr result (λ r. IsUndoRefusal self.old entry.now r
+            × (self.new ≡ self.old)) }
+        ensures counted { OnOk result (steps.new ≡ steps.old + length entry.now) }
+        ensures refused { OnErr result ((steps.old ≤ steps.new)
+            × (steps.new ≤ steps.old + 4096)) }
     {
-        let files = self.files();
-        let mut list = Vec::new(alloc);
-        for place in 0..files.len() as u32 {
-            let path = files.path(place).to_string(alloc)?;
-            let bytes = Vec::from_slice(alloc, files.source(place).as_bytes())?;
-            list.push((path, bytes))?;
-        }
-        match Workspace::open(alloc, list) {
-            Ok(workspace) => Ok(workspace),
-            Err(SchemaFault::NoMemory) => Err(Refusal::NoMemory),
-            Err(SchemaFault::Schema(_)) => unreachable!(),
-        }
+        let back = all_turned_round(alloc, entry.changes())?;
+        self.put(alloc, &back, steps)
     }
 
     /// The run of the edits: the workspace after them, and what each of them is answered. Only want
@@ -184,17 +233,11 @@ impl Workspace {
     ) -> Result<(Workspace, Vec<Result<Entry, Refusal>>), NoMemory>
         ensures { IfOk result (λ x. Run self.now (map asked edits.now) x.1.items x.0) }
     {
-        let mut workspace = match self.recompile(alloc) {
-            Ok(workspace) => workspace,
-            Err(_) => return Err(NoMemory),
-        };
+        let mut workspace = self.copy(alloc)?;
         let mut answers = Vec::new(alloc);
         for edit in edits {
-            let answer = match workspace.with_edit(alloc, edit) {
-                Ok((next, entry)) => {
-                    mem::replace(&mut workspace, next).release();
-                    Ok(entry)
-                }
+            let answer = match workspace.make(alloc, edit, &mut Steps::new()) {
+                Ok(entry) => Ok(entry),
                 Err(Refusal::NoMemory) => {
                     workspace.release();
                     return Err(NoMemory);
@@ -221,10 +264,10 @@ impl Workspace {
         ensures back { LeadsBack self.now entries.now result }
     {
         statements_are_known();
-        let mut workspace = self.recompile(alloc)?;
+        let mut workspace = self.copy(alloc)?;
         for entry in entries.iter().rev() {
-            match workspace.without_entry(alloc, entry) {
-                Ok(before) => mem::replace(&mut workspace, before).release(),
+            match workspace.undo(alloc, entry) {
+                Ok(()) => {}
                 Err(refusal) => {
                     workspace.release();
                     return Err(refusal);

@@ -9,4 +9,5 @@ pub use proto_desc::{Descriptors, OpenFault, to_json};
 pub use proto_entries::{Change, Edit, Entry, Refusal};
 pub use proto_files::{Fault, FaultKind, Files, NoMemory};
 pub use proto_names::{Kind, Link, RefId, SymbolId};
+pub use proto_tree::Steps;
 pub use workspace::Workspace;

@@ -1,20 +1,25 @@
 //! A workspace that compiles.
 
-ghost use Rattle.std.specs.Prelude.{◌≡◌, List, IfOk, IfErr};
+ghost use Rattle.std.specs.Prelude.{◌≡◌, ◌+◌, ◌≤◌, ◌^◌, List, length, map, IfOk, IfErr, OnOk, OnErr};
 ghost use Rattle.proto_desc.specs.Checked.{AreDescribed};
-ghost use Rattle.proto_descriptors.specs.Views.{files_desc};
+ghost use Rattle.proto_desc.specs.Views.{files_desc};
 ghost use Rattle.proto_files.specs.Faults.{HasNoFault};
 ghost use Rattle.proto_files.specs.GivenFiles.{files_of};
 ghost use Rattle.proto_files.specs.FilesRead.{ReadOf, AreRead};
 ghost use Rattle.proto_desc.specs.Opening.{IsOpenError};
 ghost use Rattle.proto_desc.specs.Whole.{WorkspaceFaults, IsSortedOf};
 ghost use Rattle.proto_names.specs.LinkOfFiles.{IsLinkOf};
+ghost use Rattle.proto_entries.specs.Entries.{AreRising, change_of};
+ghost use Rattle.proto_entries.specs.Putting.{IsPut};
+ghost use Rattle.proto_edit.specs.Answers.{IsPutRefusal};
 ghost use Rattle.proto_edit.specs.Compiled.{AreCompiled};
 
 use proto_desc::{Descriptors, Schema};
-use proto_faults::SchemaFault;
+use proto_entries::{Change, ChangedTexts, Refusal, changed_texts};
+use proto_faults::{NoMemory, SchemaFault};
 use proto_files::Files;
 use proto_names::Link;
+use proto_tree::Steps;
 use std::alloc::Global;
 use std::marker::Model;
 
@@ -74,6 +79,43 @@ impl Workspace {
         ensures read { (reads : List ReadOf) × AreRead self.now reads }
     {
         self.schema.descriptors()
+    }
+
+    /// An equal workspace. Refused for want of memory alone.
+    pub fn copy(&self, alloc: Global) -> Result<Workspace, NoMemory>
+        ensures { IfOk result (λ w. w ≡ self.now) }
+    {
+        let schema = self.schema.copy(alloc)?;
+        Ok(Workspace { schema })
+    }
+
+    // Puts changes into the files, which are read again, once each. Where the changes cannot be
+    // made, or what they leave does not compile, they are stale, and nothing changes.
+    pub(crate) fn put(
+        &mut self,
+        alloc: Global,
+        changes: &[Change],
+        steps: &mut Steps,
+    ) -> Result<(), Refusal>
+        requires rising { AreRising (map change_of changes.now) }
+        requires steps { steps.old ≤ 2 ^ 63 }
+        ensures put { OnOk result (IsPut self.old (map change_of changes.now) self.new) }
+        ensures compiled { OnOk result (AreCompiled self.new) }
+        ensures err { IfErr result (IsPutRefusal self.old (map change_of changes.now)) }
+        ensures kept { OnErr result (self.new ≡ self.old) }
+        ensures counted { OnOk result (steps.new ≡ steps.old + length changes.now) }
+        ensures refused { OnErr result ((steps.old ≤ steps.new)
+            × (steps.new ≤ steps.old + 4096)) }
+    {
+        let Some(changed) = changed_texts(alloc, self.schema.files(), changes)? else {
+            return Err(Refusal::Stale);
+        };
+        let ChangedTexts { places, texts } = changed;
+        match self.schema.replace_counted(alloc, &places, texts, steps) {
+            Ok(()) => Ok(()),
+            Err(SchemaFault::NoMemory) => Err(Refusal::NoMemory),
+            Err(SchemaFault::Schema(_)) => Err(Refusal::Stale),
+        }
     }
 
     /// Lets the workspace go, as `Schema::release` does, and for the same reason ensures nothing.

@@ -4,4 +4,5 @@ pub mod ShortPuts
 pub mod Walks
 mod EntrySums
 mod EntryTests
+pub mod TextPlaces
 pub mod Common

@@ -8,13 +8,13 @@ use Rattle.proto_entries.proofs.Puts.{same_file, contains_none}
 
 -- ---- the order of files and changes
 
-abbrev Ordered : List FileOf → Type 0
+abbrev pub Ordered : List FileOf → Type 0
 Ordered fs = AllPairs (λ f g. IsBefore f.path g.path) fs
 
-ahead : (f : FileOf) (fs : List FileOf) → Ordered (f ∷ fs) → (g : FileOf) → Contains fs g → IsBefore f.path g.path
+pub ahead : (f : FileOf) (fs : List FileOf) → Ordered (f ∷ fs) → (g : FileOf) → Contains fs g → IsBefore f.path g.path
 ahead f fs o g k = subst (λ (x : FileOf). IsBefore f.path x.path) k.2 (o 0 (suc k.0) g (omega arith) (omega (arith, k.1)))
 
-behind : (f : FileOf) (fs : List FileOf) → Ordered (f ∷ fs) → Ordered fs
+pub behind : (f : FileOf) (fs : List FileOf) → Ordered (f ∷ fs) → Ordered fs
 behind f fs o i j d lt within = o (suc i) (suc j) d (omega arith) (omega arith)
 
 pub rises_from : (c : ChangeOf) (cs : List ChangeOf) → AreRising (c ∷ cs) → (d : ChangeOf) → Contains cs d → IsBefore c.path d.path
@@ -29,7 +29,7 @@ rising_back [] h = tt
 rising_back (c ∷ []) h = (tt, tt)
 rising_back (c ∷ d ∷ ds) h = (h.0, rising_back (d ∷ ds) h.1)
 
-never : (p q r : List ℕ) → IsBefore p q → p ≡ r → q ≡ r → ⊥
+pub never : (p q r : List ℕ) → IsBefore p q → p ≡ r → q ≡ r → ⊥
 never p q r lt a b = never_before_itself r (subst (λ (z : List ℕ). IsBefore z r) a (subst (λ (z : List ℕ). IsBefore p z) b lt))
 
 same_or_not : (p q : List ℕ) → (p ≡ q) ⊎ (p ≢ q)

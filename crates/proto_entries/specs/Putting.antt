@@ -1,11 +1,11 @@
 -- How files are changed: each by the splices of its path; and how files and changes are gone
 -- through together, both in the order of their paths.
-use Rattle.std.specs.Prelude.{◌≡◌, ◌≢◌, ℕ, ◌≤◌, ◌⊎◌, List, [], ◌∷◌, length, Option, Some, None}
+use Rattle.std.specs.Prelude.{◌≡◌, ◌≢◌, ℕ, ◌<◌, ◌≤◌, ◌⊎◌, List, [], ◌∷◌, length, slice_set, All, AllPairs, Option, Some, None}
 use Rattle.std.specs.Global.{Vec}
 use Rattle.std.specs.List.{Contains}
 use Rattle.proto_text.specs.Edits.{Puts}
 use Rattle.proto_faults.specs.Texts.{Text, text_limit}
-use Rattle.proto_files.specs.GivenFiles.{FileOf}
+use Rattle.proto_files.specs.GivenFiles.{FileOf, file_at}
 use Rattle.proto_entries.specs.Entries.{ChangeOf}
 
 -- ---- by the paths
@@ -59,3 +59,36 @@ abbrev pub ArePut : List FileOf → List ChangeOf → List FileOf → Type 0
 ArePut [] cs after = (cs ≡ []) × (after ≡ [])
 ArePut (f ∷ fs) cs [] = ⊥
 ArePut (f ∷ fs) cs (g ∷ gs) = (rest : List ChangeOf) × IsNext f cs g rest × ArePut fs rest gs
+
+-- ---- at their places
+
+-- the files with these texts at these places, at the paths that they have
+abbrev pub with_texts : List FileOf → List ℕ → List Text → List FileOf
+with_texts files [] texts = files
+with_texts files (p ∷ ps) [] = files
+with_texts files (p ∷ ps) (t ∷ ts) =
+    with_texts (slice_set files p (record { path = (file_at files p).path; bytes = t })) ps ts
+
+-- these are the places of the files that are changed, and their texts with the changes
+pub record AreChangedTexts
+    (files : List FileOf) (cs : List ChangeOf) (places : List ℕ) (texts : List Text) : Type 0 where
+  pub within : All (λ place. place < length files) places
+  pub rising : AllPairs (λ a b. a < b) places
+  pub paired : length texts ≡ length places
+  pub counted : length places ≡ length cs
+  pub put : ArePut files cs (with_texts files places texts)
+
+-- this is the place of the changed file, with its text with the change
+pub record IsChangedFile
+    (files : List FileOf) (c : ChangeOf) (place : ℕ) (new : Text) : Type 0 where
+  pub within : place < length files
+  pub path : (file_at files place).path ≡ c.path
+  pub changed : HasChange (file_at files place).bytes c new
+
+-- no file of the change has a text with it
+abbrev pub HasNoChangedFile : List FileOf → ChangeOf → Type 0
+HasNoChangedFile files c = (f : FileOf) (new : Text)
+    → Contains files f
+    → f.path ≡ c.path
+    → HasChange f.bytes c new
+    → ⊥

@@ -1,9 +1,9 @@
 //! Changes put into the files of a workspace.
 
 ghost use Rattle.std.specs.Prelude.{List, map, IfOk, MatchOption};
-ghost use Rattle.proto_files.specs.GivenFiles.{FileOf, files_of};
-ghost use Rattle.proto_entries.specs.Entries.{ChangeOf, change_of};
-ghost use Rattle.proto_entries.specs.Putting.{IsChangedText, IsNext, ArePut};
+ghost use Rattle.proto_files.specs.GivenFiles.{AreWorkspaceFiles, FileOf, files_of};
+ghost use Rattle.proto_entries.specs.Entries.{AreRising, ChangeOf, change_of};
+ghost use Rattle.proto_entries.specs.Putting.{AreChangedTexts, HasNoChangedFile, IsChangedFile, IsChangedText, IsNext, ArePut};
 
 use crate::entry::Change;
 use proto_faults::NoMemory;
@@ -80,4 +80,59 @@ pub fn put_all(
     } else {
         Ok(None)
     }
+}
+
+/// Files by their places, and another text for each.
+#[derive(Drop)]
+pub struct ChangedTexts {
+    pub places: Vec<u32>,
+    pub texts: Vec<Vec<u8>>,
+}
+
+// The place of the file of a change, and its text with it. None where the file is not there, or is
+// not as before the change, or would be too long.
+fn changed_file(
+    alloc: Global,
+    files: &Files,
+    change: &Change,
+) -> Result<Option<(u32, Vec<u8>)>, NoMemory>
+    requires { AreWorkspaceFiles files.now }
+    ensures { IfOk result (λ found. MatchOption found
+        (HasNoChangedFile files.now (change_of change.now))
+        (λ x. IsChangedFile files.now (change_of change.now) x.0 x.1.items)) }
+{
+    let Some(place) = files.place_of_path(change.path.as_str()) else {
+        return Ok(None);
+    };
+    match changed_text(alloc, files.source(place).as_bytes(), change)? {
+        Some(text) => Ok(Some((place, text))),
+        None => Ok(None),
+    }
+}
+
+/// The places of the files that the changes are of, and their new texts, where all changes can be
+/// made; none exactly where `put_all` puts none. It looks at no other file.
+pub fn changed_texts(
+    alloc: Global,
+    files: &Files,
+    changes: &[Change],
+) -> Result<Option<ChangedTexts>, NoMemory>
+    requires rising { AreRising (map change_of changes.now) }
+    ensures { IfOk result (λ found. MatchOption found
+        ((after : List FileOf) → ArePut files.now (map change_of changes.now) after → ⊥)
+        (λ changed. AreChangedTexts files.now (map change_of changes.now)
+        changed.places.items (map (λ t. t.items) changed.texts.items))) }
+{
+    // Their paths are apart, and in order.
+    files.len();
+    let mut places = Vec::new(alloc);
+    let mut texts = Vec::new(alloc);
+    for change in changes {
+        let Some((place, text)) = changed_file(alloc, files, change)? else {
+            return Ok(None);
+        };
+        places.push(place)?;
+        texts.push(text)?;
+    }
+    Ok(Some(ChangedTexts { places, texts }))
 }

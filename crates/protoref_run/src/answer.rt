@@ -2,7 +2,7 @@
 
 ghost use Rattle.std.specs.Prelude.{◌≡◌, ◌++◌, IfErr, IfOk, codes};
 ghost use Rattle.proto_json.specs.DescriptorText.{json_text};
-ghost use Rattle.proto_descriptors.specs.Views.{files_desc};
+ghost use Rattle.proto_desc.specs.Views.{files_desc};
 ghost use Rattle.proto_output.specs.Answers.{status_of, printed_text};
 ghost use Rattle.protoref_run.specs.Linted.{IsLintOf};
 

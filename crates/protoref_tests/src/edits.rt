@@ -2,6 +2,7 @@
 
 mod allocations;
 mod calls;
+mod counts;
 mod deletions;
 mod entries;
 mod extensions;

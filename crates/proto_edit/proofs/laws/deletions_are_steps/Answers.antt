@@ -1,5 +1,5 @@
 use Rattle.proto_edit.specs.Workspaces.{delete_field}
-use Rattle.proto_edit.proofs.Steps.{admissible_step}
+use Rattle.proto_edit.proofs.EditSteps.{admissible_step}
 use Rattle.proto_edit.proofs.laws.deletions_are_steps.Goals as goal
 
 pub returns : goal.returns

@@ -1,5 +1,5 @@
 use Rattle.proto_edit.specs.Workspaces.{drop_import}
-use Rattle.proto_edit.proofs.Steps.{admissible_step}
+use Rattle.proto_edit.proofs.EditSteps.{admissible_step}
 use Rattle.proto_edit.proofs.laws.drops_are_steps.Goals as goal
 
 pub returns : goal.returns

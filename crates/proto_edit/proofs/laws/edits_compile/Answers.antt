@@ -1,4 +1,4 @@
-use Rattle.proto_edit.proofs.Steps.{edits_are_made, steps_compile}
+use Rattle.proto_edit.proofs.EditSteps.{edits_are_made, steps_compile}
 use Rattle.proto_edit.proofs.laws.edits_compile.Goals as goal
 
 pub returns : goal.returns

@@ -1,5 +1,5 @@
 use Rattle.std.proofs.Common.{IfOk, sym, subst, ◌∙◌, rules, Option}
-use Rattle.proto_descriptors.specs.Views.{files_desc}
+use Rattle.proto_desc.specs.Views.{files_desc}
 use Rattle.proto_desc.proofs.Common.{WorkspaceFaults}
 use Rattle.proto_files.proofs.Common.{IsLeastFault, fault_at}
 use Rattle.proto_records.specs.Known.{Over}

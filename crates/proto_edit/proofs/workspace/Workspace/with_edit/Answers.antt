@@ -1,33 +1,22 @@
-use Rattle.std.proofs.Common.{List, map, sym, ap, subst, Some, None}
-use Rattle.proto_edit.specs.Answers.{asked, IsReopened}
-use Rattle.proto_entries.specs.Entries.{ChangeOf, change_of, AreRising}
-use Rattle.proto_edit.proofs.Chains.{step_made}
-use Rattle.proto_edit.proofs.Steps.{cannot_fail, entry_is}
+use Rattle.std.proofs.Common.{◌≢◌, List, sym, subst, rules}
+use Rattle.proto_edit.specs.Common.{asked, IsPutRefusal}
+use Rattle.proto_entries.proofs.Common.{AreRising, ChangeOf, IsPut}
+use Rattle.proto_entries.specs.declared.refusal.Refusal.TheVariants as refusal
+use Rattle.proto_edit.proofs.Chains.{never_stale, step_made}
 use Rattle.proto_edit.proofs.workspace.Workspace.with_edit.Goals as goal
 
 pub with_changes-requires : goal.with_changes-requires
-with_changes-requires c =
-    let cs = map change_of c.in_ok-changes.changes.items in
-    let ok = c.in_ok-changes.ensures.ok in
-    subst AreRising (ap (map change_of) (sym c.deref.ensures.value)) (entry_is c.statements_are_known.ensures c.args.self.now (asked c.args.edit.now) cs c.files.ensures.compiled ok.0 ok.1).rising
+with_changes-requires c = subst AreRising (sym c.changes.ensures.items) c.changes.ensures.entry.rising
 
 pub unreachable-requires : goal.unreachable-requires
 unreachable-requires c =
     let w = c.args.self.now in
-    let cs = map change_of c.in_ok-changes.changes.items in
-    let ok = c.in_ok-changes.ensures.ok in
-    let found = subst (IsReopened w (map change_of c.deref.result.now)) c.in-None.is c.in_ok-workspace.ensures.ok in
-    cannot_fail c.statements_are_known.ensures w (asked c.args.edit.now) cs c.files.ensures.compiled ok.0 ok.1 (subst (λ (z : List ChangeOf). IsReopened w z None) (ap (map change_of) c.deref.ensures.value) found)
+    let refused = subst (λ (z : List ChangeOf). IsPutRefusal w z c.in-Err.field-0) c.changes.ensures.items c.in-Err.ensures.err in
+    let ne : c.in-Err.field-0 ≢ refusal.NoMemory = search rules in
+    never_stale c.statements_are_known.ensures w (asked c.args.edit.now) c.in_ok-entry.entry c.files.ensures.compiled c.in_ok-entry.ensures.ok c.in-Err.field-0 ne refused
 
-pub unreachable-requires-in-None-new : goal.unreachable-requires-in-None-new
-unreachable-requires-in-None-new c =
-    let ok = c.in_ok-changes.ensures.ok in
-    c.in-None-new.ensures (entry_is c.statements_are_known.ensures c.args.self.now (asked c.args.edit.now) (map change_of c.in_ok-changes.changes.items) c.files.ensures.compiled ok.0 ok.1)
-
-pub returns-clause-ok : goal.returns-clause-ok
-returns-clause-ok c =
+pub returns-in-Ok-clause-ok : goal.returns-in-Ok-clause-ok
+returns-in-Ok-clause-ok c =
     let w = c.args.self.now in
-    let cs = map change_of c.in_ok-changes.changes.items in
-    let found = subst (IsReopened w (map change_of c.deref.result.now)) c.in-Some.is c.in_ok-workspace.ensures.ok in
-    step_made c.statements_are_known.ensures w (asked c.args.edit.now) cs c.in-Some-new.entry c.in-Some.workspace c.files.ensures.compiled c.in-Some-new.ensures.0 c.in_ok-changes.ensures.ok
-    (subst (λ (z : List ChangeOf). IsReopened w z (Some c.in-Some.workspace)) (ap (map change_of) c.deref.ensures.value) found)
+    step_made c.statements_are_known.ensures w (asked c.args.edit.now) c.in_ok-entry.entry c.in-Ok.workspace c.files.ensures.compiled c.in_ok-entry.ensures.ok
+    (subst (λ (z : List ChangeOf). IsPut w z c.in-Ok.workspace) c.changes.ensures.items c.in-Ok.ensures.put)
