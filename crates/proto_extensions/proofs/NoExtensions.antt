@@ -22,11 +22,7 @@ module _ (cap : Option ℕ) (files : List FileOf) (reads : List ReadOf) (file : 
     where
       none : (h : Header) → is_extend h ≡ false → option_and_then (name_meant files reads file) (extendee_in h) ≡ None
       none (header.Extend x) t = absurd (true≢false t)
-      none (header.Message h) t = refl
-      none (header.Oneof h) t = refl
-      none (header.Enum h) t = refl
-      none (header.Service h) t = refl
-      none (header.Method s) t = refl
+      none whole t = refl
 
   none_of : (bs : List BlockOf) → list_any (λ b. is_extend b.header) bs ≡ false → flat_map (block_extensions cap files reads file) bs ≡ []
   none_of [] e = refl

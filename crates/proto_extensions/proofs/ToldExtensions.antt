@@ -70,11 +70,7 @@ module _ (files : List FileOf) (reads : List ReadOf) where
     where
       none : (h : Header) → may_hold h ≡ false → option_and_then (name_meant files reads file) (extendee_in h) ≡ None
       none (header.Extend x) t = absurd (true≢false t)
-      none (header.Message h) t = refl
-      none (header.Oneof h) t = refl
-      none (header.Enum h) t = refl
-      none (header.Service h) t = refl
-      none (header.Method s) t = refl
+      none whole t = refl
 
   -- the blocks that are listed have all extensions
   pub from_holders : (file : ℕ) (tree : Tree) → flat_map (block_extensions (Some past) files reads file) (holders_in tree) ≡ flat_map (block_extensions (Some past) files reads file) (blocks_in tree)

@@ -1,13 +1,11 @@
 -- An admissible rename of files without a fault leaves files without one (for the crates above).
-use Rattle.std.proofs.Common.{◌≡◌, ◌≢◌, ℕ, ◌<◌, ◌==◌, true, false, ◌⊎◌, if◌then◌else◌, List, [], ◌∷◌, ◌++◌, length, map, flat_map, Option, Some, None, is_some, option_map, refl, sym, ap, ap₂, subst, ◌∙◌, inl, inr, arith, codes, option_and_then, Contains, filter, eq-eqb, ne_eqb, bytes_eq}
+use Rattle.std.proofs.Common.{◌≡◌, ◌≢◌, ℕ, ◌<◌, ◌==◌, true, false, ◌⊎◌, if◌then◌else◌, List, [], ◌∷◌, ◌++◌, length, map, flat_map, Option, None, is_some, option_map, refl, sym, ap, ap₂, subst, ◌∙◌, inl, inr, arith, codes, option_and_then, Contains, filter, eq-eqb, ne_eqb, bytes_eq}
 use Rattle.proto_faults.proofs.Common.{All-contains, Contains-append_left, Contains-append_right, cases_Bool, cases_eq, cond-true, cond-false, contains_cases, contains_head, contains_later, from_map}
 use Rattle.proto_case.specs.Camel.{entry_name}
 use Rattle.proto_text.proofs.Common.{is_run, run_is, length_map, or_word}
 use Rattle.proto_tree.specs.declared.piece.Header.{Header}
 use Rattle.proto_tree.specs.Tree.{Tree}
-use Rattle.proto_tree.specs.declared.tree.Constant.{Constant}
 use Rattle.proto_tree.specs.declared.piece.Header.TheVariants as header
-use Rattle.proto_tree.specs.declared.tree.Constant.TheVariants as constant
 use Rattle.proto_files.proofs.Common.{HasNoFault, FileOf, ReadOf, read_at, read_once}
 use Rattle.proto_meaning.proofs.Common.{IsCaptured, At, at, reference_of}
 use Rattle.proto_meaning.specs.declared.kind.Kind.TheVariants.{Package, Entry}
@@ -25,6 +23,7 @@ use Rattle.proto_rename_described.specs.Allowed.{DefaultsFit, IsAllowedRename}
 use Rattle.proto_rename_described.specs.NamesKept.{AreKept, written}
 use Rattle.proto_rename_described.proofs.ExtensionsStay.{workspace_stays}
 use Rattle.proto_rename_described.proofs.NamesKept.{empty_parts, json_names_stay, reserved_names_stay}
+use Rattle.proto_rename_described.proofs.FileStays.{option_agrees}
 
 none_listed : (fs : List Flaw) → ((f : Flaw) → Contains fs f → ⊥) → fs ≡ []
 none_listed [] h = refl
@@ -43,19 +42,6 @@ empty_each f (y ∷ xs) e x c =
 all_empty : {A : Type 0} (f : A → List Flaw) (xs : List A) → ((x : A) → Contains xs x → f x ≡ []) → flat_map f xs ≡ []
 all_empty f [] h = refl
 all_empty f (x ∷ xs) h = ap₂ (λ (l m : List Flaw). l ++ m) (h x (contains_head x xs)) (all_empty f xs (λ y c. h y (contains_later x y xs c)))
-
-values_agree : (v w : ℕ → List ℕ) → ((t : ℕ) → v t ≡ w t) → (ts : List ℕ) → flat_map v ts ≡ flat_map w ts
-values_agree v w h [] = refl
-values_agree v w h (t ∷ ts) = ap₂ (λ (x y : List ℕ). x ++ y) (h t) (values_agree v w h ts)
-
-text_agrees : (v w : ℕ → List ℕ) → ((t : ℕ) → v t ≡ w t) → (x : Constant) → text_value v x ≡ text_value w x
-text_agrees v w h (constant.Text j) = ap Some (values_agree v w h (j.first ∷ j.rest))
-text_agrees v w h (constant.Word i) = refl
-text_agrees v w h (constant.Number n) = refl
-
-option_agrees : (v w : ℕ → List ℕ) → ((t : ℕ) → v t ≡ w t) → (o : Option Constant) → option_and_then (text_value v) o ≡ option_and_then (text_value w) o
-option_agrees v w h None = refl
-option_agrees v w h (Some x) = text_agrees v w h x
 
 may_is_no_package : (k : _) → may_rename k ≡ true → (k ≢ Package) × (k ≢ Entry)
 may_is_no_package k h = ((λ e. differ (sym h ∙ ap may_rename e)), λ e. differ (sym h ∙ ap may_rename e))

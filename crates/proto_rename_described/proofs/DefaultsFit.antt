@@ -1,5 +1,6 @@
 -- No default is wrong after a rename (for the crates above).
 use Rattle.std.proofs.Common.{◌≡◌, ℕ, ◌<◌, pos, neg_ℤ, Bool, true, false, not, ◌&&◌, if◌then◌else◌, List, [], length, find, flat_map, Option, Some, None, is_some, is_none, codes, refl, sym, ap, ap₂, subst, ◌∙◌, arith, Contains, filter, bytes_eq}
+use Rattle.std.proofs.lemmas.Bool.{and_parts, not-false}
 use Rattle.proto_tree.specs.declared.tree.Constant.{Constant}
 use Rattle.proto_tree.specs.declared.tree.FieldType.{FieldType}
 use Rattle.proto_tree.specs.declared.piece.Header.{Header}
@@ -25,15 +26,6 @@ use Rattle.proto_rename_described.proofs.NamesKept.{empty_parts, none_flawed, no
 no_value : (o : Option EnumOf) → is_value_of o None ≡ true → ⊥
 no_value None h = cc
 no_value (Some e) h = cc
-
-both : (b c : Bool) → (b && c) ≡ true → (b ≡ true) × (c ≡ true)
-both true true z = (refl, refl)
-both true false z = absurd cc
-both false c z = absurd cc
-
-is_true : (b : Bool) → not b ≡ false → b ≡ true
-is_true true h = refl
-is_true false h = absurd cc
 
 module _ (files : List FileOf) (reads : List ReadOf) (name to : List ℕ) (t : Target) (after : List FileOf) (seen : List ReadOf)
     (a : IsAllowedRename files reads name to t) (w : AreReworded (renamed_words files reads t to) files reads after seen)
@@ -70,9 +62,9 @@ module _ (files : List FileOf) (reads : List ReadOf) (name to : List ℕ) (t : T
   found_fits None q h = refl
   found_fits (Some o) q h =
       let there = find_there (is_named (text old) (codes "default")) f.options o q in
-      let may = is_true (may_default old f o) (none_flawed (not (may_default old f o)) _ o.name h) in
-      let p = both (not (has_label old (codes "repeated") f)) (is_none f.map_key && is_default_of old f.kind o.value) may in
-      let u = both (is_none f.map_key) (is_default_of old f.kind o.value) p.1 in
+      let may = not-false (may_default old f o) (none_flawed (not (may_default old f o)) _ o.name h) in
+      let p = and_parts (not (has_label old (codes "repeated") f)) (is_none f.map_key && is_default_of old f.kind o.value) may in
+      let u = and_parts (is_none f.map_key) (is_default_of old f.kind o.value) p.1 in
       let label : not (has_label new (codes "repeated") f) ≡ true = ap not (label_stays (codes "repeated") f.label refl) ∙ p.0 in
       let fits = value_fits o there.0 there.1 f.kind refl o.value refl u.1 in
       not_flawed (not (may_default new f o)) _ o.name (ap not (ap₂ (λ x y. x && y) label (ap₂ (λ x y. x && y) u.0 fits)))

@@ -1,6 +1,6 @@
 -- A default of an enum's field is one of the enum's values after a rename (for the crates above).
 use Rattle.std.proofs.Common.{◌≡◌, ℕ, ◌<◌, ◌==◌, Bool, true, false, ◌&&◌, ◌≢◌, ◌⊎◌, if◌then◌else◌, List, [], ◌∷◌, length, map, Option, Some, None, option_map, refl, sym, ap, ap₂, subst, ◌∙◌, inl, inr, cond, option_and_then, Contains, find, bytes_eq}
-use Rattle.proto_faults.proofs.Common.{cases_Bool, cond-true, cond-false, any_from, any_to, contains_map, from_map, same_from_word, word_from_same}
+use Rattle.proto_faults.proofs.Common.{and_parts, cases_Bool, cond-true, cond-false, any_from, any_to, contains_map, from_map, same_from_word, word_from_same}
 use Rattle.proto_case.specs.Camel.{entry_name}
 use Rattle.proto_text.specs.Texts.{word_at}
 use Rattle.proto_tree.specs.declared.tree.Reference.{Reference}
@@ -77,15 +77,10 @@ module _ (files : List FileOf) (reads : List ReadOf) (name to : List ℕ) (t : T
           ∙ any_from (bytes_eq now) (map (λ (v : Value). word_at (lexemes_of after seen (place_of d).file) v.name) (values_in b.within)) (word_at (lexemes_of after seen (place_of d).file) v.0.name)
           (contains_map (λ (v : Value). word_at (lexemes_of after seen (place_of d).file) v.name) (values_in b.within) v.0 v.1) (same_from_word now _ same)
 
-  both : (b c : Bool) → (b && c) ≡ true → (b ≡ true) × (c ≡ true)
-  both true true z = (refl, refl)
-  both true false z = absurd cc
-  both false c z = absurd cc
-
   -- what the test of a default says
   means_from : (enum : Option (List (List ℕ))) (old : List ℕ) (m : List (List ℕ)) (word : List ℕ) → means_value enum old (Some m) word ≡ true → (enum ≡ Some m) × (word ≡ old)
   means_from None old m word h = absurd cc
-  means_from (Some en) old m word h = let p = both (same_name m en) (bytes_eq word old) h in (ap Some (sym (name_from_same m en p.0)), word_from_same word old p.1)
+  means_from (Some en) old m word h = let p = and_parts (same_name m en) (bytes_eq word old) h in (ap Some (sym (name_from_same m en p.0)), word_from_same word old p.1)
 
   means_to : (enum : Option (List (List ℕ))) (old : List ℕ) (m : List (List ℕ)) (word : List ℕ) → enum ≡ Some m → word ≡ old → means_value enum old (Some m) word ≡ true
   means_to enum old m word q w = ap (λ z. means_value z old (Some m) word) q ∙ ap₂ (λ b c. b && c) (same_from_name m m refl) (same_from_word word old w)

@@ -38,7 +38,7 @@ text_agrees v w h (constant.Text j) = ap Some (values_agree v w h (j.first ∷ j
 text_agrees v w h (constant.Word i) = refl
 text_agrees v w h (constant.Number n) = refl
 
-option_agrees : (v w : ℕ → List ℕ) → ((t : ℕ) → v t ≡ w t) → (o : Option Constant) → option_and_then (text_value v) o ≡ option_and_then (text_value w) o
+pub option_agrees : (v w : ℕ → List ℕ) → ((t : ℕ) → v t ≡ w t) → (o : Option Constant) → option_and_then (text_value v) o ≡ option_and_then (text_value w) o
 option_agrees v w h None = refl
 option_agrees v w h (Some x) = text_agrees v w h x
 

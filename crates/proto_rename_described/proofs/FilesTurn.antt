@@ -1,5 +1,6 @@
 -- Each file of an allowed rename turns, and its descriptor goes under the name map (for the crates above).
 use Rattle.std.proofs.Common.{◌≡◌, ◌≢◌, ℕ, suc, ◌+◌, ◌<◌, ◌==◌, Bool, true, false, not, ◌&&◌, if◌then◌else◌, List, [], ◌∷◌, ◌++◌, length, map, flat_map, find, Option, Some, None, option_map, option_and_then, is_some, is_none, codes, refl, sym, ◌∙◌, ap, ap₂, subst, inl, inr, arith, Contains, bytes_eq}
+use Rattle.std.proofs.lemmas.Bool.{and_parts, not-false}
 use Rattle.proto_faults.specs.declared.fault.FaultKind.TheVariants as fault
 use Rattle.proto_faults.proofs.Common.{signed_decimal, cond-false, false_from_ne_true, All-contains, Contains-append_left, same_Some, contains_map, from_map}
 use Rattle.proto_case.proofs.Common.{entry_name, entry_differs}
@@ -44,15 +45,6 @@ use Rattle.proto_rename_described.proofs.WrittenJson.{writes_json}
 
 no : false ≡ true → ⊥
 no h = cc
-
-both : (b c : Bool) → (b && c) ≡ true → (b ≡ true) × (c ≡ true)
-both true true z = (refl, refl)
-both true false z = absurd cc
-both false c z = absurd cc
-
-is_true : (b : Bool) → not b ≡ false → b ≡ true
-is_true true h = refl
-is_true false h = absurd cc
 
 none_is : (o : Option ℕ) → is_none o ≡ true → is_some o ≡ false
 none_is None h = refl
@@ -300,9 +292,9 @@ module _ (files : List FileOf) (reads : List ReadOf) (name to : List ℕ) (t : T
           let flawless = none_flawed (a.is_proto3 && is_named (text a) (codes "default") o) _ o.name (empty_each (λ (o : OptionOf). _) f.options default_clean.1 o found.0) in
           let version : a.is_proto3 ≡ false = false_from_ne_true a.is_proto3 (λ z. no (sym flawless ∙ ap₂ (λ x y. x && y) z found.1)) in
           let wrong : wrong_default a f (find (is_named (text a) (codes "default")) f.options) ≡ [] = ap (λ v. if v then [] else wrong_default a f (find (is_named (text a) (codes "default")) f.options)) (sym version) ∙ default_clean.0 in
-          let may = is_true (may_default a f o) (none_flawed (not (may_default a f o)) _ o.name (ap (wrong_default a f) (sym q) ∙ wrong)) in
-          let p = both (not (has_label a (codes "repeated") f)) (is_none f.map_key && is_default_of a f.kind o.value) may in
-          let u = both (is_none f.map_key) (is_default_of a f.kind o.value) p.1 in
+          let may = not-false (may_default a f o) (none_flawed (not (may_default a f o)) _ o.name (ap (wrong_default a f) (sym q) ∙ wrong)) in
+          let p = and_parts (not (has_label a (codes "repeated") f)) (is_none f.map_key && is_default_of a f.kind o.value) may in
+          let u = and_parts (is_none f.map_key) (is_default_of a f.kind o.value) p.1 in
           let type : field_type_name a full f ≡ type_name_of a f.kind = cond-false (is_map f) _ (type_name_of a f.kind) (none_is f.map_key u.0) in
           default_by o found.0 found.1 f.kind refl o.value refl u.1 ∙ ap (λ z. mapped_default e taken z (default_text a o.value)) (sym type)
 

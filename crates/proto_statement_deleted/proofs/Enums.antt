@@ -1,5 +1,5 @@
 -- The enums of a file that loses a field: each is read as before.
-use Rattle.std.proofs.Common.{◌≡◌, ℕ, zero, suc, ◌==◌, inl, inr, Bool, not, List, [], ◌∷◌, map, Option, Some, None, slice_get, refl, sym, ◌∙◌, ap, eq-eqb, ne_eqb}
+use Rattle.std.proofs.Common.{◌≡◌, ℕ, ◌==◌, inl, inr, Bool, not, List, [], ◌∷◌, map, Option, slice_get, refl, sym, ◌∙◌, ap, eq-eqb, ne_eqb}
 use Rattle.std.proofs.lemmas.Bool.{cases_eq}
 use Rattle.proto_text.proofs.Common.{word_at, Lexeme}
 use Rattle.proto_tree.specs.declared.piece.Header.{Header}
@@ -10,16 +10,7 @@ use Rattle.proto_parts.proofs.Common.{number_value, values_in, EnumOf}
 use Rattle.proto_statement_described.proofs.Common.{enum_within, is_enum_at, starts_past_zero, IsDeletedIn, Reservation, WrittenField}
 use Rattle.proto_checks_laws.proofs.MovedParts.{maps_kept, values_moved}
 use Rattle.proto_statement_deleted.proofs.FoundBlocks.{are_found, first_read}
-
-abbrev text_in : Option Lexeme → List ℕ
-text_in None = []
-text_in (Some l) = l.text
-
-word_by : (ls : List Lexeme) (i : ℕ) → word_at ls i ≡ text_in (slice_get ls i)
-word_by [] zero = refl
-word_by [] (suc i) = refl
-word_by (l ∷ ls) zero = refl
-word_by (l ∷ ls) (suc i) = word_by ls i
+use Rattle.proto_statement_described.proofs.MovedScenes.{text_in, word_by}
 
 -- tokens that are alike have one text
 pub same_words : (ls ms : List Lexeme) (i j : ℕ) → slice_get ms j ≡ slice_get ls i → word_at ms j ≡ word_at ls i

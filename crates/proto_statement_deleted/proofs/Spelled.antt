@@ -4,15 +4,7 @@ use Rattle.proto_case.specs.Camel.{entry_name}
 use Rattle.proto_tree.specs.Moved.{Move}
 use Rattle.proto_meaning.proofs.Common.{place_from, place_of, At, at, declared_of, used_in, Reference, Declared, EntryOf, Given, Source, Token, Used, name_of, reference_of, shifted_declared, shifted_source, shifted_used, spell, Placed, map_agree, map_append, map_map}
 use Rattle.proto_statement_names.specs.Trees.{move_placed}
-
--- other tokens with the same texts
-name_by : {X Y : Type 0} (text : Y → List ℕ) (f : X → Y) (path : List (Source X)) → name_of text entry_name (map (shifted_source f) path) ≡ name_of (λ i. text (f i)) entry_name path
-name_by {X} text f path = map_map (shifted_source f) (spell text entry_name) path ∙ map_agree (λ s. spell text entry_name (shifted_source f s)) (spell (λ i. text (f i)) entry_name) path (λ s c. each s)
-  where
-    each : (s : Source X) → spell text entry_name (shifted_source f s) ≡ spell (λ i. text (f i)) entry_name s
-    each (Token i) = refl
-    each (EntryOf i) = refl
-    each (Given w) = refl
+use Rattle.proto_statement_names.proofs.Spelled.{name_by}
 
 -- tokens with one text
 name_agrees : {X : Type 0} (v w : X → List ℕ) → ((i : X) → v i ≡ w i) → (path : List (Source X)) → name_of v entry_name path ≡ name_of w entry_name path

@@ -10,11 +10,11 @@ use Rattle.proto_statement_described.specs.Scenes.{HasTokens, ScenesAreMoved, mo
 
 -- ---- tokens
 
-abbrev text_in : Option Lexeme → List ℕ
+abbrev pub text_in : Option Lexeme → List ℕ
 text_in None = []
 text_in (Some l) = l.text
 
-word_by : (ls : List Lexeme) (i : ℕ) → word_at ls i ≡ text_in (slice_get ls i)
+pub word_by : (ls : List Lexeme) (i : ℕ) → word_at ls i ≡ text_in (slice_get ls i)
 word_by [] zero = refl
 word_by [] (suc i) = refl
 word_by (l ∷ ls) zero = refl

@@ -10,6 +10,7 @@ use Rattle.proto_listing.proofs.Common.{imports_in, move_wanted}
 use Rattle.proto_parts.specs.Scenes.{string_of, value, value_or_none as value_by_kind}
 use Rattle.proto_descriptors.specs.Descriptors.{FileDesc}
 use Rattle.proto_statement_described.proofs.Common.{lexemes_of, AreDescribed, IsFileAddition, scene_at, tree_at, with_dependency, changed_at, additions_leave_no_fault, additions_map_descriptors}
+use Rattle.proto_statement_described.proofs.MovedScenes.{text_in, word_by}
 use Rattle.proto_statement_laws.proofs.Common.{LexemesAreMoved, import_place, IsInsertion, import_tree, import_tokens, token_of_text}
 use Rattle.proto_statement_changes.proofs.Common.{AdditionsAreChanges, AreFiles, with_read, with_text}
 use Rattle.proto_statement_names.proofs.Common.{unknown_path, AreClean, AdditionsKeepLinks, AdditionsKeepMeanings, IsAdded, MeanTheSame}
@@ -20,7 +21,6 @@ use Rattle.proto_statement_imports.proofs.FilePlaces.{place_named, place_within}
 use Rattle.proto_statement_imports.proofs.ImportFaults.{none_or}
 use Rattle.proto_statement_imports.proofs.Inserted.{IsInserted, are_moved, import_more, wanted_by}
 use Rattle.proto_statement_imports.proofs.MovedScenes.{moved_files_read}
-use Rattle.proto_statement_imports.proofs.PathTokens.{text_in, word_by}
 use Rattle.proto_statement_changes.proofs.Paths.{paths_are_plain}
 
 got_behind : (xs ys : List Lexeme) (n k : ℕ) → n ≡ length xs + k → slice_get (xs ++ ys) n ≡ slice_get ys k

@@ -9,7 +9,7 @@ use Rattle.proto_meaning.proofs.Common.{At, at, Reference, EntryOf, Given, Sourc
 use Rattle.proto_imports.specs.Links.{text_of, used_named}
 use Rattle.proto_statement_described.specs.SceneOf.{lexemes_of}
 use Rattle.proto_statement_imports.specs.MovedFiles.{AreMoved}
-use Rattle.proto_statement_imports.proofs.PathTokens.{text_in, word_by}
+use Rattle.proto_statement_described.proofs.MovedScenes.{text_in, word_by}
 
 -- ---- tokens among many files
 

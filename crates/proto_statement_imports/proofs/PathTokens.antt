@@ -1,5 +1,5 @@
 -- The token of an import's path is a string, whose value is the path.
-use Rattle.std.proofs.Common.{◌≡◌, ℕ, zero, suc, List, [], ◌∷◌, ◌++◌, get_or, Option, Some, None, refl, sym, ap, subst, ◌∙◌, inl, inr, arith, is_some, slice_get, Contains}
+use Rattle.std.proofs.Common.{◌≡◌, ℕ, List, [], ◌++◌, get_or, Option, Some, None, refl, sym, ap, subst, ◌∙◌, inl, inr, arith, is_some, slice_get, Contains}
 use Rattle.proto_faults.proofs.Common.{Contains-append_cases, Contains-append_left, Contains-append_right, slice_get-get_or, or_nothing, contains_cases, contains_head}
 use Rattle.proto_text.specs.declared.kind.TokenKind.TheVariants.{Text}
 use Rattle.proto_text.proofs.Common.{word_at, Lexeme, value_of}
@@ -10,6 +10,7 @@ use Rattle.proto_tree.specs.declared.piece.Statement.TheVariants as statement
 use Rattle.proto_tree.proofs.Common.{Mark, flat_header, flat_import, flat_option, flat_statement, mark, one, text_mark, Tree, End, Leaf, Block, Spells, flat, classes, marks_fit}
 use Rattle.proto_listing.proofs.Common.{Wanted, imports_in, statement_imports, text_only}
 use Rattle.proto_parts.specs.Scenes.{string_of, value_in, value_or_none as value_by_kind}
+use Rattle.proto_statement_described.proofs.MovedScenes.{text_in, word_by}
 
 -- ---- the paths of imports
 
@@ -42,16 +43,6 @@ path_token t ls w h c =
     (get_or ls w.path other, slice_get-get_or ls w.path other f.0, text_only (get_or ls w.path other).kind (get_or ls w.path other).text f.1)
 
 -- ---- their values
-
-abbrev pub text_in : Option Lexeme → List ℕ
-text_in None = []
-text_in (Some l) = l.text
-
-pub word_by : (ls : List Lexeme) (i : ℕ) → word_at ls i ≡ text_in (slice_get ls i)
-word_by [] zero = refl
-word_by [] (suc i) = refl
-word_by (l ∷ ls) zero = refl
-word_by (l ∷ ls) (suc i) = word_by ls i
 
 text_value : (o : Option (List ℕ)) → value_by_kind Text o ≡ or_nothing o
 text_value None = refl

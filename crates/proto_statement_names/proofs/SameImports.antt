@@ -1,36 +1,17 @@
 -- With the same imports, in whatever order, the same is seen; and the imports of files with those of one file changed (for the crates above).
-use Rattle.std.proofs.Common.{◌≡◌, ◌≢◌, ◌⊎◌, ◌↔◌, ℕ, zero, suc, ◌+◌, ◌<◌, Bool, true, false, ◌&&◌, ◌||◌, ◌==◌, List, [], length, get_or, filter, refl, sym, ◌∙◌, ap, subst, inl, inr, arith, slice_set, All, Contains, get_or-set_same, get_or-set_other}
-use Rattle.proto_faults.proofs.Common.{list_any, cases_eq, get_or_default, Contains-get_or, any_from, any_to, from_filter}
-use Rattle.proto_meaning.proofs.Common.{with_imports, MarksSeen, Import, Workspace, reaches, sees}
+use Rattle.std.proofs.Common.{◌≡◌, ◌≢◌, ◌⊎◌, ◌↔◌, ℕ, ◌+◌, ◌<◌, Bool, true, false, List, [], length, get_or, filter, refl, sym, ◌∙◌, ap, subst, inl, inr, arith, slice_set, All, Contains, get_or-set_same, get_or-set_other}
+use Rattle.proto_faults.proofs.Common.{cases_eq, get_or_default, Contains-get_or, from_filter}
+use Rattle.proto_meaning.proofs.Common.{with_imports, MarksSeen, Import, Workspace, sees}
 use Rattle.proto_imports.proofs.Common.{all_imports, import_from, import_in, import_of_file}
 use Rattle.proto_imports.specs.declared.import.FileImport.{FileImport}
+use Rattle.proto_statement_names.proofs.Sight.{sees_by}
 
 -- ---- what is seen
-
-or_more : (x y z : Bool) → (y ≡ true → z ≡ true) → (x || y) ≡ true → (x || z) ≡ true
-or_more true y z f h = refl
-or_more false y z f h = f h
-
-and_more : (x y z : Bool) → (y ≡ true → z ≡ true) → (x && y) ≡ true → (x && z) ≡ true
-and_more true y z f h = f h
-and_more false y z f h = h
-
-any_more : (p q : Import → Bool) (xs ys : List Import) → ((i : Import) → Contains xs i → Contains ys i) → ((i : Import) → p i ≡ true → q i ≡ true) → list_any p xs ≡ true → list_any q ys ≡ true
-any_more p q xs ys sub turn h = let x = any_to p xs h in any_from q ys x.0 (sub x.0 x.1) (turn x.0 x.2)
 
 same_test : (a b : Bool) → (a ≡ true → b ≡ true) → (b ≡ true → a ≡ true) → a ≡ b
 same_test true b f g = sym (f refl)
 same_test false true f g = g refl
 same_test false false f g = refl
-
-module _ (w : Workspace) (xs ys : List Import) (sub : (i : Import) → Contains xs i → Contains ys i) where
-  reaches_by : (n f g : ℕ) → reaches xs n f g ≡ true → reaches ys n f g ≡ true
-  reaches_by zero f g h = h
-  reaches_by (suc n) f g h =
-      or_more (f == g) _ _ (any_more (λ i. (i.from == f) && i.is_public && reaches xs n i.to g) (λ i. (i.from == f) && i.is_public && reaches ys n i.to g) xs ys sub (λ i q. and_more ((i.from == f) && i.is_public) _ _ (reaches_by n i.to g) q)) h
-
-  sees_by : (f g : ℕ) → sees (with_imports w xs) f g ≡ true → sees (with_imports w ys) f g ≡ true
-  sees_by f g h = or_more (f == g) _ _ (any_more (λ i. (i.from == f) && reaches xs w.files i.to g) (λ i. (i.from == f) && reaches ys w.files i.to g) xs ys sub (λ i q. and_more (i.from == f) _ _ (reaches_by w.files i.to g) q)) h
 
 -- so marks of the one are marks of the other
 pub same_marks : (w : Workspace) (xs ys : List Import) → ((i : Import) → Contains xs i ↔ Contains ys i) → (f : ℕ) (marks : List Bool) → MarksSeen (with_imports w xs) f marks → MarksSeen (with_imports w ys) f marks

@@ -31,7 +31,7 @@ abbrev pub wanted_in : ℕ → (ℕ → List ℕ) → Wanted → AskedImport
 wanted_in file words w = record { place = at file 0; path = or_nothing (value_of (words w.path)); is_public = w.is_public }
 
 -- other tokens with the same texts
-name_by : {X Y : Type 0} (text : Y → List ℕ) (f : X → Y) (path : List (Source X)) → name_of text entry_name (map (shifted_source f) path) ≡ name_of (λ i. text (f i)) entry_name path
+pub name_by : {X Y : Type 0} (text : Y → List ℕ) (f : X → Y) (path : List (Source X)) → name_of text entry_name (map (shifted_source f) path) ≡ name_of (λ i. text (f i)) entry_name path
 name_by {X} text f path = map_map (shifted_source f) (spell text entry_name) path ∙ map_agree (λ s. spell text entry_name (shifted_source f s)) (spell (λ i. text (f i)) entry_name) path (λ s c. each s)
   where
     each : (s : Source X) → spell text entry_name (shifted_source f s) ≡ spell (λ i. text (f i)) entry_name s
