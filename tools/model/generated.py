@@ -91,8 +91,8 @@ def bracketed(settings):
 class Maker:
     """Makes one workspace."""
 
-    def __init__(self, chance):
-        self.chance = chance
+    def __init__(self, chance, counts):
+        self.chance, self.counts = chance, counts
         self.taken = set()
         self.slots = []
         # The numbers that extensions of a message have, by its full name.
@@ -102,7 +102,7 @@ class Maker:
         return self.chance.random() < share
 
     def workspace(self):
-        count = self.chance.choice([1, 1, 1, 2, 2, 3, 3, 4, 5, 6, 7, 8])
+        count = self.chance.choice(self.counts)
         paths = self.chance.sample(PATHS, count)
         # Extensions are in files without proto3 alone.
         self.syntaxes = self.chance.choice([["proto3", "proto3", "proto2", ""], ["proto3", "proto2", "proto2", "", ""]])
@@ -423,10 +423,10 @@ def use_of(place, scope, words):
     return Use(place, scope, Reference(tokens[0], False, tokens))
 
 
-def workspace_by_chance(chance):
-    """The texts of a workspace that compiles."""
+def workspace_by_chance(chance, counts=(1, 1, 1, 2, 2, 3, 3, 4, 5, 6, 7, 8)):
+    """The texts of a workspace that compiles, of as many files as one of these counts says."""
     while True:
-        texts = Maker(chance).workspace()
+        texts = Maker(chance, counts).workspace()
         if not Workspace(texts).faults():
             return texts
 

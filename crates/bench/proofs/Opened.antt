@@ -1,4 +1,4 @@
--- What an edit asks of files, of those of a schema that was opened.
+-- What an edit asks of files, of those of a workspace that was opened.
 use Rattle.std.proofs.Common.{◌≡◌, List, sym, subst}
 use Rattle.proto_files.proofs.Common.{HasNoFault, FileOf}
 use Rattle.proto_imports.specs.Links.{LinkFaults}

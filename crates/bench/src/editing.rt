@@ -1,8 +1,9 @@
-//! An edit, and the time that it takes beside opening the files.
+//! An edit, and the time that its answer, making it and taking it back take beside opening the
+//! files.
 
 use crate::files_at;
-use proto_desc::Schema;
-use proto_entries::{Change, Refusal, put_all};
+use proto_edit::Workspace;
+use proto_entries::{Change, Refusal};
 use proto_files::are_read;
 use proto_rename::rename;
 use proto_statement_deleted::laws::numbers_are_read;
@@ -44,8 +45,8 @@ fn read_edit(words: &[String]) -> Option<(Edit<'_>, &[String])> {
     Some((edit, rest))
 }
 
-fn changes_of(alloc: Global, schema: &Schema, edit: Edit) -> Result<Vec<Change>, Refusal> {
-    let (files, link) = (schema.files(), schema.link());
+fn changes_of(alloc: Global, workspace: &Workspace, edit: Edit) -> Result<Vec<Change>, Refusal> {
+    let (files, link) = (workspace.files(), workspace.link());
     are_read(files);
     // The numbers of fields that compile are small.
     numbers_are_read();
@@ -57,44 +58,73 @@ fn changes_of(alloc: Global, schema: &Schema, edit: Edit) -> Result<Vec<Change>,
     }
 }
 
-// Whether what the changes leave is opened.
-fn opens_with(alloc: Global, schema: &Schema, changes: &[Change]) -> bool {
-    match put_all(alloc, schema.files(), changes) {
-        Ok(Some(files)) => match Schema::open(alloc, files) {
-            Ok(opened) => {
-                opened.release();
-                true
-            }
-            Err(_fault) => false,
+// How many files the edit changes.
+fn changed_count(alloc: Global, workspace: &Workspace, edit: Edit) -> Result<usize, Refusal> {
+    Ok(changes_of(alloc, workspace, edit)?.len())
+}
+
+// The edit as the workspace takes it.
+fn owned_edit(alloc: Global, edit: Edit) -> io::Result<proto_edit::Edit> {
+    Ok(match edit {
+        Edit::Rename { name, to } => proto_edit::Edit::Rename {
+            name: name.to_string(alloc)?,
+            to: to.to_string(alloc)?,
         },
-        _ => false,
-    }
+        Edit::DeleteField { name } => proto_edit::Edit::DeleteField {
+            name: name.to_string(alloc)?,
+        },
+        Edit::AddImport { file, path } => proto_edit::Edit::AddImport {
+            file: file.to_string(alloc)?,
+            path: path.to_string(alloc)?,
+        },
+        Edit::DropImport { file, path } => proto_edit::Edit::DropImport {
+            file: file.to_string(alloc)?,
+            path: path.to_string(alloc)?,
+        },
+    })
 }
 
 fn micros(from: Instant, to: Instant) -> u128 {
     to.duration_since(from).as_micros()
 }
 
-// The answer to an edit that is asked at a time, where the opening of the files began at another,
-// and what it leaves.
-fn print_answer<R: Print + Clock + AllocGlobal>(
+// Makes the edit in place and takes it back, and prints what each takes.
+fn print_made<R: Print + Clock + AllocGlobal>(
     rt: &R,
-    schema: &Schema,
-    answer: &Result<Vec<Change>, Refusal>,
-    begun: Instant,
-    asked: Instant,
+    workspace: &mut Workspace,
+    edit: proto_edit::Edit,
 ) -> io::Result<()> {
+    let asked = Instant::now(rt)?;
+    match workspace.apply(rt.alloc(), edit) {
+        Ok(entry) => {
+            let made = Instant::now(rt)?;
+            let end = match workspace.undo(rt.alloc(), &entry) {
+                Ok(()) => "undone",
+                Err(_) => "not undone",
+            };
+            let (making, undoing) = (micros(asked, made), micros(made, Instant::now(rt)?));
+            println!(rt; ", applied {making}, {end} {undoing}")
+        }
+        Err(_) => println!(rt; ", not applied"),
+    }
+}
+
+// The answer to an edit, where the opening of the files began at a time, and how it is made.
+fn answer<R: Print + Clock + AllocGlobal>(
+    rt: &R,
+    workspace: &mut Workspace,
+    edit: Edit,
+    begun: Instant,
+) -> io::Result<()> {
+    let asked = Instant::now(rt)?;
+    let answer = changed_count(rt.alloc(), workspace, edit);
     let answered = Instant::now(rt)?;
     let (opening, editing) = (micros(begun, asked), micros(asked, answered));
     match answer {
-        Ok(changes) => {
-            let end = if opens_with(rt.alloc(), schema, changes) {
-                "opened anew"
-            } else {
-                "not opened anew"
-            };
-            let (count, reopening) = (changes.len(), micros(answered, Instant::now(rt)?));
-            println!(rt; "{count} files: opened {opening}, edited {editing}, {end} {reopening}")
+        Ok(count) => {
+            print!(rt; "{count} files: opened {opening}, edited {editing}")?;
+            let edit = owned_edit(rt.alloc(), edit)?;
+            print_made(rt, workspace, edit)
         }
         Err(refusal) => {
             let (number, name) = (refusal.number(), refusal.name());
@@ -103,21 +133,9 @@ fn print_answer<R: Print + Clock + AllocGlobal>(
     }
 }
 
-// The answer is borrowed by what has early exits.
-fn answer<R: Print + Clock + AllocGlobal>(
-    rt: &R,
-    schema: &Schema,
-    edit: Edit,
-    begun: Instant,
-) -> io::Result<()> {
-    let asked = Instant::now(rt)?;
-    let answer = changes_of(rt.alloc(), schema, edit);
-    print_answer(rt, schema, &answer, begun, asked)
-}
-
-/// Prints how many files an edit changes, and three times in microseconds: of opening the files, of
-/// the edit's answer, and of putting its changes and opening what they leave. Of a refused edit why
-/// it is, and the first two times.
+/// Prints how many files an edit changes, and four times in microseconds: of opening the files, of
+/// the edit's answer, of making it in place, and of taking it back. Of a refused edit why it is,
+/// and the first two times.
 pub(crate) fn time_edit<R: Files + Print + Clock + AllocGlobal>(
     rt: &R,
     words: &[String],
@@ -127,10 +145,10 @@ pub(crate) fn time_edit<R: Files + Print + Clock + AllocGlobal>(
     };
     let given = files_at(rt, paths)?;
     let begun = Instant::now(rt)?;
-    match Schema::open(rt.alloc(), given) {
-        Ok(schema) => {
-            let printed = answer(rt, &schema, edit, begun);
-            schema.release();
+    match Workspace::open(rt.alloc(), given) {
+        Ok(mut workspace) => {
+            let printed = answer(rt, &mut workspace, edit, begun);
+            workspace.release();
             printed
         }
         Err(_fault) => println!(rt; "not opened"),
