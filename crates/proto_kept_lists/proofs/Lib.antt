@@ -1,3 +1,4 @@
 mod Merging
 mod Referring
 mod TakenBack
+pub mod WithValues

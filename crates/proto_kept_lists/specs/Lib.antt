@@ -1,3 +1,4 @@
 pub mod Merged
 pub mod Referred
 pub mod Undone
+pub mod Words

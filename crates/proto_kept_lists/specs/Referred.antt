@@ -1,6 +1,7 @@
 -- The references of all files to a name, file after file.
 use Rattle.std.specs.Prelude.{◌≡◌, ℕ, suc, ◌==◌, Bool, false, not, if◌then◌else◌, List, [], ◌∷◌, ◌++◌, length, map, get_or}
 use Rattle.std.specs.List.{filter}
+use Rattle.proto_kept_lists.specs.declared.backlinks.Meant.{Meant}
 use Rattle.proto_kept_lists.specs.declared.backlinks.RefId.{RefId}
 use Rattle.proto_kept_lists.specs.Merged.{ReferencesAreRising, is_of_marked_file}
 
@@ -8,6 +9,10 @@ use Rattle.proto_kept_lists.specs.Merged.{ReferencesAreRising, is_of_marked_file
 pub record MeantRow : Type 0 where
   pub reference : RefId
   pub row : ℕ
+
+-- what a file's reference means
+abbrev pub meant_row : ℕ → Meant → MeantRow
+meant_row file m = record { reference = record { file = file; token = m.token }; row = m.row }
 
 -- those that mean this name
 abbrev pub references_to_row : ℕ → List MeantRow → List RefId

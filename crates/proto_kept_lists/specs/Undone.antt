@@ -17,3 +17,9 @@ abbrev pub AddedAreCut : Type 0 → Type 0
 AddedAreCut T =
     (log : List (Change T)) (items added : List T) (count : ℕ) → count ≤ length items
     → take count (undone log (items ++ added)) ≡ take count (undone log items)
+
+-- the list with these values at these places, one after another
+abbrev pub with_values : {T : Type 0} → List T → List ℕ → List T → List T
+with_values items [] values = items
+with_values items (place ∷ places) [] = items
+with_values items (place ∷ places) (v ∷ values) = with_values (slice_set items place v) places values

@@ -16,6 +16,48 @@ pub struct RefId {
     pub token: u32,
 }
 
+/// A name of a link, by its number there.
+#[derive(Clone, Copy, Debug, PartialEq, Eq)]
+pub struct SymbolId {
+    /// The row of its table that has the name, from 0.
+    pub row: usize,
+}
+
+/// A reference by its first token (the dot, where it begins with one), the key of its first word
+/// (`word_key`), and the row of the name that it means.
+#[derive(Clone, Copy)]
+pub struct Meant {
+    /// The index of its first token in its file, from 0.
+    pub token: u32,
+    /// The key of its first word.
+    pub first: u32,
+    /// The row of the name that it means, from 0.
+    pub row: usize,
+}
+
+impl Meant {
+    /// The first token of the reference (the dot, where it begins with one).
+    pub fn token(self) -> u32
+        ensures { result ≡ self.token }
+    {
+        self.token
+    }
+
+    /// The key of its first word (`word_key`).
+    pub fn first_key(self) -> u32
+        ensures { result ≡ self.first }
+    {
+        self.first
+    }
+
+    /// The name that it means.
+    pub fn symbol(self) -> SymbolId
+        ensures { result.row ≡ self.row }
+    {
+        SymbolId { row: self.row }
+    }
+}
+
 /// The references to a name: of those that there were the ones of files that are not marked, and
 /// those that the marked files have now, by rising files. Only want of memory is refused.
 pub fn renewed(

@@ -5,6 +5,8 @@
 mod backlinks;
 mod changes;
 pub mod laws;
+mod words;
 
-pub use backlinks::{RefId, renewed};
-pub use changes::{Change, change_at, roll_back};
+pub use backlinks::{Meant, RefId, SymbolId, renewed};
+pub use changes::{Change, change_all_at, change_at, roll_back};
+pub use words::word_key;
