@@ -1,0 +1,7 @@
+mod Changes
+mod KindRows
+mod LastWords
+mod Marks
+pub mod References
+mod Renewing
+mod Rows

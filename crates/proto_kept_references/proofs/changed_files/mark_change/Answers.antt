@@ -1,0 +1,29 @@
+use Rattle.std.proofs.Common.{◌<◌, All, List, length, map, sym, subst}
+use Rattle.proto_kept_lists.specs.declared.backlinks.Meant.{Meant}
+use Rattle.proto_kept_lists.specs.declared.backlinks.RefId.{RefId}
+use Rattle.proto_kept_references.specs.Marking.{AreUsersMarked}
+use Rattle.proto_kept_references.specs.OuterRows.{HasLastWords}
+use Rattle.proto_kept_references.proofs.Changes.{beginners_marked, rows_within, users_marked, users_stay}
+use Rattle.proto_kept_references.proofs.changed_files.mark_change.Goals as goal
+
+pub last_word_keys-requires-clause-within : goal.last_word_keys-requires-clause-within
+last_word_keys-requires-clause-within c =
+    let n = length c.args.linked.table.now.rows.items in
+    subst (All (λ row. row < n)) (sym c.deref-2.ensures.value) (rows_within n c.args.now.now c.args.before.now c.in_ok-came.came.items c.in_ok-came.ensures c.requires.within)
+
+pub returns-clause-marked : goal.returns-clause-marked
+returns-clause-marked c =
+    let table = c.args.linked.table.now in
+    let references : List (List RefId) = map (λ v. v.items) c.args.linked.references.now in
+    let meant : List (List Meant) = map (λ v. v.items) c.args.linked.meant.now in
+    let first = c.mark_users.new.marks.items in
+    let marks = c.mark_beginners.new.marks.items in
+    let gone = c.in_ok-gone.gone.items in
+    let came = c.in_ok-came.came.items in
+    let keys = c.in_ok-keys.keys.keys in
+    record {
+      gone = users_marked marks references c.args.before.now c.args.now.now gone c.in_ok-gone.ensures
+          (users_stay first marks references gone c.mark_beginners.ensures.stay (subst (AreUsersMarked first references) c.deref.ensures.value c.mark_users.ensures.marked));
+      came = beginners_marked table marks meant c.args.before.now c.args.now.now came keys c.in_ok-came.ensures
+          (subst (λ rows. HasLastWords table rows keys) c.deref-2.ensures.value c.in_ok-keys.ensures) c.mark_beginners.ensures.marked;
+    }

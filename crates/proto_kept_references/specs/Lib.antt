@@ -1,0 +1,5 @@
+pub mod ChangedFiles
+pub mod Gathering
+pub mod Marking
+pub mod OuterRows
+pub mod Renewed

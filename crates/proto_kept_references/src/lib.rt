@@ -1,0 +1,9 @@
+//! The files that have to be looked at again once some are edited, and the lists of references to
+//! each name, renewed.
+#![tactic(auto)]
+
+pub mod changed_files;
+pub mod gathering;
+pub mod marking;
+pub mod outer_rows;
+pub mod renewed_references;
