@@ -1,4 +1,4 @@
--- Files without faults, once some are edited, have none if their imports, names and the references of marked files have none.
+-- Files without faults, once some are edited, have none if their imports, names and the references of marked files have none (for the crates above).
 use Rattle.std.proofs.Common.{◌≡◌, ℕ, Bool, true, false, List, [], map, refl, subst, arith, get_or, Contains, AllPairs}
 use Rattle.proto_faults.proofs.Common.{kind_number}
 use Rattle.proto_faults.specs.declared.fault.FaultKind.{FaultKind}
@@ -6,7 +6,7 @@ use Rattle.proto_faults.specs.declared.fault.FaultKind.TheVariants as kind
 use Rattle.proto_case.specs.Camel.{entry_name}
 use Rattle.proto_text.specs.Texts.{offset_at}
 use Rattle.proto_files.proofs.Common.{AreRead, FaultAt, FileOf, HasNoFault, ReadOf, file_at, paths_of, read_at, read_once}
-use Rattle.proto_meaning.proofs.Common.{AreApart, At, Fault, ImportFault, IsLinked, IsNested, NameFault, Reference, ReferenceFault, Skeleton, earlier, files_nested, linked_from, of_entry, of_package, references_sound, unresolved, wrong_kind}
+use Rattle.proto_meaning.proofs.Common.{AreApart, At, Fault, ImportFault, IsLinked, IsNested, NameFault, Reference, ReferenceFault, Skeleton, cycle, double, earlier, files_nested, linked_from, of_entry, of_package, references_sound, unknown, unresolved, wrong_kind}
 use Rattle.proto_imports.proofs.Common.{LinkFaults, FaultStandsAt, all_wanted, link_imports, link_skeleton, names_in, names_of_files, of_import, of_name, of_reference, text_of}
 use Rattle.proto_kept.proofs.Marked.{unmarked_mean_the_same, marked_decide}
 use Rattle.proto_kept.specs.Kept.{IsFlawless}
@@ -14,7 +14,7 @@ use Rattle.proto_relink.proofs.Differing.{edited_files_differ}
 use Rattle.proto_relink.specs.Edited.{AreEdited}
 use Rattle.proto_relink.specs.Relinked.{NoImportIsFaulty, NoNameClashes, HasToLook, UnmarkedFilesMeanTheSame, RelinkedAreClean}
 
-nested : (files : List FileOf) (reads : List ReadOf) → IsNested (names_of_files files reads).symbols
+pub nested : (files : List FileOf) (reads : List ReadOf) → IsNested (names_of_files files reads).symbols
 nested files reads = files_nested (text_of files reads) entry_name (link_imports files reads) (map names_in reads)
 
 -- ---- files without faults are linked
@@ -27,16 +27,21 @@ module _ (files : List FileOf) (reads : List ReadOf) (r : AreRead files reads) (
   unfolding standing
   stands f k e = record { path = refl; offset = refl; number = e }
 
-  no_name : NoNameClashes files reads
+  pub no_import : NoImportIsFaulty files reads
+  no_import f (unknown a c none) = clean (standing f kind.UnknownImport) (of_import reads f (standing f kind.UnknownImport) r (stands f kind.UnknownImport refl) (unknown a c none))
+  no_import f (double a after) = clean (standing f kind.DoubleImport) (of_import reads f (standing f kind.DoubleImport) r (stands f kind.DoubleImport refl) (double a after))
+  no_import f (cycle a to c named leads) = clean (standing f kind.ImportCycle) (of_import reads f (standing f kind.ImportCycle) r (stands f kind.ImportCycle refl) (cycle a to c named leads))
+
+  pub no_name : NoNameClashes files reads
   no_name f (earlier d h other) = clean (standing f kind.DuplicateName) (of_name reads f (standing f kind.DuplicateName) r (stands f kind.DuplicateName refl) (earlier d h other))
   no_name f (of_package d e cd ce other p same) = clean (standing f kind.DuplicateName) (of_name reads f (standing f kind.DuplicateName) r (stands f kind.DuplicateName refl) (of_package d e cd ce other p same))
 
-  no_reference : (f : Fault) → ReferenceFault (text_of files reads) (link_skeleton files reads) f → ⊥
+  pub no_reference : (f : Fault) → ReferenceFault (text_of files reads) (link_skeleton files reads) f → ⊥
   no_reference f (unresolved u cu h) = clean (standing f kind.Unresolved) (of_reference reads f (standing f kind.Unresolved) r (stands f kind.Unresolved refl) (unresolved u cu h))
   no_reference f (wrong_kind u s cu cs h m e) = clean (standing f kind.WrongKind) (of_reference reads f (standing f kind.WrongKind) r (stands f kind.WrongKind refl) (wrong_kind u s cu cs h m e))
   no_reference f (of_entry u s cu cs h e) = clean (standing f kind.MapEntryRef) (of_reference reads f (standing f kind.MapEntryRef) r (stands f kind.MapEntryRef refl) (of_entry u s cu cs h e))
 
-  linked : IsLinked (names_of_files files reads)
+  pub linked : IsLinked (names_of_files files reads)
   linked = linked_from (text_of files reads) (link_skeleton files reads) (nested files reads) no_name no_reference
 
 -- ---- names that do not clash are apart
@@ -50,7 +55,7 @@ nothing_used text k f (unresolved u cu h) = omega (arith, cu.1)
 nothing_used text k f (wrong_kind u s cu cs h m e) = omega (arith, cu.1)
 nothing_used text k f (of_entry u s cu cs h e) = omega (arith, cu.1)
 
-names_apart : (files : List FileOf) (reads : List ReadOf) → NoNameClashes files reads → AllPairs AreApart (names_of_files files reads).symbols
+pub names_apart : (files : List FileOf) (reads : List ReadOf) → NoNameClashes files reads → AllPairs AreApart (names_of_files files reads).symbols
 names_apart files reads names =
     let k = link_skeleton files reads in
     (linked_from (text_of files reads) (unused k) (nested files reads) names (nothing_used (text_of files reads) k)).unique

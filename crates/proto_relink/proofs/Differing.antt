@@ -1,4 +1,4 @@
--- What files that are not edited declare and refer to is the same.
+-- What files that are not edited declare and refer to is the same (for the crates above).
 use Rattle.std.proofs.Common.{◌≡◌, ℕ, zero, suc, ◌+◌, ◌<◌, List, [], ◌∷◌, ◌++◌, length, map, refl, sym, ◌∙◌, ap, ap₂, subst, inl, inr, arith, Contains}
 use Rattle.proto_faults.proofs.Common.{contains_map, from_map, length-map}
 use Rattle.proto_case.specs.Camel.{entry_name}
@@ -13,7 +13,7 @@ use Rattle.proto_relink.specs.Edited.{AreEdited, EditedFilesDiffer}
 
 -- ---- the file with a number
 
-file_there : (n : ℕ) (rs : List ReadOf) (k : ℕ) → k < length rs → FileAt n (map names_in rs) (n + k) (names_in (read_at rs k))
+pub file_there : (n : ℕ) (rs : List ReadOf) (k : ℕ) → k < length rs → FileAt n (map names_in rs) (n + k) (names_in (read_at rs k))
 file_there n [] k l = absurd (omega (arith, l))
 file_there n (r ∷ rs) zero l = inl (omega arith, refl)
 file_there n (r ∷ rs) (suc k) l =
@@ -21,13 +21,13 @@ file_there n (r ∷ rs) (suc k) l =
     inr (subst (λ m. FileAt (suc n) (map names_in rs) m (names_in (read_at rs k))) e (file_there (suc n) rs k (omega (arith, l))))
 
 -- what is known of a file by its number
-record IsNumbered (n : ℕ) (rs : List ReadOf) (file : ℕ) (f : FileNames) : Type 0 where
-  place : ℕ
-  within : place < length rs
-  file_is : file ≡ n + place
-  names_are : names_in (read_at rs place) ≡ f
+pub record IsNumbered (n : ℕ) (rs : List ReadOf) (file : ℕ) (f : FileNames) : Type 0 where
+  pub place : ℕ
+  pub within : place < length rs
+  pub file_is : file ≡ n + place
+  pub names_are : names_in (read_at rs place) ≡ f
 
-numbered : (n : ℕ) (rs : List ReadOf) (file : ℕ) (f : FileNames) → FileAt n (map names_in rs) file f → IsNumbered n rs file f
+pub numbered : (n : ℕ) (rs : List ReadOf) (file : ℕ) (f : FileNames) → FileAt n (map names_in rs) file f → IsNumbered n rs file f
 numbered n [] file f h = absurd h
 numbered n (r ∷ rs) file f (inl h) = record { place = 0; within = omega arith; file_is = omega (arith, h.0); names_are = h.1 }
 numbered n (r ∷ rs) file f (inr h) =
@@ -50,25 +50,25 @@ module _ (text now : At → List ℕ) (file : ℕ) (same : (i : ℕ) → now (at
   same_symbol : (p : Placed) → symbol_of now entry_name (declares file p) ≡ symbol_of text entry_name (declares file p)
   same_symbol p = ap (λ (n : List (List ℕ)). let s : Symbol = record { name = n; kind = p.kind; file = file } in s) (same_name (p.above ++ p.last ∷ []))
 
-  same_reference : (u : Used ℕ) → reference_of now entry_name (used_in file u) ≡ reference_of text entry_name (used_in file u)
+  pub same_reference : (u : Used ℕ) → reference_of now entry_name (used_in file u) ≡ reference_of text entry_name (used_in file u)
   same_reference u = ap₂ (λ (n ws : List (List ℕ)). let r : Reference = record { file = file; scope = n; is_absolute = u.is_absolute; wants_message = u.wants_message; words = ws } in r) (same_name u.scope) (same_words u.tokens)
 
 -- ---- the files before and now
 
 module _ (places : List ℕ) (before : List FileOf) (was : List ReadOf) (files : List FileOf) (reads : List ReadOf) (is : AreEdited places before was files reads) where
-  as_many : length before ≡ length files
+  pub as_many : length before ≡ length files
   as_many = sym (length-map before (λ (f : FileOf). f.path)) ∙ ap length is.same.paths ∙ length-map files (λ (f : FileOf). f.path)
 
   module _ (k : ℕ) (l : k < length files) (left : Contains places k → ⊥) where
     same_file : file_at before k ≡ file_at files k
     same_file = is.same.others k l left
 
-    same_reading : read_at was k ≡ read_at reads k
+    pub same_reading : read_at was k ≡ read_at reads k
     same_reading =
         let there : Reads (file_at before k).bytes (read_at was k).tokens (read_at was k).tree = is.were_read.trees k (omega (arith, l, as_many)) in
         one_reading (file_at files k).bytes (read_at was k) (read_at reads k) (subst (λ (f : FileOf). Reads f.bytes (read_at was k).tokens (read_at was k).tree) same_file there) (is.are_read.trees k l)
 
-    same_text : (i : ℕ) → text_of files reads (at k i) ≡ text_of before was (at k i)
+    pub same_text : (i : ℕ) → text_of files reads (at k i) ≡ text_of before was (at k i)
     same_text i = ap₂ (λ (f : FileOf) (r : ReadOf). words f.bytes r.tokens i) (sym same_file) (sym same_reading)
 
   symbol_stays : (s : Symbol) → Contains (names_of_files before was).symbols s → (Contains places s.file → ⊥) → Contains (names_of_files files reads).symbols s

@@ -1,2 +1,2 @@
-mod Clean
-mod Differing
+pub mod Clean
+pub mod Differing
