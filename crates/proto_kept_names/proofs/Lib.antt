@@ -1,0 +1,10 @@
+mod Again
+mod FileLists
+mod FilesDeclare
+mod ImportsByFile
+mod Leaving
+mod Places
+mod Renewing
+mod Replaced
+mod RowsPut
+mod Undoing

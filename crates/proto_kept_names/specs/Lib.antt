@@ -1,0 +1,6 @@
+pub mod Forgetting
+pub mod KeptImports
+pub mod NameLogs
+pub mod NamesOfFiles
+pub mod Renewal
+pub mod RenewedNames
