@@ -13,7 +13,7 @@ use Rattle.proto_meaning.specs.declared.kind.Kind.{Kind}
 use Rattle.proto_meaning.specs.declared.kind.Kind.TheVariants.{Package, Entry}
 use Rattle.proto_names.specs.Laws.{VisibleIsShown}
 use Rattle.proto_names.proofs.Common.{HoldsNames, IsLinkOf, meant_by_link, meant_by_use, TextMeant, LinkOf, name_text, use_there}
-use Rattle.proto_names.specs.declared.references.Meant.{Meant}
+use Rattle.proto_names.specs.Linking.{Meant}
 use Rattle.proto_rename_laws.proofs.Common.{HasScope, Captures, Target, may_rename, name_map, files_are_linked, files_are_woven}
 use Rattle.proto_captures.specs.Common.{captures_use, captures_words, AreNewNames, IsFirstIn, IsRenameOf, captures_by, first_passing, NewTexts, entry_words}
 use Rattle.proto_captures.proofs.ByTexts.{texts_for}

@@ -10,7 +10,7 @@ use Rattle.proto_listing.specs.declared.listing.Listed.{Listed}
 use Rattle.proto_listing.specs.declared.listing.Use.{Use}
 use Rattle.proto_meaning.proofs.Common.{IsOvertaken, At, at, used_in, ArePlain, IsPlain, joined, IsLinked, Reference, Workspace, meaning, Used, name_of, reference_of, map_map}
 use Rattle.proto_names.proofs.Common.{HoldsNames, IsLinkOf, meant_by_link, meant_by_use, TextMeant, LinkOf, name_text, use_there}
-use Rattle.proto_names.specs.declared.references.Meant.{Meant}
+use Rattle.proto_names.specs.Linking.{Meant}
 use Rattle.proto_rename_laws.proofs.Common.{HasScope, files_are_linked, files_are_woven}
 use Rattle.proto_captures.specs.Common.{first_passing, IsFirstOvertaken, Overtakes, SeesMarked, TellsPackages, overtakes_by, overtakes_use, overtakes_words}
 use Rattle.proto_captures.proofs.FirstOnes.{none_passes, one_passes}

@@ -8,7 +8,7 @@ use Rattle.proto_kept.specs.Beginnings.{BeginsSo, CapturesBeginSo, IsDeclaredSco
 use Rattle.proto_meaning.proofs.Common.{Renaming, At, used_in, Reference, Workspace, Used}
 use Rattle.proto_names.proofs.Common.{IsLinkOf, LinkOf}
 use Rattle.proto_names.specs.Referring.{first_key, word_key}
-use Rattle.proto_names.specs.declared.references.Meant.{Meant}
+use Rattle.proto_names.specs.Linking.{Meant}
 use Rattle.proto_rename_laws.proofs.Common.{HasScope, Target, name_map, files_are_woven}
 use Rattle.proto_captures.specs.Common.{AreNewNames, IsFirstIn, IsRenameOf, NewTexts, begins_with_key, entry_or_new, first_keys_of, has_first_key}
 use Rattle.proto_captures.proofs.ByTexts.{texts_for}

@@ -5,7 +5,7 @@ use Rattle.proto_files.proofs.Common.{ReadOf, FileOf}
 use Rattle.proto_meaning.specs.Skeleton.{Used}
 use Rattle.proto_names.proofs.Common.{TextMeant, meant_by_link, meant_by_use, LinkOf}
 use Rattle.proto_listing.specs.declared.listing.Use.{Use}
-use Rattle.proto_names.specs.declared.references.Meant.{Meant}
+use Rattle.proto_names.specs.Linking.{Meant}
 use Rattle.proto_captures.specs.FirstCaptured.{first_passing}
 
 -- what is left of a list begins with its next element

@@ -15,8 +15,8 @@ use Rattle.proto_meaning.specs.Edits.{target}
 use Rattle.proto_meaning.specs.Skeleton.{Used}
 use Rattle.proto_imports.specs.Links.{uses_of}
 use Rattle.proto_names.specs.Linking.{LinkOf, name_text}
-use Rattle.proto_names.specs.declared.link.RefId.{RefId}
-use Rattle.proto_names.specs.declared.references.Meant.{Meant}
+use Rattle.proto_names.specs.Linking.{RefId}
+use Rattle.proto_names.specs.Linking.{Meant}
 use Rattle.proto_rename_laws.specs.Cases.{Captures, StandsBefore}
 use Rattle.proto_rename_laws.specs.Targets.{Target, IsNamed, name_map}
 use Rattle.proto_captures.specs.Capturing.{captures_use}

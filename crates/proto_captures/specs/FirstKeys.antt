@@ -4,7 +4,7 @@ use Rattle.std.specs.Prelude.{ℕ, Bool, ◌==◌, ◌||◌, List, Option, Some,
 use Rattle.std.specs.List.{list_any}
 use Rattle.proto_faults.specs.Texts.{Text}
 use Rattle.proto_names.specs.Referring.{word_key}
-use Rattle.proto_names.specs.declared.references.Meant.{Meant}
+use Rattle.proto_names.specs.Linking.{Meant}
 use Rattle.proto_captures.specs.declared.first_keys.FirstKeys.{FirstKeys}
 use Rattle.proto_captures.specs.NewTexts.{NewTexts}
 

@@ -12,7 +12,7 @@ use Rattle.proto_meaning.specs.Names.{Workspace}
 use Rattle.proto_imports.specs.Links.{uses_of}
 use Rattle.proto_names.specs.LinkOfFiles.{IsLinkOf}
 use Rattle.proto_names.specs.Linking.{LinkOf}
-use Rattle.proto_names.specs.declared.references.Meant.{Meant}
+use Rattle.proto_names.specs.Linking.{Meant}
 use Rattle.proto_text.specs.Texts.{words}
 use Rattle.proto_captures.specs.FirstCaptured.{first_passing}
 use Rattle.proto_captures.specs.Overtaking.{IsFirstOvertaken, SeesMarked, TellsPackages, overtakes_by}

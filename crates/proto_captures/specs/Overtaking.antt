@@ -22,7 +22,7 @@ use Rattle.proto_meaning.specs.Skeleton.{Used, name_of}
 use Rattle.proto_meaning.specs.Tree.{package_of}
 use Rattle.proto_imports.specs.Links.{uses_of}
 use Rattle.proto_names.specs.Linking.{LinkOf, NameOf, name_with, name_text}
-use Rattle.proto_names.specs.declared.references.Meant.{Meant}
+use Rattle.proto_names.specs.Linking.{Meant}
 use Rattle.proto_imports.specs.Links.{used_named}
 use Rattle.proto_captures.specs.Capturing.{bytes_before, is_cons, shown_from}
 use Rattle.proto_meaning.specs.Joined.{below}

@@ -7,7 +7,7 @@ use Rattle.proto_files.proofs.Common.{FileOf, ReadOf}
 use Rattle.proto_meaning.proofs.Common.{At, at, joined, place_of, Declared}
 use Rattle.proto_names.specs.Common.{meant_at}
 use Rattle.proto_names.proofs.Common.{IsLinkRead, LinkOf, NameOf, declaring_file, name_at, own_file, own_token, name_text, declaring_token}
-use Rattle.proto_names.specs.declared.references.Meant.{Meant}
+use Rattle.proto_names.specs.Linking.{Meant}
 use Rattle.proto_parts.proofs.Common.{past}
 use Rattle.proto_numbers.specs.RangeIndex.{IsRangeIndexOf}
 use Rattle.proto_scenes.specs.SceneOf.{meaning_of}

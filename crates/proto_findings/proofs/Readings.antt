@@ -6,7 +6,7 @@ use Rattle.proto_text.specs.Tokens.{AreTokens, Lexeme, lexeme_at}
 use Rattle.proto_tree.specs.declared.tree.Separated.{Separated}
 use Rattle.proto_tree.specs.References.{first_of}
 use Rattle.proto_files.proofs.Common.{FileOf, file_at, ReadOf, AreRead, read_at, tokens_at}
-use Rattle.proto_names.specs.declared.references.Meant.{Meant}
+use Rattle.proto_names.specs.Linking.{Meant}
 use Rattle.proto_names.proofs.Common.{IsLinkOf, meant_by_link, LinkOf, row_at, name_text}
 use Rattle.proto_findings.specs.Readings.{read_of_file, Reading}
 

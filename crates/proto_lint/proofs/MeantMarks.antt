@@ -3,7 +3,7 @@ use Rattle.std.proofs.Common.{◌≡◌, ◌⊎◌, ◌↔◌, ℕ, ◌+◌, ◌
 use Rattle.proto_faults.proofs.Common.{cases_eq, Contains-append_left, Contains-append_right, Contains-append_cases, none-some, same_Some, contains_cases, contains_head}
 use Rattle.proto_imports.proofs.Common.{IsMarked, take_more}
 use Rattle.proto_names.specs.Linking.{LinkOf, declaring_file}
-use Rattle.proto_names.specs.declared.references.Meant.{Meant}
+use Rattle.proto_names.specs.Linking.{Meant}
 use Rattle.proto_lint.specs.ImportTables.{MarksMeant, MeansIn, with_mark}
 
 marked_cases : (marks : List Bool) (o : Option ℕ) (g : ℕ) → IsMarked (with_mark marks o) g → IsMarked marks g ⊎ (o ≡ Some g)

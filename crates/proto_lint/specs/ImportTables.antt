@@ -12,7 +12,7 @@ use Rattle.proto_files.specs.FilesRead.{ReadOf, AreRead}
 use Rattle.proto_imports.specs.Links.{link_imports, names_of_files}
 use Rattle.proto_imports.specs.Walks.{IsMarked}
 use Rattle.proto_names.specs.Linking.{LinkOf, declaring_file}
-use Rattle.proto_names.specs.declared.references.Meant.{Meant}
+use Rattle.proto_names.specs.Linking.{Meant}
 use Rattle.proto_lint.specs.Imports.{is_used}
 use Rattle.proto_lint.specs.declared.imports.Imports.{Imports}
 

@@ -1,9 +1,11 @@
 pub mod Common
 mod Copies
+mod DeclaredRows
 mod EachFile
 pub mod FileLists
 mod FileMeanings
 mod FirstTokens
+mod GrownLists
 mod InScope
 mod LeastFlaws
 mod LinkErrors
@@ -11,13 +13,27 @@ mod LinkIndex
 mod LinkLaws
 pub mod LinkMeanings
 mod LinkParts
+mod LinkTable
 mod Linking
 mod MeantBy
 pub mod MeantNames
 mod NameErrors
 mod NamesOfRows
 pub mod NamesThere
+mod OuterRows
+mod PartsBefore
+mod ReferencesByRow
+mod ReferencesStand
 mod Referring
+mod RenewedLink
+mod RenewedLists
+mod RenewedMarks
+mod RenewedMeanings
+mod RenewedParts
+mod RenewedSight
 mod Scopes
 mod TableNames
+mod Unmeant
 pub mod UsesOfFiles
+mod ValuesAtPlaces
+mod WaysBack

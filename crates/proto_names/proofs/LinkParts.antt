@@ -21,7 +21,7 @@ module _ (t : Table) (ok : IsTable t) where
       names_apart (names_of t) (aboves_of t) (look t) ok.forest i j (omega (arith, li, sized)) (omega (arith, lj, sized)) e
 
   module _ (l : LinkOf) (same : map name_of_row t.rows.items ≡ l.names) where
-    one_row : (i j : ℕ) (n : NameOf) → name_at l i ≡ Some n → j < length t.rows.items → get_or (names_of t) j [] ≡ n.text → j ≡ i
+    pub one_row : (i j : ℕ) (n : NameOf) → name_at l i ≡ Some n → j < length t.rows.items → get_or (names_of t) j [] ≡ n.text → j ≡ i
     one_row i j n h lj e = let r = text_to t l same i n h in apart j i lj r.0 (e ∙ sym r.1)
 
     pub holds_names : (w : Workspace) → IsIndexOf t w.symbols → HoldsNames w l
@@ -55,7 +55,7 @@ put f true x xs = refl
 put f false x xs = refl
 
 -- one that passes both tests, or neither, and others
-one_more : {X Y Z : Type 0} (p : X → Bool) (q : Y → Bool) (f : X → Z) (g : Y → Z) (x : X) (y : Y) (xs : List X) (ys : List Y) → p x ≡ q y → f x ≡ g y → map f (filter p xs) ≡ map g (filter q ys) → map f (filter p (x ∷ xs)) ≡ map g (filter q (y ∷ ys))
+pub one_more : {X Y Z : Type 0} (p : X → Bool) (q : Y → Bool) (f : X → Z) (g : Y → Z) (x : X) (y : Y) (xs : List X) (ys : List Y) → p x ≡ q y → f x ≡ g y → map f (filter p xs) ≡ map g (filter q ys) → map f (filter p (x ∷ xs)) ≡ map g (filter q (y ∷ ys))
 one_more {Z = Z} p q f g x y xs ys test same rest =
     put f (p x) x (filter p xs)
     ∙ ap (λ (b : Bool). cond b (f x ∷ map f (filter p xs)) (map f (filter p xs))) test
@@ -96,7 +96,7 @@ module _ (text : At → List ℕ) (t : Table) (ok : IsTable t) (w : Workspace) (
       (ap (λ (k : ℕ). let o : RefId = record { file = file; token = k } in o) token)
       (in_file file us ms tokens_on (λ k d l. rows (suc k) d (omega (arith, l))) names_on)
 
-  in_files : (n : ℕ) (rs : List ReadOf) (mss : List (List Meant)) → length mss ≡ length rs → ((k : ℕ) → k < length rs → Meanings (n + k) (uses_of rs k) (get_or mss k []))
+  pub in_files : (n : ℕ) (rs : List ReadOf) (mss : List (List Meant)) → length mss ≡ length rs → ((k : ℕ) → k < length rs → Meanings (n + k) (uses_of rs k) (get_or mss k []))
       → references_to row (all_meant n mss) ≡ map reference_id (filter test (all_used n (map names_in rs)))
   in_files n [] [] e h = refl
   in_files n [] (ms ∷ mss) e h = absurd (omega (arith, e))

@@ -11,7 +11,7 @@ all_meant_more n (y ∷ fs) x =
     ap (λ t. map (meant_in_file n) y ++ t) (all_meant_more (suc n) fs x ∙ ap (λ k. all_meant (suc n) fs ++ map (meant_in_file k) x) z)
     ∙ sym (append_assoc (map (meant_in_file n) y) (all_meant (suc n) fs) (map (meant_in_file (n + suc (length fs))) x))
 
-references_more : (row : ℕ) (xs ys : List MeantBy) → references_to row (xs ++ ys) ≡ references_to row xs ++ references_to row ys
+pub references_more : (row : ℕ) (xs ys : List MeantBy) → references_to row (xs ++ ys) ≡ references_to row xs ++ references_to row ys
 references_more row xs ys =
     ap (map (λ m. m.reference)) (filter-append (λ m. m.row == row) xs ys) ∙ map-append (λ m. m.reference) (filter (λ m. m.row == row) xs) (filter (λ m. m.row == row) ys)
 

@@ -17,7 +17,7 @@ use Rattle.proto_table.specs.Naming.{used_named}
 use Rattle.proto_names.specs.Referring.{IsFaultless, IsFlawed, IsReadBy, AreMeant}
 use Rattle.proto_meaning.specs.Skeleton.{Used, name_of}
 use Rattle.proto_names.specs.declared.references.BadReference.{BadReference}
-use Rattle.proto_names.specs.declared.references.Meant.{Meant}
+use Rattle.proto_kept_lists.specs.declared.backlinks.Meant.{Meant}
 use Rattle.proto_faults.specs.declared.or_no_memory.OrNoMemory.{OrNoMemory}
 use Rattle.proto_faults.specs.declared.or_no_memory.OrNoMemory.TheVariants as or
 use Rattle.proto_names.specs.declared.references.ReferenceFlaw.{ReferenceFlaw}

@@ -4,6 +4,8 @@ pub mod Laws
 pub mod LinkOfFiles
 pub mod Linking
 pub mod Referring
+pub mod Renewal
+pub mod Renewed
+pub mod Replacing
 pub mod Scopes
-pub mod WaysBack
 pub use Rattle.proto_imports.specs.Links

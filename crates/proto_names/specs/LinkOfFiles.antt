@@ -25,8 +25,8 @@ use Rattle.proto_table.specs.Resolved.{IsIndexOf}
 use Rattle.proto_meaning.specs.Marks.{MarksSeen}
 use Rattle.proto_meaning.specs.Skeleton.{Declared, Used, Skeleton, name_of, reference_of, workspace_of}
 use Rattle.proto_table.specs.Tables.{names_of}
-use Rattle.proto_names.specs.declared.link.RefId.{RefId}
-use Rattle.proto_names.specs.declared.references.Meant.{Meant}
+use Rattle.proto_kept_lists.specs.declared.backlinks.RefId.{RefId}
+use Rattle.proto_kept_lists.specs.declared.backlinks.Meant.{Meant}
 use Rattle.proto_table.specs.declared.table.Row.{Row}
 use Rattle.proto_table.specs.declared.table.Table.{Table}
 
@@ -119,6 +119,8 @@ pub record IsLinkRead (files : List FileOf) (reads : List ReadOf) (l : LinkOf) :
   pub declares : (file : ℕ) → file < length files → IsDeclaredBy files reads l file
   pub lists : length l.meant ≡ length files
   pub means : (file : ℕ) → file < length files → IsMeantIn files reads l file
+  -- a name that no file declares any more has no references
+  pub unmeant : (row : ℕ) → name_at l row ≡ None → get_or l.references row [] ≡ []
 
 -- the link of files: of whatever is read of them, it is the link
 abbrev pub IsLinkOf : List FileOf → LinkOf → Type 0

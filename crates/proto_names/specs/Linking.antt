@@ -9,8 +9,9 @@ use Rattle.proto_meaning.specs.declared.kind.Kind.{Kind}
 use Rattle.proto_meaning.specs.Linked.{is_package}
 use Rattle.proto_imports.specs.declared.import.FileImport.{FileImport}
 use Rattle.proto_table.specs.Tables.{files_of}
-use Rattle.proto_names.specs.declared.link.RefId.{RefId}
-use Rattle.proto_names.specs.declared.references.Meant.{Meant}
+pub use Rattle.proto_kept_lists.specs.declared.backlinks.RefId.{RefId}
+pub use Rattle.proto_kept_lists.specs.declared.backlinks.SymbolId.{SymbolId}
+pub use Rattle.proto_kept_lists.specs.declared.backlinks.Meant.{Meant}
 use Rattle.proto_table.specs.declared.table.Row.{Row}
 
 -- no element

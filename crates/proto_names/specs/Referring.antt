@@ -1,7 +1,8 @@
 -- The references of a file by the words of its tokens: what they mean, and which is faulty.
-use Rattle.std.specs.Prelude.{◌≡◌, ℕ, ◌+◌, ◌*◌, ◌^◌, ◌%◌, ◌<◌, Bool, true, if◌then◌else◌, List, [], ◌∷◌, ◌++◌, length, get_or, slice_get, map, Option, Some, None, option_map, is_some}
-use Rattle.std.specs.List.{All, Contains, fold}
+use Rattle.std.specs.Prelude.{◌≡◌, ℕ, ◌+◌, ◌<◌, Bool, true, if◌then◌else◌, List, [], ◌∷◌, ◌++◌, length, get_or, slice_get, map, Option, Some, None, option_map, is_some}
+use Rattle.std.specs.List.{All, Contains}
 use Rattle.proto_faults.specs.Texts.{Text}
+pub use Rattle.proto_kept_lists.specs.Words.{word_key}
 use Rattle.proto_meaning.specs.declared.kind.Kind.{Kind}
 use Rattle.proto_meaning.specs.declared.kind.Kind.TheVariants.{Entry, Enum}
 use Rattle.proto_meaning.specs.Names.{Symbol, Reference, Workspace, meaning}
@@ -17,7 +18,7 @@ use Rattle.proto_listing.specs.declared.listing.Use.{Use}
 use Rattle.proto_table.specs.declared.table.Row.{Row}
 use Rattle.proto_table.specs.declared.table.Table.{Table}
 use Rattle.proto_names.specs.declared.references.BadReference.{BadReference}
-use Rattle.proto_names.specs.declared.references.Meant.{Meant}
+use Rattle.proto_kept_lists.specs.declared.backlinks.Meant.{Meant}
 use Rattle.proto_names.specs.declared.references.ReferenceFlaw.{ReferenceFlaw}
 use Rattle.proto_names.specs.declared.references.ReferenceFlaw.TheVariants.{Unresolved, WrongKind, MapEntry}
 use Rattle.proto_faults.specs.declared.or_no_memory.OrNoMemory.{OrNoMemory}
@@ -37,10 +38,6 @@ reference_by file names text u = record {
   wants_message = u.wants_message;
   words = map text (dotted u.reference.now.words);
 }
-
--- the key of a word: its bytes as the digits of a number, modulo 2 ^ 32
-unfoldable pub word_key : Text → ℕ
-word_key word = fold (λ key byte. (key * 31 + byte) % 2 ^ 32) 0 word
 
 -- the key of the first word of a reference
 abbrev pub first_key : Reference → ℕ

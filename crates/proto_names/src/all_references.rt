@@ -11,9 +11,10 @@ ghost use Rattle.proto_imports.specs.Links.{AreListings, IsListing, link_skeleto
 ghost use Rattle.proto_files.specs.FilesRead.{Each};
 ghost use Rattle.proto_table.specs.Tables.{IsTable};
 
-use crate::references::{Meant, ReferenceError, meanings};
+use crate::references::{ReferenceError, meanings};
 use proto_faults::NoMemory;
 use proto_files::{Files, Words, are_read};
+use proto_kept_lists::Meant;
 use proto_listing::listing::Listing;
 use proto_table::table::Table;
 use std::alloc::Global;
@@ -71,7 +72,7 @@ pub(crate) fn all_meanings(
 
 /// What the references of one file mean, in order; else the first that is faulty, or want of
 /// memory.
-fn file_meanings(
+pub(crate) fn file_meanings(
     alloc: Global,
     files: &Files,
     file: u32,

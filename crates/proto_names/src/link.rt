@@ -19,54 +19,16 @@ ghost use Rattle.proto_names.specs.Scopes.{reference_in};
 ghost use Rattle.proto_table.specs.Tables.{IsTable};
 
 use crate::copying::copied;
-use crate::references::Meant;
 use crate::resolve::row_in_scope;
 use proto_faults::NoMemory;
 use proto_files::{Files, Words};
 use proto_imports::import::FileImport;
+use proto_kept_lists::{Meant, RefId, SymbolId};
 use proto_meaning::Kind;
 use proto_table::table::{Row, Table};
 use proto_tree::Reference;
 use std::alloc::Global;
 use std::marker::Model;
-
-/// A name of a link, by its number there.
-#[derive(Clone, Copy, Debug, PartialEq, Eq)]
-pub struct SymbolId {
-    row: usize,
-}
-
-/// A reference: its file, and its first token (the dot, where it begins with one).
-#[derive(Clone, Copy, Debug, PartialEq, Eq)]
-pub struct RefId {
-    /// The number of its file, from 0.
-    pub file: u32,
-    /// The index of its first token in that file, from 0.
-    pub token: u32,
-}
-
-impl Meant {
-    /// The first token of the reference (the dot, where it begins with one).
-    pub fn token(self) -> u32
-        ensures { result ≡ self.token }
-    {
-        self.token
-    }
-
-    /// The key of its first word (`word_key`).
-    pub fn first_key(self) -> u32
-        ensures { result ≡ self.first }
-    {
-        self.first
-    }
-
-    /// The name that it means.
-    pub fn symbol(self) -> SymbolId
-        ensures { result.row ≡ self.row }
-    {
-        SymbolId { row: self.row }
-    }
-}
 
 /// The names that a file declares, in order.
 #[derive(Clone, Copy)]
@@ -101,18 +63,18 @@ impl<'a> DeclaredNames<'a> {
 /// The names of files without faults, and what their references mean.
 #[derive(Drop)]
 pub struct Link {
-    table: Table,
+    pub(crate) table: Table,
     /// For each file, its imports, by the numbers of the files that they name.
-    imports: Vec<Vec<FileImport>>,
+    pub(crate) imports: Vec<Vec<FileImport>>,
     /// For each file, the rows of the names that it declares, its package first.
-    rows: Vec<Vec<usize>>,
+    pub(crate) rows: Vec<Vec<usize>>,
     /// For each file, the marks of the files that it sees.
-    seen: Vec<Vec<bool>>,
+    pub(crate) seen: Vec<Vec<bool>>,
     /// For each file, its references by their first tokens, which rise, with the keys of their first
     /// words and the rows of the names that they mean.
-    meant: Vec<Vec<Meant>>,
+    pub(crate) meant: Vec<Vec<Meant>>,
     /// For each name, the references that mean it.
-    references: Vec<Vec<RefId>>,
+    pub(crate) references: Vec<Vec<RefId>>,
 }
 
 impl Model for Link {

@@ -7,12 +7,13 @@ ghost use Rattle.proto_text.specs.Texts.{word_at};
 ghost use Rattle.proto_tree.specs.References.{dotted, first_of};
 ghost use Rattle.proto_meaning.specs.Joined.{joined, ArePlain};
 ghost use Rattle.proto_meaning.specs.Names.{Reference as NameReference, Workspace, meaning};
-ghost use Rattle.proto_names.specs.Referring.{first_token_of_use, reference_by, kind_flaw, row_flaw, word_key, AreMeant, IsReadBy, IsReferenceError};
+ghost use Rattle.proto_names.specs.Referring.{first_token_of_use, reference_by, kind_flaw, row_flaw, AreMeant, IsReadBy, IsReferenceError};
 ghost use Rattle.proto_table.specs.Resolved.{IsAsked};
 ghost use Rattle.proto_table.specs.Tables.{names_of, IsTable};
 
 use proto_faults::{NoMemory, OrNoMemory};
 use proto_files::Words;
+use proto_kept_lists::{Meant, word_key};
 use proto_listing::listing::{Above, Use};
 use proto_meaning::Kind;
 use proto_table::table::Table;
@@ -40,27 +41,6 @@ pub(crate) struct BadReference {
 
 /// Why the references of a file have no meanings: the first that is faulty, or want of memory.
 pub(crate) type ReferenceError = OrNoMemory<BadReference>;
-
-/// A reference by its first token, the key of its first word, and the row of the name that it
-/// means.
-#[derive(Clone, Copy)]
-pub struct Meant {
-    pub(crate) token: u32,
-    pub(crate) first: u32,
-    pub(crate) row: usize,
-}
-
-/// The key of a word: its bytes as the digits of a number, modulo 2^32. Equal words have equal
-/// keys, so that references which begin with a word are found without their texts.
-pub fn word_key(word: &str) -> u32
-    ensures { result ≡ word_key word.now }
-{
-    let mut key: u32 = 0;
-    for byte in word.as_bytes() {
-        key = key.wrapping_mul(31).wrapping_add(u32::from(*byte));
-    }
-    key
-}
 
 /// What the references of a file mean, in order; else the first that is faulty, or want of memory.
 /// The scopes are by index among the file's declarations, and `rows` has the row of each.

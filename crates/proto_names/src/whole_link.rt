@@ -1,6 +1,6 @@
 //! The link of files, from their trees.
 
-ghost use Rattle.std.specs.Prelude.{◌≡◌, ℕ, ◌<◌, List, [], length, get_or, map, IfOk, IfErr, OnOk, OnErr};
+ghost use Rattle.std.specs.Prelude.{◌≡◌, ◌≢◌, ℕ, ◌<◌, List, [], length, get_or, map, IfOk, IfErr, OnOk, OnErr};
 ghost use Rattle.std.specs.List.{All};
 ghost use Rattle.proto_files.specs.Faults.{HasNoFault};
 ghost use Rattle.proto_faults.specs.FaultTable.{kind_number as number_of_kind};
@@ -9,8 +9,9 @@ ghost use Rattle.proto_names.specs.FileReferences.{AreFileMeant, flaw_number};
 ghost use Rattle.proto_imports.specs.Importing.{all_imports, import_flaw_number};
 ghost use Rattle.proto_imports.specs.LinkErrors.{IsLinkError};
 ghost use Rattle.proto_names.specs.LinkOfFiles.{AreNamesOf, HasNoImportFault, HasNoNameFault, IsLinkOf};
-ghost use Rattle.proto_names.specs.Linking.{LinkOf};
-ghost use Rattle.proto_names.specs.WaysBack.{LeadsTo};
+ghost use Rattle.proto_names.specs.Replacing.{IsReplaceError};
+ghost use Rattle.proto_names.specs.declared.whole_link.Renewal.TheVariants.{Done, Refused};
+ghost use Rattle.proto_faults.specs.declared.fault.SchemaFault.{SchemaFault as SchemaFaultOf};
 ghost use Rattle.proto_relink.specs.Relinked.{WasLink};
 ghost use Rattle.proto_imports.specs.Links.{AreListings, LinkFaults, link_imports, link_skeleton, names_of_files, text_of};
 ghost use Rattle.proto_files.specs.FilesRead.{AreRead, Each, ReadOf};
@@ -21,13 +22,16 @@ ghost use Rattle.proto_listing.specs.declared.listing.Listing.{Listing};
 use crate::all_references::all_meanings;
 use crate::backlinks::references_by_name;
 use crate::link::Link;
+use crate::link_log::LinkLog;
+use crate::made::{MadeOfLink, Nothing};
 use crate::read_files::{all_spelled, all_written, listings};
-use crate::references::{Meant, ReferenceError, ReferenceFlaw};
-use crate::way_back::WayBack;
+use crate::references::{ReferenceError, ReferenceFlaw};
+use crate::renewal::{Edited, renew_parts};
 use proto_faults::{FaultKind, NoMemory, SchemaFault};
 use proto_files::{Files, all_paths, are_read, fault_at_token};
 use proto_imports::import::{FileImport, ImportError, ImportFlaw, resolve_imports};
 use proto_imports::sight::all_seen;
+use proto_kept_lists::Meant;
 use proto_listing::listing::Listing;
 use proto_table::filling::{NameError, declare_all};
 use proto_table::table::Table;
@@ -166,6 +170,17 @@ fn linked_references(
     }
 }
 
+/// How a link was changed in place.
+#[derive(Drop)]
+enum Renewal {
+    /// It is that of the files.
+    Done,
+    /// It cannot be changed, and no link of the files can be made.
+    Refused(SchemaFault),
+    /// It has to be made anew.
+    GivenUp,
+}
+
 impl Link {
     /// The link of the files, where their imports, names and references have no fault; else the
     /// least fault by phase, path, offset and number, or want of memory.
@@ -202,36 +217,111 @@ impl Link {
         ensures fault { IfErr result (IsLinkError files.now) }
         ensures kept { OnErr result (self.new ≡ self.old) }
     {
-        self.exchange(alloc, files, places)?.release();
-        Ok(())
+        self.replace_with(alloc, files, places, &mut Nothing)
     }
 
-    /// As `replace`, and answers the way back to what this link was.
-    pub fn exchange(
+    /// As `replace`, and has what is made of the link follow it. Where that is refused, the link is
+    /// as it was, and so is what is made of it.
+    pub fn replace_with<M: MadeOfLink>(
         &mut self,
         alloc: Global,
         files: &Files,
         places: &[u32],
-    ) -> Result<WayBack, SchemaFault>
+        made: &mut M,
+    ) -> Result<(), SchemaFault>
         requires places { All (λ place. place < length files.now) places.now }
         requires link { WasLink IsLinkOf files.now places.now self.old }
+        requires made { M.WasMade files.now places.now made.old }
         ensures link { OnOk result (IsLinkOf files.now self.new) }
         ensures clean { IfOk result (λ _. HasNoFault (LinkFaults files.now)) }
-        ensures fault { IfErr result (IsLinkError files.now) }
-        ensures kept { OnErr result (self.new ≡ self.old) }
-        ensures back { IfOk result (λ way. LeadsTo way self.new self.old) }
+        ensures made { OnOk result (M.IsMade files.now made.new) }
+        ensures fault { IfErr result (IsReplaceError M.IsRefused files.now) }
+        ensures kept { OnErr result ((self.new ≡ self.old) × (made.new ≡ made.old)) }
     {
-        let link = Link::new(alloc, files)?;
-        let was = mem::replace(self, link);
-        Ok(WayBack { link: was })
+        match self.renew(alloc, files, places, made) {
+            Renewal::Done => Ok(()),
+            Renewal::Refused(fault) => Err(fault),
+            Renewal::GivenUp => self.make_anew(alloc, files, places, made),
+        }
     }
 
-    /// Makes this what it was before the call of `exchange` that answered this way. Takes no
-    /// memory.
-    pub fn go_back(&mut self, way: WayBack)
-        requires { (was : LinkOf) × LeadsTo way self.old was }
-        ensures { (was : LinkOf) → LeadsTo way self.old was → self.new ≡ was }
+    /// Changes this link in place, and has what is made of it follow, if it does not give up.
+    fn renew<M: MadeOfLink>(
+        &mut self,
+        alloc: Global,
+        files: &Files,
+        places: &[u32],
+        made: &mut M,
+    ) -> Renewal
+        requires places { All (λ place. place < length files.now) places.now }
+        requires link { WasLink IsLinkOf files.now places.now self.old }
+        requires made { M.WasMade files.now places.now made.old }
+        ensures done { result ≡ Done → IsLinkOf files.now self.new
+            × HasNoFault (LinkFaults files.now) × M.IsMade files.now made.new }
+        ensures refused { (fault : SchemaFaultOf) → result ≡ Refused fault
+            → IsReplaceError M.IsRefused files.now fault }
+        ensures kept { result ≢ Done → (self.new ≡ self.old) × (made.new ≡ made.old) }
     {
-        mem::replace(self, way.link).release();
+        let count = self.references.len();
+        let mut log = LinkLog::new(alloc, &self.table, count);
+        let edited = Edited {
+            files,
+            places,
+            imports: &self.imports,
+            seen: &self.seen,
+        };
+        let renewed = renew_parts(
+            alloc,
+            edited,
+            &mut self.table,
+            &mut self.rows,
+            &mut self.meant,
+            &mut self.references,
+            &mut log,
+        );
+        let answer = match renewed {
+            Ok(true) => match made.follow(alloc, files, self, places) {
+                Ok(()) => return Renewal::Done,
+                Err(fault) => Renewal::Refused(fault),
+            },
+            Ok(false) => Renewal::GivenUp,
+            Err(NoMemory) => Renewal::Refused(SchemaFault::NoMemory),
+        };
+        log.take_back(
+            &mut self.table,
+            &mut self.rows,
+            &mut self.meant,
+            &mut self.references,
+        );
+        answer
+    }
+
+    /// Makes the link of the files anew, and has what is made of it follow.
+    fn make_anew<M: MadeOfLink>(
+        &mut self,
+        alloc: Global,
+        files: &Files,
+        places: &[u32],
+        made: &mut M,
+    ) -> Result<(), SchemaFault>
+        requires places { All (λ place. place < length files.now) places.now }
+        requires made { M.WasMade files.now places.now made.old }
+        ensures link { OnOk result (IsLinkOf files.now self.new) }
+        ensures clean { IfOk result (λ _. HasNoFault (LinkFaults files.now)) }
+        ensures made { OnOk result (M.IsMade files.now made.new) }
+        ensures fault { IfErr result (IsReplaceError M.IsRefused files.now) }
+        ensures kept { OnErr result ((self.new ≡ self.old) × (made.new ≡ made.old)) }
+    {
+        let link = Link::new(alloc, files)?;
+        match made.follow(alloc, files, &link, places) {
+            Ok(()) => {
+                mem::replace(self, link).release();
+                Ok(())
+            }
+            Err(fault) => {
+                link.release();
+                Err(fault)
+            }
+        }
     }
 }

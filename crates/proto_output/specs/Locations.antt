@@ -3,7 +3,7 @@ use Rattle.std.specs.Prelude.{ℕ, List}
 use Rattle.proto_faults.specs.Texts.{Path}
 use Rattle.proto_files.specs.FilesRead.{ReadOf, read_at}
 use Rattle.proto_files.specs.GivenFiles.{FileOf, file_at}
-use Rattle.proto_names.specs.declared.link.RefId.{RefId}
+use Rattle.proto_names.specs.Linking.{RefId}
 use Rattle.proto_output.specs.declared.locations.Location.{Location}
 use Rattle.proto_output.specs.declared.place.Place.{Place}
 use Rattle.proto_text.specs.Lines.{column_at, line_at}

@@ -11,7 +11,7 @@ use Rattle.proto_files.proofs.Common.{FileOf, file_at, AreRead, ReadOf, read_at,
 use Rattle.proto_meaning.proofs.Common.{at, ArePlain, joined, same_name, Used, name_from_same, same_from_name, joined_apart, meant}
 use Rattle.proto_imports.proofs.Common.{names_of_files, text_of, used_named, uses_of, names_are_plain}
 use Rattle.proto_names.proofs.Common.{IsLinkRead, TextMeant, meant_by_link, meant_by_use, LinkOf, row_at, name_text}
-use Rattle.proto_names.specs.declared.references.Meant.{Meant}
+use Rattle.proto_names.specs.Linking.{Meant}
 use Rattle.proto_parts.proofs.Common.{BlockOf, FieldOf, blocks_in, Scene, text}
 use Rattle.proto_rename_laws.proofs.Common.{meaning_of, default_words, fields_of_block, fields_of_file, meaning_from, means_value, renamed_default, type_meaning, find_there}
 use Rattle.proto_members.proofs.Common.{given_by_holders, holders_in, may_hold, IsReadAs}

@@ -10,7 +10,7 @@ use Rattle.proto_entries.specs.Entries.{ChangeOf}
 use Rattle.proto_entries.specs.declared.refusal.Refusal.TheVariants as refusal
 use Rattle.proto_meaning.proofs.Common.{Collides, At, at, FileNames, all_used, file_used, used_in, Used, symbol_of}
 use Rattle.proto_imports.specs.Links.{LinkFaults, link_skeleton, names_in, names_of_files, text_of}
-use Rattle.proto_names.specs.declared.link.RefId.{RefId}
+use Rattle.proto_names.specs.Linking.{RefId}
 use Rattle.proto_captures.proofs.Common.{IsCapturedPlace, IsAimOf, IsAimedAt, IsNoTarget}
 use Rattle.proto_captures.specs.FirstCaptured.{IsFirstCaptured}
 use Rattle.proto_rename_laws.proofs.Common.{JsonNameClashes, ReservesWord, is_keyword_of, unknown_target, kind_not_allowed, not_an_identifier, keyword_name, same_name, collision, captured, name_reserved, json_clash, too_large, Target, name_map}

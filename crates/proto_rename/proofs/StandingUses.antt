@@ -9,7 +9,7 @@ use Rattle.proto_listing.specs.declared.listing.Use.{Use}
 use Rattle.proto_meaning.proofs.Common.{Renaming, target, At, at, used_in, ArePlain, joined, IsLinked, Workspace, meaning, same_name, Token, Skeleton, Used, name_of, reference_of, spell, symbol_of, Placed, name_from_same, same_from_name, map_append, has_meaning, meant}
 use Rattle.proto_imports.proofs.Common.{LinkFaults, link_skeleton, names_in, names_of_files, text_of, used_named, uses_of, names_are_plain}
 use Rattle.proto_names.proofs.Common.{from_use, use_there, IsLinkRead, TextMeant, meant_by_link, meant_by_use, LinkOf, name_text}
-use Rattle.proto_names.specs.declared.references.Meant.{Meant}
+use Rattle.proto_names.specs.Linking.{Meant}
 use Rattle.proto_rename_laws.proofs.Common.{front_of, standing, stands, Target, IsNamed, name_map, files_are_linked, from_flat_map, stands_at, to_flat_map, meaning_parts}
 use Rattle.proto_rename.specs.StandingTokens.{counted, from_end, goes_on, standing_tokens, words_behind}
 use Rattle.proto_rename.proofs.EndTokens.{cons_parts, end_split, is_listed, listed_is, same_fronts, split_end, split_map}

@@ -11,7 +11,7 @@ use Rattle.proto_listing.specs.declared.listing.Use.{Use}
 use Rattle.proto_meaning.specs.Grown.{at}
 use Rattle.proto_imports.specs.Links.{text_of, link_skeleton}
 use Rattle.proto_names.specs.Linking.{LinkOf, name_text}
-use Rattle.proto_names.specs.declared.references.Meant.{Meant}
+use Rattle.proto_names.specs.Linking.{Meant}
 use Rattle.proto_rename_laws.specs.Places.{standing}
 use Rattle.proto_rename_laws.specs.Targets.{Target, name_map}
 use Rattle.proto_captures.specs.Aims.{IsAimedAt}

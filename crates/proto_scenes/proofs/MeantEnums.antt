@@ -5,7 +5,7 @@ use Rattle.proto_files.proofs.Common.{FileOf, ReadOf}
 use Rattle.proto_meaning.proofs.Common.{place_of, At, at, joined, is_package, Declared, Used, meant}
 use Rattle.proto_names.specs.Links.{uses_of}
 use Rattle.proto_names.proofs.Common.{IsLinkRead, meant_by_link, meant_by_use, LinkOf, NameOf, name_at, own_file, own_token}
-use Rattle.proto_names.specs.declared.references.Meant.{Meant}
+use Rattle.proto_names.specs.Linking.{Meant}
 use Rattle.proto_names.proofs.LinkMeanings.{rising_by}
 use Rattle.proto_parts.specs.declared.scene.MeantAt.{MeantAt}
 use Rattle.proto_parts.specs.Scenes.{EnumOf, MeantOf}

@@ -8,7 +8,7 @@ use Rattle.proto_names.specs.Links.{uses_of, link_skeleton, names_of_files, text
 use Rattle.proto_names.proofs.Common.{IsLinkRead, TextMeant, meant_by_link, meant_by_use, LinkOf, NameOf, name_at, name_declared_as as stands_at}
 use Rattle.proto_meaning.specs.declared.kind.Kind.{Kind}
 use Rattle.proto_meaning.specs.declared.kind.Kind.TheVariants.{Package, Message, Entry, Enum, Service, Field, EntryField, Oneof, Value, Method, Extension}
-use Rattle.proto_names.specs.declared.references.Meant.{Meant}
+use Rattle.proto_names.specs.Linking.{Meant}
 use Rattle.proto_scenes.specs.SceneOf.{declared_as, meaning_of}
 
 -- ---- finding one that is there

@@ -4,7 +4,7 @@ use Rattle.std.specs.Option.{option_and_then}
 use Rattle.proto_faults.specs.Texts.{or_nothing}
 use Rattle.proto_meaning.specs.Grown.{At, at}
 use Rattle.proto_names.specs.Linking.{LinkOf, declaring_file, name_text, declaring_token}
-use Rattle.proto_names.specs.declared.references.Meant.{Meant}
+use Rattle.proto_names.specs.Linking.{Meant}
 use Rattle.proto_parts.specs.Scenes.{EnumOf, MeantOf}
 
 -- the enum that stands at the file and token of the link's name in a row, if an enum stands there

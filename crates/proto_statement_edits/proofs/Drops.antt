@@ -6,7 +6,7 @@ use Rattle.proto_files.proofs.Common.{ReadOf, AreRead, read_at, FileOf, file_at,
 use Rattle.proto_entries.specs.declared.refusal.Refusal.{Refusal}
 use Rattle.proto_entries.specs.declared.refusal.Refusal.TheVariants as refusal
 use Rattle.proto_meaning.proofs.Common.{At, Used}
-use Rattle.proto_names.specs.declared.link.RefId.{RefId}
+use Rattle.proto_names.specs.Linking.{RefId}
 use Rattle.proto_captures.proofs.Common.{RefusalStandsAtToken, IsFirstPlace}
 use Rattle.proto_statement_names.specs.Cases.{DropCase, IsImported, IsNeededIn, IsNoFile, IsPlaceOf, needed, no_such_file, not_imported}
 use Rattle.proto_statement_edits.specs.Edits.{IsDropCase, IsDropRefusal}

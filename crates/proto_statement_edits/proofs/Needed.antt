@@ -7,7 +7,7 @@ use Rattle.proto_imports.specs.Links.{LinkFaults, link_skeleton, names_of_files,
 use Rattle.proto_meaning.proofs.Common.{IsNeeded, At, at, used_in, ArePlain, joined, IsLinked, is_package, MarksSeen, Reference, Symbol, Workspace, hit, is_type, meaning, meaning_at, sees, shows, typed, Used, reference_of, joined_apart, typed_is, package_from, one_symbol, shown}
 use Rattle.proto_meaning.specs.declared.kind.Kind.{Kind}
 use Rattle.proto_names.proofs.Common.{HoldsNames, IsLinkOf, TextMeant, meant_by_link, meant_by_use, LinkOf, NameOf, declaring_file, name_at, own_file, name_text, from_use, use_there}
-use Rattle.proto_names.specs.declared.references.Meant.{Meant}
+use Rattle.proto_names.specs.Linking.{Meant}
 use Rattle.proto_captures.proofs.Common.{StandsBefore, files_are_linked}
 use Rattle.proto_statement_names.specs.Cases.{IsNeededIn, with_dropped}
 use Rattle.proto_statement_edits.specs.Steps.{AreSeenIn, IsFirstNeeded, first_hidden, hidden_in, is_hidden}

@@ -15,7 +15,7 @@ use Rattle.proto_meaning.specs.Marks.{MarksSeen}
 use Rattle.proto_meaning.specs.Names.{Workspace}
 use Rattle.proto_meaning.specs.Skeleton.{Used}
 use Rattle.proto_names.specs.Linking.{LinkOf, declaring_file as file_of_row}
-use Rattle.proto_names.specs.declared.link.RefId.{RefId}
+use Rattle.proto_names.specs.Linking.{RefId}
 use Rattle.proto_captures.specs.CapturedPlaces.{RefusalStandsAtToken}
 use Rattle.proto_captures.specs.Cases.{StandsBefore}
 use Rattle.proto_statement_names.specs.Cases.{IsNeededIn}

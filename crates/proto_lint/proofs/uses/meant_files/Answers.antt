@@ -1,5 +1,5 @@
 use Rattle.std.proofs.Common.{List, length, ◌∙◌, ap, subst, arith, take_all}
-use Rattle.proto_names.specs.declared.references.Meant.{Meant}
+use Rattle.proto_names.specs.Linking.{Meant}
 use Rattle.proto_lint.specs.ImportTables.{MarksMeant}
 use Rattle.proto_lint.proofs.MeantMarks.{marks_more, with_mark_length}
 use Rattle.proto_lint.proofs.uses.meant_files.Goals as goal

@@ -1,7 +1,7 @@
 use Rattle.std.proofs.Common.{◌≤◌, List, [], ◌∷◌, ◌++◌, ap, ◌∙◌, length, map, refl, rules, take_all}
 use Rattle.proto_faults.proofs.Common.{map-append}
 use Rattle.proto_faults.proofs.Turns.{pushed_more}
-use Rattle.proto_names.specs.declared.link.RefId.{RefId}
+use Rattle.proto_names.specs.Linking.{RefId}
 use Rattle.proto_output.specs.Locations.{LocationOf, location_of, reference_location}
 use Rattle.proto_output.proofs.locations.locations_of_references.Goals as goal
 

@@ -4,7 +4,7 @@ use Rattle.std.proofs.lemmas.Result.{IfOk-weaker}
 use Rattle.proto_tree.specs.File.{tree_of_file}
 use Rattle.proto_meaning.specs.Joined.{joined}
 use Rattle.proto_names.specs.Linking.{name_text}
-use Rattle.proto_names.specs.declared.references.Meant.{Meant}
+use Rattle.proto_names.specs.Linking.{Meant}
 use Rattle.proto_parts.specs.Scenes.{text}
 use Rattle.proto_members.specs.Blocks.{block_of, holders_in}
 use Rattle.proto_rename.specs.Defaults.{defaults_in, is_found_name, type_means}

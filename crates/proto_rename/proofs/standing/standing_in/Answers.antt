@@ -6,7 +6,7 @@ use Rattle.proto_files.specs.FilesRead.{AreRead, read_at}
 use Rattle.proto_listing.specs.Listing.{read, used_by}
 use Rattle.proto_listing.specs.declared.listing.Use.{Use}
 use Rattle.proto_meaning.proofs.Common.{at, is_outer}
-use Rattle.proto_names.specs.declared.references.Meant.{Meant}
+use Rattle.proto_names.specs.Linking.{Meant}
 use Rattle.proto_imports.specs.Links.{text_of, link_skeleton}
 use Rattle.proto_rename_laws.proofs.Common.{standing, name_map}
 use Rattle.proto_rename.specs.StandingTokens.{goes_on, standing_tokens}

@@ -1,6 +1,6 @@
 use Rattle.std.proofs.Common.{ℕ, List, get_or, [], Bor, option_map, refl, sym, ap, ◌∙◌}
 use Rattle.proto_faults.specs.Texts.{or_nothing}
-use Rattle.proto_names.specs.declared.link.SymbolId.{SymbolId}
+use Rattle.proto_names.specs.Linking.{SymbolId}
 use Rattle.proto_findings.specs.Readings.{meant_name, reading_of}
 use Rattle.proto_findings.proofs.Readings.{first_is, text_by_row, text_is, text_of_row}
 use Rattle.proto_findings.proofs.reading.Reading.meant_name.Goals as goal

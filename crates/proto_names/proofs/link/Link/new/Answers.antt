@@ -9,6 +9,8 @@ use Rattle.proto_meaning.specs.Marks.{MarksSeen}
 use Rattle.proto_names.proofs.LinkMeanings.{all_tokens_rise, is_meant_in}
 use Rattle.proto_names.proofs.LinkParts.{files_between, is_link, marks_seen}
 use Rattle.proto_names.proofs.NamesOfRows.{declared_by}
+use Rattle.proto_names.proofs.Unmeant.{no_references}
+use Rattle.proto_names.specs.LinkOfFiles.{IsMeantIn}
 use Rattle.proto_names.proofs.link.Link.new.Goals as goal
 
 pub linked_names-requires-clause-listings : goal.linked_names-requires-clause-listings
@@ -41,6 +43,10 @@ returns-clause-link c = λ reads are.
     let table = c.in_ok-table.table in
     let same = sym (ap (λ (l : LinkOf). l.names) c.from_parts.ensures) in
     let known = c.in_ok-table.ensures.names reads are in
+    let referred : (row : ℕ) → get_or c.from_parts.result.references row [] ≡ references_to row (all_meant 0 (map (λ v. v.items) meant)) = λ row.
+    ap (λ (l : LinkOf). get_or l.references row []) c.from_parts.ensures
+    ∙ c.in_ok-references.ensures.each row
+    ∙ ap (λ (vs : List (Vec Meant)). references_to row (all_meant 0 (map (λ v. v.items) vs))) c.deref-6.ensures.value in
     let by = is_link files reads are table c.in_ok-table.ensures.table c.in_ok-table.rows.items known
     (map (λ v. v.items) seen) (map (λ v. v.items) meant) c.from_parts.result same
     (sym (ap (λ (l : LinkOf). l.seen) c.from_parts.ensures))
@@ -50,23 +56,26 @@ returns-clause-link c = λ reads are.
     (files_between files reads are c.in_ok-imports.imports.items c.in_ok-imports.ensures.len c.in_ok-imports.ensures.within (c.in_ok-imports.ensures.imports reads are))
     (marks_seen files reads are c.in_ok-imports.imports.items c.deref.result.now (map (λ v. v.items) seen) c.deref.ensures.value c.in_ok-imports.ensures.len (c.in_ok-imports.ensures.imports reads are) c.in_ok-seen.ensures.exact)
     (c.in_ok-meant.ensures.meant reads are)
-    (λ row.
-    (ap (λ (l : LinkOf). get_or l.references row []) c.from_parts.ensures
-    ∙ c.in_ok-references.ensures.each row
-    ∙ ap (λ (vs : List (Vec Meant)). references_to row (all_meant 0 (map (λ v. v.items) vs))) c.deref-6.ensures.value)) in
+    referred in
     let imported = ap (λ (l : LinkOf). l.imports) c.from_parts.ensures in
     let rows = ap (λ (l : LinkOf). l.rows) c.from_parts.ensures in
     let kept = ap (λ (l : LinkOf). l.meant) c.from_parts.ensures in
+    let lists = ap length kept ∙ length-map meant (λ v. v.items) ∙ c.in_ok-meant.ensures.len in
+    let means : (file : ℕ) → file < length files → IsMeantIn files reads c.from_parts.result file = λ file l.
+    is_meant_in files reads table c.in_ok-table.ensures.table c.from_parts.result same known.index are file l
+    (subst (λ (vs : List (List Meant)). AreFileMeant table files reads file (get_or vs file [])) (sym kept) (c.in_ok-meant.ensures.meant reads are file l)) in
     record {
       by = by;
       imported = ap length imported ∙ length-map c.in_ok-imports.imports.items (λ v. v.items) ∙ c.in_ok-imports.ensures.len;
       imports = ap (all_imports 0) imported ∙ c.in_ok-imports.ensures.imports reads are;
       listed = ap length rows ∙ length-map c.in_ok-table.rows.items (λ v. v.items) ∙ c.in_ok-table.ensures.paired;
       declares = declared_by files reads table c.from_parts.result same c.in_ok-table.rows.items known c.in_ok-table.ensures.paired c.in_ok-table.ensures.within (sym rows);
-      lists = ap length kept ∙ length-map meant (λ v. v.items) ∙ c.in_ok-meant.ensures.len;
-      means = λ file l.
-          is_meant_in files reads table c.in_ok-table.ensures.table c.from_parts.result same known.index are file l
-          (subst (λ (vs : List (List Meant)). AreFileMeant table files reads file (get_or vs file [])) (sym kept) (c.in_ok-meant.ensures.meant reads are file l));
+      lists = lists;
+      means = means;
+      unmeant = λ row none.
+          referred row
+          ∙ ap (λ (vs : List (List Meant)). references_to row (all_meant 0 vs)) (sym kept)
+          ∙ no_references c.from_parts.result row none (λ file l. (means file (omega (arith, l, lists))).within);
     })
 
 pub returns-clause-clean : goal.returns-clause-clean

@@ -1,0 +1,85 @@
+-- The rows of a file whose names may hold others or be meant, by what each row has.
+use Rattle.std.proofs.Common.{◌≡◌, ℕ, ◌<◌, true, cond, List, [], ◌∷◌, length, get_or, map, Option, Some, None, refl, sym, ◌∙◌, ap, subst, inl, inr, arith, All, Contains}
+use Rattle.std.specs.List.{cons_option, filter_map}
+use Rattle.std.specs.Option.{option_and_then}
+use Rattle.std.proofs.lemmas.Option.{cond_some, option_and_then_some, slice_get-get_or, slice_get_within, get_or_from_slice_get}
+use Rattle.proto_faults.proofs.Common.{Contains-get_or, Vec, contains_cases, contains_head, contains_later, get_or-map, length-map}
+use Rattle.proto_imports.proofs.ImportGraph.{contains_filtered}
+use Rattle.proto_kept_references.specs.ChangedFiles.{outer_rows_of}
+use Rattle.proto_kept_references.specs.OuterRows.{outer_row}
+use Rattle.proto_kept_references.specs.declared.outer_rows.KindRow.{KindRow}
+use Rattle.proto_meaning.proofs.Common.{is_outer}
+use Rattle.proto_meaning.specs.declared.kind.Kind.{Kind}
+use Rattle.proto_table.proofs.Common.{pick}
+use Rattle.proto_table.specs.declared.table.Row.{Row}
+use Rattle.proto_table.specs.declared.table.Table.{Table}
+
+from_filtered : {X Y : Type 0} (h : X → Option Y) (xs : List X) (y : Y) → Contains (filter_map h xs) y → (x : X) × Contains xs x × (h x ≡ Some y)
+from_filtered h [] y c = absurd (omega (arith, c.1))
+from_filtered {X} {Y} h (z ∷ xs) y c = go (h z) refl (from_filtered h xs y) c
+  where
+    go : (o : Option Y) → h z ≡ o → (Contains (filter_map h xs) y → (x : X) × Contains xs x × (h x ≡ Some y)) → Contains (cons_option o (filter_map h xs)) y → (x : X) × Contains (z ∷ xs) x × (h x ≡ Some y)
+    go None e ih d = let r = ih d in (r.0, contains_later z r.0 xs r.1, r.2)
+    go (Some v) e ih d = elim (contains_cases v y (filter_map h xs) d) [
+      | inl same ↦ (z, contains_head z xs, e ∙ ap Some same)
+      | inr rest ↦ let r = ih rest in (r.0, contains_later z r.0 xs r.1, r.2)
+    ]
+
+module _ (t : Table) where
+  -- the pair is one of these rows, with its kind
+  pub record IsOuterRow (rows : List ℕ) (p : KindRow) : Type 0 where
+    pub listed : Contains rows p.row
+    pub within : p.row < length t.rows.items
+    pub kind_is : (r : Row) → (get_or t.rows.items p.row r).symbol.kind ≡ p.kind
+    pub outer : is_outer p.kind ≡ true
+
+  abbrev pair : ℕ → Kind → KindRow
+  pair row kind = record { row = row; kind = kind }
+
+  abbrev tested : ℕ → Row → Option KindRow
+  tested row r = cond (is_outer r.symbol.kind) (Some (pair row r.symbol.kind)) None
+
+  pub outer_to : (rows : List ℕ) (row : ℕ) (kind : Kind) → row < length t.rows.items → Contains rows row → ((r : Row) → (get_or t.rows.items row r).symbol.kind ≡ kind) → is_outer kind ≡ true → Contains (filter_map (outer_row t) rows) (pair row kind)
+  outer_to rows row kind lt c kind_is outer =
+      let d = pick t.rows.items row lt in
+      let is : outer_row t row ≡ Some (pair row kind) =
+      ap (option_and_then (tested row)) (slice_get-get_or t.rows.items row d lt)
+      ∙ ap (λ (k : Kind). cond (is_outer k) (Some (pair row k)) None) (kind_is d)
+      ∙ ap (λ b. cond b (Some (pair row kind)) None) outer in
+      contains_filtered (outer_row t) rows row (pair row kind) c is
+
+  outer_at : (rows : List ℕ) (row : ℕ) (p : KindRow) → Contains rows row → outer_row t row ≡ Some p → IsOuterRow rows p
+  outer_at rows row p c e =
+      option_and_then_some (tested row) _ p e (λ x there is.
+      (let parts = cond_some (is_outer x.symbol.kind) (pair row x.symbol.kind) p is in
+      let kind : x.symbol.kind ≡ p.kind = ap (λ (z : KindRow). z.kind) parts.1 in
+      let same : row ≡ p.row = ap (λ (z : KindRow). z.row) parts.1 in
+      let own : IsOuterRow rows (pair row p.kind) = record {
+        listed = c;
+        within = slice_get_within t.rows.items row x there;
+        kind_is = λ r. ap (λ (y : Row). y.symbol.kind) (get_or_from_slice_get t.rows.items row x r there) ∙ kind;
+        outer = ap is_outer (sym kind) ∙ parts.0;
+      } in
+      subst (λ (n : ℕ). IsOuterRow rows (pair n p.kind)) same own))
+
+  pub outer_from : (rows : List ℕ) (p : KindRow) → Contains (filter_map (outer_row t) rows) p → IsOuterRow rows p
+  outer_from rows p c =
+      let x = from_filtered (outer_row t) rows p c in
+      outer_at rows x.0 p x.1 x.2
+
+  -- ---- those of files at some places
+
+  module _ (rows : List (List ℕ)) (places : List ℕ) (found : List (Vec KindRow)) (are : map (λ v. v.items) found ≡ map (outer_rows_of t rows) places) where
+    pub outer_count : length found ≡ length places
+    outer_count = sym (length-map found (λ v. v.items)) ∙ ap length are ∙ length-map places (outer_rows_of t rows)
+
+    pub outer_in : (k file : ℕ) → k < length places → get_or (map (λ (v : Vec KindRow). v.items) found) k [] ≡ outer_rows_of t rows (get_or places k file)
+    outer_in k file l = ap (λ (all : List (List KindRow)). get_or all k []) are ∙ get_or-map (outer_rows_of t rows) places k file [] l
+
+    -- each is a row of the table
+    pub outer_within : All (λ v. All (λ p. p.row < length t.rows.items) v.items) found
+    outer_within k v lk j p lj =
+        let own : (get_or found k v).items ≡ outer_rows_of t rows (get_or places k 0) =
+        sym (get_or-map (λ (v : Vec KindRow). v.items) found k v [] lk) ∙ outer_in k 0 (omega (arith, lk, outer_count)) in
+        let c = Contains-get_or (get_or found k v).items j p lj in
+        (outer_from (get_or rows (get_or places k 0) []) (get_or (get_or found k v).items j p) (subst (λ (ps : List KindRow). Contains ps (get_or (get_or found k v).items j p)) own c)).within

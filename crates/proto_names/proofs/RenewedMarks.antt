@@ -1,0 +1,117 @@
+-- The marks of what changed are those of the files that have to be looked at again.
+use Rattle.std.proofs.Common.{◌≡◌, ◌⊎◌, ℕ, suc, ◌+◌, ◌<◌, Bool, true, false, List, [], ◌∷◌, ◌++◌, length, get_or, map, Option, Some, refl, sym, ◌∙◌, ap, subst, inl, inr, arith, All, Contains, bytes_eq}
+use Rattle.proto_faults.proofs.Common.{All-contains, Vec, both_ways, contains_filter, contains_map, from_map, length-map, same_from_word}
+use Rattle.proto_case.specs.Camel.{entry_name}
+use Rattle.proto_files.proofs.Common.{FileOf, ReadOf}
+use Rattle.proto_imports.proofs.Common.{link_imports, link_skeleton, names_are_plain, names_in, names_of_files, text_of, use_from}
+use Rattle.proto_kept.proofs.Still.{type_is_outer}
+use Rattle.proto_kept.specs.Marked.{IsUnmarked}
+use Rattle.proto_meaning.proofs.Common.{ArePlain, At, Reference, Symbol, Used, Workspace, all_used, is_outer, is_type, joined, joined_apart, meaning, reference_of, used_in}
+use Rattle.proto_meaning.specs.declared.kind.Kind.{Kind}
+use Rattle.proto_names.proofs.DeclaredRows.{row_of_symbol, symbol_by_row, symbol_listed}
+use Rattle.proto_names.proofs.LinkParts.{one_row}
+use Rattle.proto_names.proofs.LinkTable.{rows_bounded, rows_listed, table_names}
+use Rattle.proto_names.proofs.RenewedMeanings.{reference_from, same_sight}
+use Rattle.proto_names.specs.Common.{AreNamesOf, LinkOf, Meant, NameOf, RefId, first_key, has_text, name_at, reference_id, uses_of, word_key}
+use Rattle.proto_names.specs.Renewed.{AreBeginnersMarked, AreChangesMarked, AreNamesRenewed, AreUsersMarked, DeclaresOuter, EndsIn, IsTableOf}
+use Rattle.proto_relink.proofs.Differing.{as_many}
+use Rattle.proto_relink.specs.Relinked.{HasToLook}
+use Rattle.proto_table.proofs.Common.{IsTable, names_of, used_named}
+use Rattle.proto_table.specs.declared.table.Table.{Table}
+
+module _ (places : List ℕ) (marks : List Bool) (before : List FileOf) (was : List ReadOf) (l : LinkOf) (old : Table) (rows : List (Vec ℕ)) (files : List FileOf) (reads : List ReadOf) (t : Table) (now : List (Vec ℕ))
+    (of : IsTableOf before was l old rows) (renewed : AreNamesRenewed places before was old files reads t now) (marked : AreChangesMarked places marks old rows l t now) where
+  abbrev w : Workspace
+  w = names_of_files before was
+
+  abbrev v : Workspace
+  v = names_of_files files reads
+
+  many : length before ≡ length files
+  many = as_many places before was files reads renewed.edited
+
+  same_count : w.files ≡ v.files
+  same_count = length-map was names_in ∙ renewed.edited.were_read.same ∙ many ∙ sym renewed.edited.are_read.same ∙ sym (length-map reads names_in)
+
+  -- the rows before
+  names : AreNamesOf before was old rows
+  names = table_names before was renewed.edited.were_read l old rows of
+
+  listed : length rows ≡ length before
+  listed = rows_listed before was renewed.edited.were_read l old rows of
+
+  within : All (λ v. All (λ r. r < length old.rows.items) v.items) rows
+  within = rows_bounded before was renewed.edited.were_read l old rows of
+
+  -- ---- a name that went
+
+  module _ (r : Reference) (s : Symbol) (c : Contains w.references r) (h : meaning w r ≡ Some s.name) (cs : Contains w.symbols s) where
+    -- the reference is in the list of those to the symbol's row
+    is_user : (row : ℕ) → row < length old.rows.items → get_or (names_of old) row [] ≡ joined s.name → AreUsersMarked marks (get_or l.references row []) → get_or marks r.file false ≡ true
+    is_user row lr e users =
+        let k = link_skeleton before was in
+        let x = of.link.by.names.there s cs in
+        let n = x.1 in
+        let here : row ≡ x.0 = one_row old of.table l of.names x.0 row n x.2 lr (e ∙ sym x.3) in
+        let list = of.link.by.references x.0 n x.2 in
+        let u = from_map (reference_of (text_of before was) entry_name) (all_used 0 (map names_in was)) r c in
+        let y = use_from 0 was u.0 u.1 in
+        let means : has_text n.text (meaning w (reference_of (text_of before was) entry_name u.0)) ≡ true =
+        ap (λ (z : Reference). has_text n.text (meaning w z)) u.2 ∙ ap (has_text n.text) h ∙ same_from_word (joined s.name) n.text (sym x.3) in
+        let there : Contains (get_or l.references row []) (reference_id u.0) =
+        subst (λ (m : ℕ). Contains (get_or l.references m []) (reference_id u.0)) (sym here)
+        (subst (λ (rs : List RefId). Contains rs (reference_id u.0)) (sym list)
+        (contains_map reference_id _ u.0 (contains_filter (λ (z : Used At). has_text n.text (meaning w (reference_of (text_of before was) entry_name z))) k.used u.0 u.1 means))) in
+        let file : u.0.first.file ≡ r.file = ap (λ (z : Used At). z.first.file) (sym y.2.2) ∙ ap (λ (z : Used At). z.file) y.2.2 ∙ ap (λ (z : Reference). z.file) u.2 in
+        subst (λ (m : ℕ). get_or marks m false ≡ true) file (All-contains (λ (z : RefId). get_or marks z.file false ≡ true) (get_or l.references row []) (reference_id u.0) users there)
+
+    still_declared : IsUnmarked marks r.file → Contains places s.file → is_type s.kind ≡ true → Contains v.symbols s
+    still_declared left there ty =
+        let x = row_of_symbol before was renewed.edited.were_read old of.table rows names listed within s cs in
+        let f = symbol_listed before was renewed.edited.were_read s cs in
+        let own : DeclaresOuter old rows s.file x.0 s.kind = record { listed = x.1.listed; kind_is = x.1.kind_is; outer = type_is_outer s.kind ty } in
+        elim (marked.gone s.file x.0 s.kind there own) [
+          | inl stays ↦
+              symbol_by_row files reads renewed.edited.are_read t renewed.table now renewed.names renewed.listed renewed.within s (names_are_plain before was renewed.edited.were_read s cs) (omega (arith, f.1, many)) x.0 stays.listed
+              (λ b. renewed.numbers.names x.0 x.1.within ∙ x.1.name) stays.kind_is
+          | inr users ↦ absurd (both_ways (get_or marks r.file false) left (is_user x.0 x.1.within x.1.name users))
+        ]
+
+  -- ---- a name that came
+
+  -- a reference of a file is among what the link has of it, with the key of its first word
+  begins_so : (r : Reference) → Contains w.references r → (key : ℕ) → first_key r ≡ key → AreBeginnersMarked marks l.meant key → get_or marks r.file false ≡ true
+  begins_so r c key e begin =
+      let x = reference_from before was r c in
+      let means = of.link.means r.file (omega (arith, x.there, renewed.edited.were_read.same)) in
+      let keys = contains_map (λ u. first_key (used_named (text_of before was) r.file u)) (uses_of was r.file) x.use_of x.within in
+      let m = from_map (λ (m : Meant). m.first) (get_or l.meant r.file []) (first_key (used_named (text_of before was) r.file x.use_of))
+      (subst (λ (ks : List ℕ). Contains ks (first_key (used_named (text_of before was) r.file x.use_of))) (sym means.firsts) keys) in
+      begin r.file m.0 m.1 (m.2 ∙ ap first_key x.is ∙ e)
+
+  was_declared : (r : Reference) (first : List ℕ) (rest : List (List ℕ)) → Contains w.references r → IsUnmarked marks r.file → r.words ≡ first ∷ rest
+      → (s : Symbol) (front : List (List ℕ)) (last : List ℕ) → Contains v.symbols s → Contains places s.file → is_outer s.kind ≡ true → s.name ≡ front ++ last ∷ [] → word_key last ≡ word_key first → Contains w.symbols s
+  was_declared r first rest c left words s front last cs there outer name key =
+      let x = row_of_symbol files reads renewed.edited.are_read t renewed.table now renewed.names renewed.listed renewed.within s cs in
+      let f = symbol_listed files reads renewed.edited.are_read s cs in
+      let plain = names_are_plain files reads renewed.edited.are_read s cs in
+      let own : DeclaresOuter t now s.file x.0 s.kind = record { listed = x.1.listed; kind_is = x.1.kind_is; outer = outer } in
+      elim (marked.came s.file x.0 s.kind there own) [
+        | inl stood ↦
+            symbol_by_row before was renewed.edited.were_read old of.table rows names listed within s plain (omega (arith, f.1, many)) x.0 stood.listed
+            (λ b. sym (renewed.numbers.names x.0 b) ∙ x.1.name) stood.kind_is
+        | inr begin ↦
+            let ends : EndsIn t x.0 last = record { scope = front; plain = subst ArePlain name plain; name = x.1.name ∙ ap joined name } in
+            let same : first_key r ≡ word_key last = ap (λ (ws : List (List ℕ)). word_key (get_or ws 0 [])) words ∙ sym key in
+            absurd (both_ways (get_or marks r.file false) left (begins_so r c (word_key last) same (begin last ends)))
+      ]
+
+  -- ---- all
+
+  pub changes_have_to_look : HasToLook word_key places before was files reads marks
+  changes_have_to_look = record {
+    edited = marked.edited;
+    sight = λ file g left. same_sight w v same_count renewed.imports file g;
+    none_gone = λ r s c left h cs there ty. still_declared r s c h cs left there ty;
+    none_came = was_declared;
+  }

@@ -1,0 +1,196 @@
+-- The parts of a link that was changed in place are those of the link of the files that are there now.
+use Rattle.std.proofs.Common.{◌≡◌, ◌⊎◌, ℕ, ◌<◌, Bool, true, false, max, List, [], ◌∷◌, length, get_or, map, refl, sym, ◌∙◌, ap, subst, inl, inr, arith, All, Contains}
+use Rattle.proto_faults.proofs.Common.{All-contains, Vec, cases_lt, contains_head, get_or-map, get_or_past, length-map}
+use Rattle.proto_files.proofs.Common.{AreRead, FileOf, HasNoFault, ReadOf}
+use Rattle.proto_imports.proofs.Common.{LinkFaults}
+use Rattle.proto_imports.specs.Laws.{KeepImports, KeptImportsAreEqual, KeptImportsAreSound}
+use Rattle.proto_imports.specs.declared.import.FileImport.{FileImport}
+use Rattle.proto_kept_names.specs.KeptImports.{WereImports}
+use Rattle.proto_kept_names.specs.NamesOfFiles.{AreNamesOf as AreListedNames}
+use Rattle.proto_kept_references.specs.ChangedFiles.{IsChangeMarked, StaysOrIsMarked, WasOrIsMarked, outer_rows_of}
+use Rattle.proto_kept_references.specs.ChangedFiles.{AreChangesMarked as AreRowsMarked}
+use Rattle.proto_kept_references.specs.Renewed.{AreReferencesOf}
+use Rattle.proto_kept_references.specs.declared.outer_rows.KindRow.{KindRow}
+use Rattle.proto_meaning.specs.Names.{Word}
+use Rattle.proto_meaning.specs.declared.kind.Kind.{Kind}
+use Rattle.proto_names.proofs.OuterRows.{outer_from, outer_in, outer_to}
+use Rattle.proto_names.proofs.PartsBefore.{before, from_lists, meant_below, of_before, rows_below, rows_count, same_but, was, were_imports}
+use Rattle.proto_names.proofs.ReferencesByRow.{references_by_row}
+use Rattle.proto_names.proofs.RenewedLink.{renewed_are_clean, renewed_link_of}
+use Rattle.proto_names.proofs.RenewedMarks.{changes_have_to_look}
+use Rattle.proto_names.proofs.RenewedSight.{file_is_linked}
+use Rattle.proto_names.proofs.ValuesAtPlaces.{all_with, length_with, rows_with_values}
+use Rattle.proto_names.specs.Common.{AreNamesOf, IsFileLinked, LinkOf, Meant, RefId, name_of_row, word_key}
+use Rattle.proto_names.specs.LinkOfFiles.{IsLinkOf}
+use Rattle.proto_names.specs.Renewal.{AreMeantBelow, AreRowsRenewed, link_of_parts}
+use Rattle.proto_names.specs.Renewed.{AreBeginnersMarked, AreChangesMarked, AreMeantAgain, AreNamesRenewed, AreUsersMarked, DeclaresOuter, EndsIn, IsMadeOf, IsTableOf}
+use Rattle.proto_relink.proofs.Clean.{no_import}
+use Rattle.proto_relink.specs.Relinked.{HasToLook, WasLink}
+use Rattle.proto_table.proofs.Common.{IsTable, pick}
+use Rattle.proto_table.specs.declared.table.Table.{Table}
+
+module _ (files : List FileOf) (places : List ℕ) (old : Table) (imports : List (Vec FileImport)) (rows : List (Vec ℕ)) (seen : List (Vec Bool)) (meant : List (Vec Meant)) (references : List (Vec RefId))
+    (table_was : IsTable old) (link_was : WasLink IsLinkOf files places (link_of_parts old imports rows seen meant references))
+    (t : Table) (now : List (Vec ℕ)) (renewed : AreRowsRenewed places files old t rows now) where
+  abbrev l : LinkOf
+  l = link_of_parts old imports rows seen meant references
+
+  abbrev files_before : List FileOf
+  files_before = before files places old imports rows seen meant references table_was link_was
+
+  abbrev reads_before : List ReadOf
+  reads_before = was files places old imports rows seen meant references table_was link_was
+
+  -- ---- the rows of each file's declarations
+
+  pub now_count : length now ≡ length files
+  now_count = ap length renewed.rows ∙ length_with rows places renewed.renewed ∙ rows_count files places old imports rows seen meant references table_was link_was
+
+  abbrev IsBelow : Vec ℕ → Type 0
+  IsBelow v = All (λ r. r < length t.rows.items) v.items
+
+  old_below : All IsBelow rows
+  old_below k v lk j r lj = omega (arith, rows_below files places old imports rows seen meant references table_was link_was k v lk j r lj, renewed.names.size)
+
+  own_below : All IsBelow renewed.renewed
+  own_below k v lk j r lj =
+      let own = get_or-map (λ (v : Vec ℕ). v.items) renewed.renewed k v [] lk in
+      let lm : k < length (map (λ (v : Vec ℕ). v.items) renewed.renewed) = omega (arith, lk, length-map renewed.renewed (λ (v : Vec ℕ). v.items)) in
+      subst (All (λ r. r < length t.rows.items)) own (renewed.names.within k [] lm) j r lj
+
+  pub now_below : All (λ v. All (λ r. r < length t.rows.items) v.items) now
+  now_below = subst (All IsBelow) (sym renewed.rows) (all_with IsBelow rows places renewed.renewed old_below own_below)
+
+  -- what references meant is below the table's count still
+  pub meant_below_now : AreMeantBelow (length t.rows.items) [] meant
+  meant_below_now = record {
+    now = λ k v lk j m lj. omega (arith, meant_below files places old imports rows seen meant references table_was link_was k v lk j m lj, renewed.names.size);
+    before = λ k c l. absurd (omega (arith, l));
+  }
+
+  -- with empty lists for the names that came, there is a list of references for each name
+  pub lists_paired : (lists : List (Vec RefId)) → length references ≡ length old.rows.items → length lists ≡ max (length references) (length t.rows.items) → length lists ≡ length t.rows.items
+  lists_paired lists paired grown = omega (arith, paired, grown, renewed.names.size)
+
+  names_now : (reads : List ReadOf) → AreRead files reads → AreNamesOf files reads t now
+  names_now reads are =
+      let same : map (λ (v : Vec ℕ). v.items) now ≡ _ = ap (map (λ (v : Vec ℕ). v.items)) renewed.rows ∙ rows_with_values rows places renewed.renewed in
+      from_lists files reads t now (subst (AreListedNames files reads t) (sym same) (renewed.names.names reads are))
+
+  -- ---- the names are renewed
+
+  module _ (table : IsTable t) (equal : KeptImportsAreEqual) (sound : KeptImportsAreSound)
+      (kept : (before : List FileOf) (was : List ReadOf) → WereImports places files (map (λ v. v.items) imports) before was → (reads : List ReadOf) → AreRead files reads → KeepImports before was files reads)
+      (reads : List ReadOf) (are : AreRead files reads) where
+    keep : KeepImports files_before reads_before files reads
+    keep = kept files_before reads_before (were_imports files places old imports rows seen meant references table_was link_was) reads are
+
+    pub names_renewed : AreNamesRenewed places files_before reads_before old files reads t now
+    names_renewed = record {
+      edited = record { same = same_but files places old imports rows seen meant references table_was link_was; were_read = link_was.1.read; are_read = are };
+      imports = equal files_before reads_before files reads keep;
+      sound = sound files_before reads_before files reads keep (no_import files_before reads_before link_was.1.read link_was.1.clean);
+      apart = renewed.names.clean reads are;
+      table = table;
+      numbers = record { size = renewed.names.size; names = renewed.names.texts };
+      names = names_now reads are;
+      listed = now_count;
+      within = now_below;
+    }
+
+    -- so the references of a file can be looked up
+    pub file_is_linked_now : (file : ℕ) → file < length files → IsFileLinked t (get_or (map (λ v. v.items) seen) file []) (get_or (map (λ v. v.items) now) file []) files reads file
+    file_is_linked_now = file_is_linked places files_before reads_before l old rows files reads t now (of_before files places old imports rows seen meant references table_was link_was) names_renewed
+
+  -- ---- the marks are of what changed
+
+  module _ (marks : List Bool) (lists : List (Vec RefId)) (same : (row : ℕ) → get_or (map (λ v. v.items) lists) row [] ≡ get_or (map (λ v. v.items) references) row [])
+      (rows_before rows_now : List (Vec KindRow)) (are_before : map (λ v. v.items) rows_before ≡ map (outer_rows_of old (map (λ v. v.items) rows)) places) (are_now : map (λ v. v.items) rows_now ≡ map (outer_rows_of t (map (λ v. v.items) now)) places)
+      (marked : AreRowsMarked t marks places (map (λ v. v.items) lists) (map (λ v. v.items) meant) (map (λ v. v.items) rows_before) (map (λ v. v.items) rows_now)) where
+    abbrev held : List (Vec ℕ) → ℕ → List ℕ
+    held all file = get_or (map (λ v. v.items) all) file []
+
+    -- what the file at a place declared and declares
+    change : (file : ℕ) → Contains places file → IsChangeMarked t marks (map (λ v. v.items) lists) l.meant (outer_rows_of old (map (λ v. v.items) rows) file) (outer_rows_of t (map (λ v. v.items) now) file)
+    change file c =
+        let one = outer_in old (map (λ v. v.items) rows) places rows_before are_before c.0 file c.1 ∙ ap (outer_rows_of old (map (λ v. v.items) rows)) c.2 in
+        let two = outer_in t (map (λ v. v.items) now) places rows_now are_now c.0 file c.1 ∙ ap (outer_rows_of t (map (λ v. v.items) now)) c.2 in
+        subst (λ (ps : List KindRow). IsChangeMarked t marks (map (λ v. v.items) lists) l.meant ps (outer_rows_of t (map (λ v. v.items) now) file)) one
+        (subst (IsChangeMarked t marks (map (λ v. v.items) lists) l.meant (get_or (map (λ v. v.items) rows_before) c.0 [])) two (marked.each c.0 c.1))
+
+    -- a row of a file is one of the table
+    row_within : (u : Table) (all : List (Vec ℕ)) → All (λ v. All (λ r. r < length u.rows.items) v.items) all → (file row : ℕ) → Contains (held all file) row → row < length u.rows.items
+    row_within u all within file row c = elim (cases_lt file (length all)) [
+      | inl lf ↦
+          let v = pick all file lf in
+          let own = get_or-map (λ (v : Vec ℕ). v.items) all file v [] lf in
+          All-contains (λ r. r < length u.rows.items) (held all file) row (subst (All (λ r. r < length u.rows.items)) (sym own) (within file v lf)) c
+      | inr past ↦
+          let none : held all file ≡ [] = get_or_past (map (λ (v : Vec ℕ). v.items) all) file [] (omega (arith, past, length-map all (λ (v : Vec ℕ). v.items))) in
+          absurd (omega (arith, c.1, ap length none))
+    ]
+
+    declares : (u : Table) (all : List (Vec ℕ)) → All (λ v. All (λ r. r < length u.rows.items) v.items) all → (file row : ℕ) (kind : Kind) → DeclaresOuter u all file row kind → Contains (outer_rows_of u (map (λ v. v.items) all) file) (record { row = row; kind = kind })
+    declares u all within file row kind d = outer_to u (held all file) row kind (row_within u all within file row d.listed) d.listed d.kind_is d.outer
+
+    declared : (u : Table) (all : List (Vec ℕ)) (file row : ℕ) (kind : Kind) → Contains (outer_rows_of u (map (λ v. v.items) all) file) (record { row = row; kind = kind }) → DeclaresOuter u all file row kind
+    declared u all file row kind c =
+        let x = outer_from u (held all file) (record { row = row; kind = kind }) c in
+        record { listed = x.listed; kind_is = x.kind_is; outer = x.outer }
+
+    gone : (file row : ℕ) (kind : Kind) → Contains places file → DeclaresOuter old rows file row kind → DeclaresOuter t now file row kind ⊎ AreUsersMarked marks (get_or l.references row [])
+    gone file row kind c d =
+        let p : KindRow = record { row = row; kind = kind } in
+        let below = rows_below files places old imports rows seen meant references table_was link_was in
+        elim (All-contains (StaysOrIsMarked marks (map (λ v. v.items) lists) (outer_rows_of t (map (λ v. v.items) now) file)) (outer_rows_of old (map (λ v. v.items) rows) file) p (change file c).gone (declares old rows below file row kind d)) [
+          | inl stays ↦ inl (declared t now file row kind stays)
+          | inr users ↦ inr (subst (AreUsersMarked marks) (same row) users)
+        ]
+
+    came : (file row : ℕ) (kind : Kind) → Contains places file → DeclaresOuter t now file row kind → DeclaresOuter old rows file row kind ⊎ ((last : Word) → EndsIn t row last → AreBeginnersMarked marks l.meant (word_key last))
+    came file row kind c d =
+        let p : KindRow = record { row = row; kind = kind } in
+        elim (All-contains (WasOrIsMarked t marks l.meant (outer_rows_of old (map (λ v. v.items) rows) file)) (outer_rows_of t (map (λ v. v.items) now) file) p (change file c).came (declares t now now_below file row kind d)) [
+          | inl stood ↦ inl (declared old rows file row kind stood)
+          | inr begin ↦ inr (λ last ends other m there first.
+              begin ends.scope last ends.plain ends.name other m there (subst (λ key. Contains (word_key last ∷ []) key) (sym first) (contains_head (word_key last) [])))
+        ]
+
+    pub changes_marked : AreChangesMarked places marks old rows l t now
+    changes_marked = record {
+      edited = λ file c. All-contains (λ place. get_or marks place false ≡ true) places file marked.edited c;
+      gone = gone;
+      came = came;
+    }
+
+    -- ---- the link
+
+    module _ (table : IsTable t) (equal : KeptImportsAreEqual) (sound : KeptImportsAreSound)
+        (kept : (before : List FileOf) (was : List ReadOf) → WereImports places files (map (λ v. v.items) imports) before was → (reads : List ReadOf) → AreRead files reads → KeepImports before was files reads)
+        (meant_now : List (Vec Meant)) (again : (reads : List ReadOf) → AreRead files reads → AreMeantAgain marks t files reads (map (λ v. v.items) meant) (map (λ v. v.items) meant_now))
+        (reads : List ReadOf) (are : AreRead files reads) where
+      is_of : IsTableOf files_before reads_before l old rows
+      is_of = of_before files places old imports rows seen meant references table_was link_was
+
+      names : AreNamesRenewed places files_before reads_before old files reads t now
+      names = names_renewed table equal sound kept reads are
+
+      look : HasToLook word_key places files_before reads_before files reads marks
+      look = changes_have_to_look places marks files_before reads_before l old rows files reads t now is_of names changes_marked
+
+      pub parts_are_clean : HasNoFault (LinkFaults files)
+      parts_are_clean = renewed_are_clean places marks files_before reads_before l old rows files reads t now (map (λ v. v.items) meant_now) is_of names look (again reads are)
+
+      pub parts_are_link : (references_now : List (Vec RefId)) → length references_now ≡ length t.rows.items → AreReferencesOf (map (λ v. v.items) references_now) (map (λ v. v.items) meant_now) → IsLinkOf files (link_of_parts t imports now seen meant_now references_now)
+      parts_are_link references_now paired referred =
+          let new = link_of_parts t imports now seen meant_now references_now in
+          let made : IsMadeOf l t now (map (λ v. v.items) meant_now) new = record {
+            names = refl;
+            imports = refl;
+            declared = refl;
+            seen = refl;
+            meanings = refl;
+            paired = length-map references_now (λ v. v.items) ∙ paired ∙ sym (length-map t.rows.items name_of_row);
+            references = λ row. referred row ∙ references_by_row row (map (λ v. v.items) meant_now);
+          } in
+          renewed_link_of places marks files_before reads_before l old rows files reads t now (map (λ v. v.items) meant_now) is_of names look (again reads are) new made

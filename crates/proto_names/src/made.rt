@@ -1,0 +1,69 @@
+//! What is made of a link of files, and follows it where they are edited.
+
+ghost use Rattle.std.specs.Prelude.{◌≡◌, ◌<◌, List, ℕ, length, OnOk, OnErr, IfErr};
+ghost use Rattle.std.specs.List.{All};
+ghost use Rattle.proto_faults.specs.declared.fault.SchemaFault.{SchemaFault as SchemaFaultOf};
+ghost use Rattle.proto_files.specs.Faults.{HasNoFault};
+ghost use Rattle.proto_files.specs.GivenFiles.{FileOf};
+ghost use Rattle.proto_imports.specs.LinkErrors.{IsLinkError};
+ghost use Rattle.proto_imports.specs.Links.{LinkFaults};
+ghost use Rattle.proto_names.specs.LinkOfFiles.{IsLinkOf};
+
+use crate::link::Link;
+use proto_faults::SchemaFault;
+use proto_files::Files;
+use std::alloc::Global;
+
+/// What is made of files and their link, and is made anew as far as they are edited.
+pub trait MadeOfLink {
+    /// It was made of files that had other bytes at these places.
+    ghost WasMade: { List FileOf → List ℕ → Self → Type 0 };
+
+    /// It is made of the files.
+    ghost IsMade: { List FileOf → Self → Type 0 };
+
+    /// Why it cannot be made of the files.
+    ghost IsRefused: { List FileOf → SchemaFaultOf → Type 0 };
+
+    /// Makes it that of the files, of which this is the link, where it was that of files with other
+    /// bytes at these places. After a refusal it is as it was.
+    fn follow(
+        &mut self,
+        alloc: Global,
+        files: &Files,
+        link: &Link,
+        places: &[u32],
+    ) -> Result<(), SchemaFault>
+        requires places { All (λ place. place < length files.now) places.now }
+        requires link { IsLinkOf files.now link.now }
+        requires clean { HasNoFault (LinkFaults files.now) }
+        requires was { WasMade files.now places.now self.old }
+        ensures made { OnOk result (IsMade files.now self.new) }
+        ensures fault { IfErr result (IsRefused files.now) }
+        ensures kept { OnErr result (self.new ≡ self.old) };
+}
+
+/// Nothing is made of the link.
+#[derive(Clone, Copy)]
+pub struct Nothing;
+
+impl MadeOfLink for Nothing {
+    ghost WasMade = { λ _ _ _. Unit {0} };
+
+    ghost IsMade = { λ _ _. Unit {0} };
+
+    ghost IsRefused = { λ files fault. IsLinkError files fault };
+
+    /// Always.
+    fn follow(
+        &mut self,
+        _alloc: Global,
+        _files: &Files,
+        _link: &Link,
+        _places: &[u32],
+    ) -> Result<(), SchemaFault>
+        ensures { OnErr result ⊥ }
+    {
+        Ok(())
+    }
+}

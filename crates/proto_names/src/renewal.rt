@@ -1,0 +1,296 @@
+//! A link that is changed in place to that of its files, once some of them are edited.
+
+ghost use Rattle.std.specs.Prelude.{◌≡◌, ◌≢◌, ◌<◌, ℕ, Bool, List, [], true, false, length, get_or, map, slice_set, IfOk, OnOk, OnErr};
+ghost use Rattle.std.specs.List.{All};
+ghost use Rattle.proto_files.specs.Faults.{HasNoFault};
+ghost use Rattle.proto_files.specs.FilesRead.{AreRead, ReadOf};
+ghost use Rattle.proto_imports.specs.Links.{LinkFaults};
+ghost use Rattle.proto_kept_lists.specs.Undone.{AreWithin, undone};
+ghost use Rattle.proto_kept_names.specs.NamesOfFiles.{WereNames};
+ghost use Rattle.proto_kept_names.specs.NameLogs.{Fits, undone_table};
+ghost use Rattle.proto_names.specs.FileReferences.{AreFileMeant, IsFileLinked};
+ghost use Rattle.proto_names.specs.LinkOfFiles.{IsLinkOf};
+ghost use Rattle.proto_names.specs.Renewal.{AreMeantBelow, AreOfMarked, AreRowsRenewed, IsMeantNoted, LogFits, link_of_parts, undone_parts};
+ghost use Rattle.proto_names.specs.Renewed.{AreMeantAgain};
+ghost use Rattle.proto_relink.specs.Relinked.{WasLink};
+ghost use Rattle.proto_table.specs.Tables.{IsTable};
+
+use crate::all_references::file_meanings;
+use crate::link_log::LinkLog;
+use crate::references::ReferenceError;
+use proto_faults::NoMemory;
+use proto_files::{Files, are_read};
+use proto_imports::import::FileImport;
+use proto_imports::laws::kept_imports_stay;
+use proto_kept_lists::laws::added_are_cut;
+use proto_kept_lists::{Change, Meant, RefId, change_all_at};
+use proto_kept_names::kept_imports::all_imports_kept;
+use proto_kept_names::name_log::NameLog;
+use proto_kept_names::renewed_names::renew_names;
+use proto_kept_references::changed_files::{Linked, marks_of_changes, outer_rows_at};
+use proto_kept_references::renewed_references::{grow_references, renew_references};
+use proto_listing::file_listing::list_file;
+use proto_table::table::Table;
+use std::alloc::Global;
+use std::mem;
+
+/// Files of which some are edited, and what a link has of all of them that stays.
+#[derive(Clone, Copy)]
+pub(crate) struct Edited<'a> {
+    /// The files now.
+    pub(crate) files: &'a Files,
+    /// The places of those that are edited.
+    pub(crate) places: &'a [u32],
+    /// For each file, its imports.
+    pub(crate) imports: &'a [Vec<FileImport>],
+    /// For each file, the marks of the files that it sees.
+    pub(crate) seen: &'a [Vec<bool>],
+}
+
+/// Puts the names of the edited files into the table, in place of those that they had, and notes
+/// their rows. Answers false where it gives up, as `renew_names` does. Refused for want of memory
+/// alone. Where it does not answer true, some names may be changed, and the logs tell which.
+fn renew_rows(
+    alloc: Global,
+    files: &Files,
+    places: &[u32],
+    table: &mut Table,
+    rows: &mut Vec<Vec<usize>>,
+    names: &mut NameLog,
+    log: &mut Vec<Change<Vec<usize>>>,
+) -> Result<bool, NoMemory>
+    requires table { IsTable table.old }
+    requires fits { Fits names.old table.old }
+    requires places { All (λ place. place < length files.now) places.now }
+    requires paired { length rows.old.items ≡ length files.now }
+    requires within { All (λ v. All (λ row. row < length table.old.rows.items) v.items)
+        rows.old.items }
+    requires were { WereNames places.now files.now table.old (map (λ v. v.items) rows.old.items) }
+    ensures table { IsTable table.new }
+    ensures fits { Fits names.new table.new }
+    ensures names { undone_table names.new table.new ≡ undone_table names.old table.old }
+    ensures undone { undone log.new.items rows.new.items ≡ undone log.old.items rows.old.items }
+    ensures len { length rows.new.items ≡ length rows.old.items }
+    ensures log { AreWithin (length rows.old.items) log.old.items
+        → AreWithin (length rows.old.items) log.new.items }
+    ensures renewed { IfOk result (λ done. done ≡ true → AreRowsRenewed places.now files.now
+        table.old table.new rows.old.items rows.new.items) }
+{
+    match renew_names(alloc, table, names, files, places, rows)? {
+        Some(renewed) => {
+            change_all_at(rows, log, places, renewed)?;
+            Ok(true)
+        }
+        None => Ok(false),
+    }
+}
+
+/// Looks up again what the references of one file mean. Answers false where one is faulty. Refused
+/// for want of memory alone. Unless it answers true, nothing is changed.
+fn mean_file_again(
+    alloc: Global,
+    edited: Edited,
+    file: u32,
+    table: &Table,
+    rows: &[Vec<usize>],
+    meant: &mut Vec<Vec<Meant>>,
+    log: &mut Vec<Change<Vec<Meant>>>,
+) -> Result<bool, NoMemory>
+    requires table { IsTable table.now }
+    requires file { file < length edited.files.now }
+    requires paired { length rows.now ≡ length edited.files.now }
+    requires meant { length meant.old.items ≡ length edited.files.now }
+    requires within { All (λ v. All (λ row. row < length table.now.rows.items) v.items) rows.now }
+    requires linked { (reads : List ReadOf) → AreRead edited.files.now reads
+        → IsFileLinked table.now (get_or (map (λ v. v.items) edited.seen.now) file [])
+        (get_or (map (λ v. v.items) rows.now) file []) edited.files.now reads file }
+    ensures undone { undone log.new.items meant.new.items ≡ undone log.old.items meant.old.items }
+    ensures within { AreWithin (length meant.old.items) log.old.items
+        → AreWithin (length meant.old.items) log.new.items }
+    ensures len { length meant.new.items ≡ length meant.old.items }
+    ensures below { AreMeantBelow (length table.now.rows.items) log.old.items meant.old.items
+        → AreMeantBelow (length table.now.rows.items) log.new.items meant.new.items }
+    ensures marked { (marks : List Bool) → get_or marks file false ≡ true
+        → AreOfMarked marks log.old.items → AreOfMarked marks log.new.items }
+    ensures meant { IfOk result (λ done. done ≡ true → (reads : List ReadOf)
+        → AreRead edited.entry.files.now reads
+        → AreFileMeant table.now edited.entry.files.now reads file
+        (get_or (map (λ v. v.items) meant.new.items) file [])) }
+    ensures others { (other : ℕ) → other ≢ file
+        → get_or (map (λ v. v.items) meant.new.items) other []
+        ≡ get_or (map (λ v. v.items) meant.old.items) other [] }
+{
+    are_read(edited.files);
+    let listing = list_file(alloc, edited.files.tree(file))?;
+    let place = file as usize;
+    let found = file_meanings(
+        alloc,
+        edited.files,
+        file,
+        table,
+        seen_by(edited.seen, place),
+        &rows[place],
+        &listing,
+    );
+    match found {
+        Ok(own) => {
+            put_meanings(meant, log, place, own)?;
+            Ok(true)
+        }
+        Err(ReferenceError::Fault(_bad)) => Ok(false),
+        Err(ReferenceError::NoMemory) => Err(NoMemory),
+    }
+}
+
+/// Puts what a file's references mean in place of what they meant, and notes that in the log.
+/// Refused for want of memory alone; then neither has changed.
+fn put_meanings(
+    meant: &mut Vec<Vec<Meant>>,
+    log: &mut Vec<Change<Vec<Meant>>>,
+    file: usize,
+    own: Vec<Meant>,
+) -> Result<(), NoMemory>
+    requires { file < length meant.old.items }
+    ensures items { OnOk result (meant.new.items ≡ slice_set meant.old.items file own) }
+    ensures noted { OnOk result
+        (IsMeantNoted log.old.items log.new.items meant.old.items file) }
+    ensures kept { OnErr result
+        ((meant.new.items ≡ meant.old.items) × (log.new.items ≡ log.old.items)) }
+{
+    log.reserve(1)?;
+    let was = mem::replace(&mut meant[file], own);
+    log.push(Change { place: file, was }).unwrap();
+    Ok(())
+}
+
+/// The marks of the files that a file sees.
+fn seen_by(seen: &[Vec<bool>], file: usize) -> &[bool]
+    ensures { result.now ≡ get_or (map (λ v. v.items) seen.now) file [] }
+{
+    match seen.get(file) {
+        Some(marks) => marks.as_slice(),
+        None => &[],
+    }
+}
+
+/// Looks up again what the references of the marked files mean. Answers false where one is faulty.
+/// Refused for want of memory alone. Where it does not answer true, some files may be looked at,
+/// and the log tells which.
+fn mean_again(
+    alloc: Global,
+    edited: Edited,
+    marks: &[bool],
+    table: &Table,
+    rows: &[Vec<usize>],
+    meant: &mut Vec<Vec<Meant>>,
+    log: &mut Vec<Change<Vec<Meant>>>,
+) -> Result<bool, NoMemory>
+    requires table { IsTable table.now }
+    requires marks { length marks.now ≡ length edited.files.now }
+    requires paired { length rows.now ≡ length edited.files.now }
+    requires meant { length meant.old.items ≡ length edited.files.now }
+    requires within { All (λ v. All (λ row. row < length table.now.rows.items) v.items) rows.now }
+    requires linked { (reads : List ReadOf) → AreRead edited.files.now reads → (file : ℕ)
+        → file < length edited.files.now
+        → IsFileLinked table.now (get_or (map (λ v. v.items) edited.seen.now) file [])
+        (get_or (map (λ v. v.items) rows.now) file []) edited.files.now reads file }
+    ensures undone { undone log.new.items meant.new.items ≡ undone log.old.items meant.old.items }
+    ensures within { AreWithin (length meant.old.items) log.old.items
+        → AreWithin (length meant.old.items) log.new.items }
+    ensures len { length meant.new.items ≡ length meant.old.items }
+    ensures below { AreMeantBelow (length table.now.rows.items) log.old.items meant.old.items
+        → AreMeantBelow (length table.now.rows.items) log.new.items meant.new.items }
+    ensures marked { AreOfMarked marks.now log.old.items → AreOfMarked marks.now log.new.items }
+    ensures meant { IfOk result (λ done. done ≡ true → (reads : List ReadOf)
+        → AreRead edited.entry.files.now reads
+        → AreMeantAgain marks.now table.now edited.entry.files.now reads
+        (map (λ v. v.items) meant.old.items) (map (λ v. v.items) meant.new.items)) }
+{
+    are_read(edited.files);
+    for file in 0..edited.files.len() as u32 {
+        if marks[file as usize] {
+            if !mean_file_again(alloc, edited, file, table, rows, meant, log)? {
+                return Ok(false);
+            }
+        }
+    }
+    Ok(true)
+}
+
+/// Changes the parts of a link to those of the edited files, as far as they are other ones. Answers
+/// false where it gives up: where a file imports or declares what calls for a link made anew, or
+/// has a fault. Refused for want of memory alone. Where it does not answer true, some of the parts
+/// may be changed, and the log tells which.
+pub(crate) fn renew_parts(
+    alloc: Global,
+    edited: Edited,
+    table: &mut Table,
+    rows: &mut Vec<Vec<usize>>,
+    meant: &mut Vec<Vec<Meant>>,
+    references: &mut Vec<Vec<RefId>>,
+    log: &mut LinkLog,
+) -> Result<bool, NoMemory>
+    requires places { All (λ place. place < length edited.files.now) edited.places.now }
+    requires table { IsTable table.old }
+    requires paired { length references.old.items ≡ length table.old.rows.items }
+    requires link { WasLink IsLinkOf edited.files.now edited.places.now
+        (link_of_parts table.old edited.imports.now rows.old.items edited.seen.now meant.old.items
+        references.old.items) }
+    requires fits { LogFits log.old table.old rows.old.items meant.old.items references.old.items }
+    requires none { log.old.meant.items ≡ [] }
+    ensures table { IsTable table.new }
+    ensures fits { LogFits log.new table.new rows.new.items meant.new.items references.new.items }
+    ensures undone { undone_parts log.new table.new rows.new.items meant.new.items
+        references.new.items ≡ undone_parts log.old table.old rows.old.items meant.old.items
+        references.old.items }
+    ensures paired { IfOk result (λ done. done ≡ true
+        → length references.new.items ≡ length table.new.rows.items) }
+    ensures link { IfOk result (λ done. done ≡ true → IsLinkOf edited.entry.files.now
+        (link_of_parts table.new edited.entry.imports.now rows.new.items edited.entry.seen.now
+        meant.new.items references.new.items)) }
+    ensures clean { IfOk result
+        (λ done. done ≡ true → HasNoFault (LinkFaults edited.entry.files.now)) }
+    ensures read { IfOk result (λ done. done ≡ true
+        → (reads : List ReadOf) × AreRead edited.entry.files.now reads) }
+{
+    let Edited { files, places, .. } = edited;
+    are_read(files);
+    let _count = files.len();
+    kept_imports_stay();
+    added_are_cut::<Vec<RefId>>();
+    if !all_imports_kept(alloc, files, places, edited.imports)? {
+        return Ok(false);
+    }
+    let before = outer_rows_at(alloc, table, places, rows)?;
+    if !renew_rows(
+        alloc,
+        files,
+        places,
+        table,
+        rows,
+        &mut log.names,
+        &mut log.rows,
+    )? {
+        return Ok(false);
+    }
+    grow_references(alloc, references, table.rows.len())?;
+    let now = outer_rows_at(alloc, table, places, rows)?;
+    let linked = Linked {
+        table,
+        references,
+        meant,
+    };
+    let marks = marks_of_changes(alloc, linked, places, &before, &now)?;
+    if !mean_again(alloc, edited, &marks, table, rows, meant, &mut log.meant)? {
+        return Ok(false);
+    }
+    renew_references(
+        alloc,
+        references,
+        &mut log.references,
+        &marks,
+        &log.meant,
+        meant,
+    )?;
+    Ok(true)
+}
