@@ -6,4 +6,5 @@ mod NewTextFaults
 mod Opened
 mod ReadTexts
 mod ReplacedTexts
+mod SameBut
 mod WithTexts

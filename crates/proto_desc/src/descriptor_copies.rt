@@ -13,7 +13,7 @@ use crate::descriptors::Descriptors;
 use proto_descriptors::copy_files;
 use proto_faults::{NoMemory, SchemaFault};
 use proto_files::Files;
-use proto_scenes::Link;
+use proto_scenes::{Link, MadeOfLink};
 use std::alloc::Global;
 
 impl Descriptors {
@@ -45,5 +45,25 @@ impl Descriptors {
     {
         *self = check(alloc, files, link)?;
         Ok(())
+    }
+}
+
+impl MadeOfLink for Descriptors {
+    ghost WasMade = { λ files places d. WereDescribed files places (files_desc d) };
+
+    ghost IsMade = { λ files d. AreDescribed files (files_desc d)
+        × HasNoFault (CheckFaults files) };
+
+    ghost IsRefused = { IsCheckError };
+
+    /// As `replace`.
+    fn follow(
+        &mut self,
+        alloc: Global,
+        files: &Files,
+        link: &Link,
+        places: &[u32],
+    ) -> Result<(), SchemaFault> {
+        self.replace(alloc, files, link, places)
     }
 }

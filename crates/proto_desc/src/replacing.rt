@@ -8,11 +8,11 @@ ghost use Rattle.proto_files.specs.Faults.{HasNoFault};
 
 use crate::new_texts::read_texts;
 use crate::put_texts::{put_back, put_texts};
-use crate::schema::{Schema, link_and_descriptors};
+use crate::schema::Schema;
 use proto_faults::{NoMemory, SchemaFault};
+use proto_files::are_read;
 use proto_tree::Steps;
 use std::alloc::Global;
-use std::mem;
 
 impl Schema {
     /// A copy of the schemas. Refused for want of memory alone.
@@ -75,16 +75,17 @@ impl Schema {
         ensures refused { OnErr result
             ((steps.old ≤ steps.new) × (steps.new ≤ steps.old + length places.now)) }
     {
+        // Each file is read, of which the contract of this says it.
+        are_read(&self.files);
         let read = read_texts(alloc, &self.files, places, texts, steps)?;
         let old = put_texts(alloc, &mut self.files, read)?;
         // The contract says that the files are those of a workspace and have no fault when read.
         let _count = self.files.len();
-        match link_and_descriptors(alloc, &self.files) {
-            Ok((link, descriptors)) => {
-                mem::replace(&mut self.link, link).release();
-                self.descriptors = descriptors;
-                Ok(())
-            }
+        let replaced = self
+            .link
+            .replace_with(alloc, &self.files, places, &mut self.descriptors);
+        match replaced {
+            Ok(()) => Ok(()),
             Err(fault) => {
                 put_back(&mut self.files, old);
                 Err(fault)
