@@ -1,5 +1,5 @@
 -- Defaults that mean a value, told by the texts of a link.
-use Rattle.std.proofs.Common.{◌≡◌, ℕ, ◌+◌, ◌<◌, ◌==◌, ◌&&◌, Bool, true, false, cond, if◌then◌else◌, List, [], ◌∷◌, ◌++◌, length, map, get_or, drop, flat_map, Option, Some, None, option_map, refl, sym, ap, subst, ◌∙◌, inl, inr, find, option_and_then, bytes_eq, true≢false, filter}
+use Rattle.std.proofs.Common.{◌≡◌, ℕ, ◌+◌, ◌<◌, ◌==◌, ◌&&◌, Bool, true, false, cond, if◌then◌else◌, List, [], ◌∷◌, ◌++◌, length, map, get_or, drop, flat_map, Option, Some, None, option_map, refl, sym, ap, subst, ◌∙◌, inl, inr, find, option_and_then, bytes_eq, true≢false}
 use Rattle.proto_faults.proofs.Common.{cases_Bool, none-some, flat_map-append, fails_from, same_from_word, word_from_same, listed_turn, any_from, list_any}
 use Rattle.proto_text.proofs.Common.{word_at, Lexeme}
 use Rattle.proto_tree.specs.declared.piece.Header.{Header}
@@ -127,6 +127,13 @@ module _ (files : List FileOf) (reads : List ReadOf) (are : AreRead files reads)
       go : (o : Option (List (List ℕ))) → ((m : List (List ℕ)) → o ≡ Some m → ArePlain m) → is_found_name (joined enum) (option_map joined o) ≡ is_enum enum o
       go None p = refl
       go (Some m) p = says_same m enum (p m refl) plain
+
+  -- where no reference means the enum, no default does
+  pub no_renamed : list_any (λ (m : Meant). is_found_name (joined enum) (name_text l m.row)) (get_or l.meant file []) ≡ false → (old : List ℕ) (fs : List FieldOf) → flat_map (renamed_default files reads (Some enum) old file) fs ≡ []
+  no_renamed none old fs = gives_none (renamed_default files reads (Some enum) old file) fs (λ f.
+      (let word : ℕ → List ℕ = λ t. text_of files reads (at file t) in
+      by_meaning word enum old (type_meaning files reads file f.kind) (default_words word f)
+      ∙ ap (λ b. if b then spelled word old (default_words word f) else []) (sym (same_type f.kind) ∙ no_type l file (joined enum) none f.kind)))
 
   module _ (scene : Scene) (as_read : IsReadAs files reads file scene) (tree : Tree) (of_file : IsTreeOf (file_at files file).bytes tree) (old : List ℕ) where
     one_field : (f : FieldOf) → defaults_of (text scene) (type_means l file (joined enum)) old f ≡ renamed_default files reads (Some enum) old file f

@@ -1,10 +1,14 @@
+mod ChangedMarks
 mod DefaultTexts
 mod EndTokens
 mod FileChanges
+mod FoundTokens
 mod JsonClashes
+mod KnownReferences
 mod LeastCases
 mod MarkTurns
 mod NameTexts
+mod NoTargets
 mod OneAim
 mod OuterKinds
 mod Placed

@@ -139,7 +139,7 @@ places_are files a file inside enum_name old value words defaults stands has rea
 
 -- ---- the change of words at them
 
-puts_at : (files : List FileOf) (a : Aim) (file : ℕ) (places : List ℕ) → ArePlacesIn files a file places → (reads : List ReadOf) → AreRead files reads → (t : Target) → IsAimedAt files reads a t → (to : List ℕ) → PutsAt (renamed_words files reads t to) file places to
+pub puts_at : (files : List FileOf) (a : Aim) (file : ℕ) (places : List ℕ) → ArePlacesIn files a file places → (reads : List ReadOf) → AreRead files reads → (t : Target) → IsAimedAt files reads a t → (to : List ℕ) → PutsAt (renamed_words files reads t to) file places to
 puts_at files a file places are reads r t aimed to =
     let all = places_of files reads t to in
     record {

@@ -11,7 +11,7 @@ pub marked_length : (ms : List Bool) (ps : List ℕ) → length (marked_from ms 
 marked_length ms [] = refl
 marked_length ms (p ∷ ps) = marked_length (slice_set ms p true) ps ∙ length-set ms p true
 
-stays_marked : (ms : List Bool) (ps : List ℕ) (i : ℕ) → i < length ms → get_or ms i false ≡ true → get_or (marked_from ms ps) i false ≡ true
+pub stays_marked : (ms : List Bool) (ps : List ℕ) (i : ℕ) → i < length ms → get_or ms i false ≡ true → get_or (marked_from ms ps) i false ≡ true
 stays_marked ms [] i l h = h
 stays_marked ms (p ∷ ps) i l h = stays_marked (slice_set ms p true) ps i (let m = length-set ms p true in omega (arith, l, m)) here
   where

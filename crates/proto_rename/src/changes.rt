@@ -5,9 +5,11 @@ ghost use Rattle.proto_entries.specs.Entries.{change_of};
 ghost use Rattle.proto_files.specs.Faults.{HasNoFault};
 ghost use Rattle.proto_imports.specs.Links.{LinkFaults};
 ghost use Rattle.proto_names.specs.LinkOfFiles.{IsLinkOf};
+ghost use Rattle.proto_rename.specs.ChangedFiles.{AreChangedFiles};
 ghost use Rattle.proto_rename.specs.Changes.{AreChangesOf, IsChangesFault, IsValueOf, IsChangeIn, IsFaultIn};
 ghost use Rattle.proto_captures.specs.Aims.{IsAimOf};
 
+use crate::changed_files::changed_files;
 use crate::changing::{RewordFault, change_of_file};
 use crate::places::{Sought, places_in};
 use proto_captures::Aim;
@@ -39,6 +41,9 @@ fn change_in(
     requires aim { IsAimOf sought.now.files.now sought.now.aim }
     requires value { IsValueOf sought.now.files.now sought.now.aim
         (option_map (λ x. x.now) sought.now.enum_name) sought.now.old.now }
+    requires marks { AreChangedFiles sought.now.link.now sought.now.aim
+        (option_map (λ x. x.now) sought.now.enum_name) (length sought.now.files.now)
+        sought.now.marks.now }
     requires file { file < length sought.now.files.now }
     ensures change { IfOk result (λ found.
         IsChangeIn sought.now.files.now sought.now.aim file to.now found) }
@@ -55,6 +60,9 @@ fn changes_with(alloc: Global, sought: &Sought, to: &str) -> Result<Vec<Change>,
     requires aim { IsAimOf sought.now.files.now sought.now.aim }
     requires value { IsValueOf sought.now.files.now sought.now.aim
         (option_map (λ x. x.now) sought.now.enum_name) sought.now.old.now }
+    requires marks { AreChangedFiles sought.now.link.now sought.now.aim
+        (option_map (λ x. x.now) sought.now.enum_name) (length sought.now.files.now)
+        sought.now.marks.now }
     ensures ok { IfOk result (λ changes.
         AreChangesOf sought.now.files.now sought.now.aim to.now (map change_of changes.items)) }
     ensures err { IfErr result (IsChangesFault sought.now.files.now sought.now.aim to.now) }
@@ -84,14 +92,17 @@ pub(crate) fn changes<'a>(
         AreChangesOf files.now aim.entry to.now (map change_of changes.items)) }
     ensures err { IfErr result (IsChangesFault files.now aim.entry to.now) }
 {
-    let enum_name = enum_name(alloc, files, aim)?;
+    let name = enum_name(alloc, files, aim)?;
+    let enum_name = name.as_deref();
     let old = Words::new(files, aim.file).get(aim.token);
+    let marks = changed_files(alloc, files, link, aim, enum_name)?;
     let sought = Sought {
         files,
         link,
         aim,
-        enum_name: enum_name.as_deref(),
+        enum_name,
         old,
+        marks: &marks,
     };
     changes_with(alloc, &sought, to)
 }

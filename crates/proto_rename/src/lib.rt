@@ -2,13 +2,16 @@
 #![tactic(auto)]
 
 mod aimed;
+mod changed_files;
 mod changes;
 mod changing;
 mod checks;
 mod defaults;
+mod file_occurrences;
 mod json_names;
 mod places;
 mod renaming;
 mod standing;
 
+pub use file_occurrences::{FileOccurrences, occurrences};
 pub use renaming::rename;

@@ -5,6 +5,7 @@ ghost use Rattle.proto_files.specs.Faults.{HasNoFault};
 ghost use Rattle.proto_imports.specs.Links.{LinkFaults};
 ghost use Rattle.proto_meaning.specs.Grown.{at};
 ghost use Rattle.proto_names.specs.LinkOfFiles.{IsLinkOf};
+ghost use Rattle.proto_rename.specs.ChangedFiles.{AreChangedFiles};
 ghost use Rattle.proto_rename.specs.Changes.{ArePlacesIn, IsValueOf, HasDefaultsIn, or_own};
 ghost use Rattle.proto_captures.specs.Aims.{IsAimOf};
 
@@ -13,6 +14,7 @@ use crate::standing::standing_in;
 use proto_captures::Aim;
 use proto_faults::NoMemory;
 use proto_files::Files;
+use proto_meaning::marks::is_marked;
 use proto_names::Link;
 use std::alloc::Global;
 
@@ -25,6 +27,8 @@ pub(crate) struct Sought<'a> {
     pub(crate) aim: Aim<'a>,
     pub(crate) enum_name: Option<&'a str>,
     pub(crate) old: &'a str,
+    /// Marks of the files in which the rename may change words.
+    pub(crate) marks: &'a [bool],
 }
 
 /// The token, if it is one of this file.
@@ -74,6 +78,9 @@ pub(crate) fn places_in(alloc: Global, sought: &Sought, file: u32) -> Result<Vec
     requires aim { IsAimOf sought.now.files.now sought.now.aim }
     requires value { IsValueOf sought.now.files.now sought.now.aim
         (option_map (λ x. x.now) sought.now.enum_name) sought.now.old.now }
+    requires marks { AreChangedFiles sought.now.link.now sought.now.aim
+        (option_map (λ x. x.now) sought.now.enum_name) (length sought.now.files.now)
+        sought.now.marks.now }
     requires file { file < length sought.now.files.now }
     ensures { IfOk result (λ found.
         ArePlacesIn sought.now.files.now sought.now.aim file found.items) }
@@ -84,7 +91,12 @@ pub(crate) fn places_in(alloc: Global, sought: &Sought, file: u32) -> Result<Vec
         aim,
         enum_name,
         old,
+        marks,
     } = *sought;
+    // Most files are not marked, and nothing of them is looked at.
+    if !is_marked(marks, file) {
+        return Ok(Vec::new(alloc));
+    }
     let mut places = standing_in(alloc, files, link, aim, file)?;
     push_own(&mut places, aim, file)?;
     let defaults = defaults_in(alloc, files, link, file, enum_name, old)?;

@@ -102,7 +102,7 @@ fn words_after(link: &Link, name: &str, meant: Meant) -> Option<usize>
 }
 
 /// How many words a name has behind a front; none where it does not go on from it and is not it.
-fn words_behind(front: &[u8], name: &[u8]) -> Option<usize>
+pub(crate) fn words_behind(front: &[u8], name: &[u8]) -> Option<usize>
     ensures { result ≡ words_behind front.now name.now }
 {
     match name.strip_prefix(front) {
