@@ -30,8 +30,8 @@ const ROWS: &[Row] = &[
     ),
 ];
 
-// Whether these are the files, in the order of their paths.
-fn are_texts(schema: &Schema, texts: &str) -> bool {
+/// Whether these are the files, in the order of their paths.
+pub(crate) fn are_texts(schema: &Schema, texts: &str) -> bool {
     let files = schema.files();
     let mut place: u32 = 0;
     for file in texts.split('|') {
@@ -118,4 +118,49 @@ fn expect_fault<R: AllocGlobal + Abort>(rt: &R) -> Result<(), NoMemory> {
 #[test]
 fn one_is_refused_before_a_fault(rt: HostRuntime) {
     assert!(rt; expect_fault(&rt).is_ok() || expect_fault(&rt).is_ok());
+}
+
+const BEFORE: &str =
+    "a.proto syntax = \"proto3\"; import \"b.proto\"; message A { M m = 1; }|b.proto syntax = \"proto3\"; message M {}";
+
+const AFTER: Row = (
+    "a.proto syntax = \"proto3\"; import \"b.proto\"; message A { M m = 1; }|b.proto syntax = \"proto3\"; message M { string s = 1; }",
+    "{\"file\":[{\"dependency\":[\"b.proto\"],\"messageType\":[{\"field\":[{\"jsonName\":\"m\",\"label\":\"LABEL_OPTIONAL\",\"name\":\"m\",\"number\":1,\"type\":\"TYPE_MESSAGE\",\"typeName\":\".M\"}],\"name\":\"A\"}],\"name\":\"a.proto\",\"syntax\":\"proto3\"},{\"messageType\":[{\"field\":[{\"jsonName\":\"s\",\"label\":\"LABEL_OPTIONAL\",\"name\":\"s\",\"number\":1,\"type\":\"TYPE_STRING\"}],\"name\":\"M\"}],\"name\":\"b.proto\",\"syntax\":\"proto3\"}]}",
+    "a.proto:0 PACKAGE_DEFINED -;b.proto:0 PACKAGE_DEFINED -;",
+);
+
+fn replace_second(alloc: Global, schema: &mut Schema) -> Result<(), SchemaFault> {
+    if schema.files().len() < 2 {
+        return Ok(());
+    }
+    let mut texts = Vec::new(alloc);
+    let text = "syntax = \"proto3\"; message M { string s = 1; }";
+    texts.push(Vec::from_slice(alloc, text.as_bytes())?)?;
+    schema.replace(alloc, &[1], texts)
+}
+
+// The second file gets its text, at the second call if there is no memory for the first; until then the files are as before.
+fn expect_replaced<R: AllocGlobal + Abort>(rt: &R, schema: &mut Schema) -> Result<(), SchemaFault> {
+    if let Err(SchemaFault::NoMemory) = replace_second(rt.alloc(), schema) {
+        assert!(rt; are_texts(schema, BEFORE), "{BEFORE}");
+        replace_second(rt.alloc(), schema)?;
+    }
+    expect_kept(rt, schema, Some(AFTER));
+    Ok(())
+}
+
+fn open_and_replace<R: AllocGlobal + Abort>(rt: &R) -> Result<(), SchemaFault> {
+    let mut schema = Schema::open(rt.alloc(), given_files(rt.alloc(), BEFORE)?)?;
+    let answer = expect_replaced(rt, &mut schema);
+    schema.release();
+    answer
+}
+
+#[test]
+fn one_is_refused_of_another_text(rt: HostRuntime) {
+    let replaced = match open_and_replace(&rt) {
+        Err(SchemaFault::NoMemory) => open_and_replace(&rt),
+        answer => answer,
+    };
+    assert!(rt; replaced.is_ok(), "{BEFORE}");
 }

@@ -47,16 +47,23 @@ pub(crate) fn compiled_json<R: AllocGlobal + Abort>(
     }
 }
 
-/// The descriptors of files as JSON, or their fault as `path:offset: number name`.
+/// The fault as `path:offset: number name`.
+pub(crate) fn fault_text(alloc: Global, fault: SchemaFault) -> Result<String, NoMemory> {
+    match fault {
+        SchemaFault::Schema(fault) => {
+            let (offset, number, name) = (fault.offset, fault.number(), fault.name());
+            let path = fault.path.as_str();
+            Ok(format!(in alloc; "{path}:{offset}: {number} {name}")?)
+        }
+        SchemaFault::NoMemory => Err(NoMemory),
+    }
+}
+
+/// The descriptors of files as JSON, or their fault.
 pub(crate) fn answer<R: AllocGlobal + Abort>(rt: &R, files: Given) -> Result<String, NoMemory> {
     match compiled_json(rt, files, None) {
         Ok(json) => Ok(json),
-        Err(SchemaFault::Schema(fault)) => {
-            let (offset, number, name) = (fault.offset, fault.number(), fault.name());
-            let path = fault.path.as_str();
-            Ok(format!(in rt.alloc(); "{path}:{offset}: {number} {name}")?)
-        }
-        Err(SchemaFault::NoMemory) => Err(NoMemory),
+        Err(fault) => fault_text(rt.alloc(), fault),
     }
 }
 

@@ -17,3 +17,5 @@ mod extensions;
 mod inputs;
 #[cfg(test)]
 mod names;
+#[cfg(test)]
+mod replaced_texts;

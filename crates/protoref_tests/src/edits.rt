@@ -10,6 +10,8 @@ mod imports;
 mod journal;
 mod lists;
 mod locations;
+mod many_files;
+mod occurrences;
 mod opening;
 mod renames;
 mod rows;

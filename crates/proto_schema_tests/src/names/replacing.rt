@@ -1,6 +1,7 @@
 //! A link of two files of which one gets another text.
 
-ghost use Rattle.std.specs.Prelude.{◌≡◌, ◌≢◌, ℕ, length};
+ghost use Rattle.std.specs.Prelude.{◌≡◌, ◌≢◌, ◌<◌, ℕ, length};
+ghost use Rattle.std.specs.List.{All};
 ghost use Rattle.proto_files.specs.GivenFiles.{file_at, paths_of};
 ghost use Rattle.proto_tree.specs.File.{tree_of_file};
 ghost use Rattle.proto_tree.specs.Reads.{Reads};
@@ -32,6 +33,22 @@ fn set_second<R: AllocGlobal + Abort>(
     files.set(1, source, tokens, tree)
 }
 
+// The link of the files tells the rows, also where those at these places are taken for edited ones.
+fn expect_at<R: AllocGlobal + Abort>(
+    rt: &R,
+    files: &Files,
+    places: &[u32],
+    rows: &[Told],
+) -> Result<(), SchemaFault>
+    requires { All (λ place. place < length files.now) places.now }
+{
+    let mut link = Link::new(rt.alloc(), files)?;
+    link.replace(rt.alloc(), files, places)?;
+    expect_rows(rt, &link, files, rows);
+    link.release();
+    Ok(())
+}
+
 // The link tells the rows before, and once the second file has another text those after, as does
 // the link that is made of the files anew.
 fn expect_replaced<R: AllocGlobal + Abort>(
@@ -55,7 +72,10 @@ fn expect_replaced<R: AllocGlobal + Abort>(
     let anew = Link::new(rt.alloc(), files)?;
     expect_rows(rt, &anew, files, after);
     anew.release();
-    Ok(())
+    // A place twice, places out of order, and all of them.
+    expect_at(rt, files, &[1, 1], after)?;
+    expect_at(rt, files, &[1, 0, 1], after)?;
+    expect_at(rt, files, &[0, 1], after)
 }
 
 // What is answered where the second file has another text. The link then still tells the rows of
