@@ -1,2 +1,3 @@
+mod FewPlaces
 mod PlainWords
 mod TwoFiles
