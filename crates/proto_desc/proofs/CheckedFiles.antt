@@ -1,10 +1,11 @@
 -- What holds of a file as the code reads it holds of it as it is read, with its numbers as they are.
 use Rattle.std.proofs.Common.{◌≡◌, ℕ, suc, ◌+◌, ◌<◌, List, [], ◌∷◌, ◌++◌, length, get_or, map, Option, Some, None, refl, sym, ap, subst, ◌∙◌, arith, Contains}
-use Rattle.proto_faults.proofs.Common.{Vec}
+use Rattle.proto_faults.proofs.Common.{Vec, contains_head}
 use Rattle.proto_tree.specs.Tree.{Tree}
 use Rattle.proto_files.proofs.Common.{FileOf, file_at, Each, ReadOf, AreRead, read_at, IsTreeOf, same_tree}
 use Rattle.proto_parts.proofs.Common.{past, Scene}
 use Rattle.proto_checks.specs.FileFlaws.{file_flaws}
+use Rattle.proto_checks.proofs.CappedFlaws as capped
 use Rattle.proto_numbers.specs.Flaws.{IsLeastOfFlaws}
 use Rattle.proto_numbers.specs.declared.flaw.Flaw.{Flaw}
 use Rattle.proto_extensions.specs.Extensions.{workspace_flaws}
@@ -24,6 +25,10 @@ use Rattle.proto_descriptors.specs.declared.file.FileDescriptor.{FileDescriptor}
 abbrev pub described_at : List FileOf → List ReadOf → ℕ → Tree → FileDesc
 described_at files reads k tree = file_described (scene_of None files reads k) (file_at files k).path tree
 
+pub nothing_there : {A : Type 0} (xs : List A) → ((x : A) → Contains xs x → ⊥) → xs ≡ []
+nothing_there [] none = refl
+nothing_there (x ∷ xs) none = absurd (none x (contains_head x xs))
+
 module _ (files : List FileOf) (file : ℕ) (within : file < length files) (scene : Scene) (is : IsSceneOf files file scene) (tree : Tree) (of_file : IsTreeOf (file_at files file).bytes tree) (reads : List ReadOf) (are : AreRead files reads) where
   pub least_of_file : (flaws : List Flaw) → AreOfWorkspace files file flaws → (o : Option Flaw) → IsLeastOfFlaws (Contains (file_flaws scene tree ++ flaws)) o → IsLeastOfFlaws (Contains (flaws_of files reads file)) o
   least_of_file flaws others o least =
@@ -31,6 +36,16 @@ module _ (files : List FileOf) (file : ℕ) (within : file < length files) (scen
       (subst (λ (s : Scene). IsLeastOfFlaws (Contains (file_flaws s (read_at reads file).tree ++ workspace_flaws (Some past) files reads file)) o) (is reads are)
       (subst (λ (fs : List Flaw). IsLeastOfFlaws (Contains (file_flaws scene (read_at reads file).tree ++ fs)) o) (others reads are)
       (subst (λ (t : Tree). IsLeastOfFlaws (Contains (file_flaws scene t ++ flaws)) o) (sym (same_tree files reads file tree are within of_file)) least)))
+
+  -- nothing is wrong with the file alone
+  pub none_of_file : file_flaws scene tree ≡ [] → file_flaws (scene_of None files reads file) (read_at reads file).tree ≡ []
+  none_of_file none =
+      let empty : file_flaws (scene_of (Some past) files reads file) (read_at reads file).tree ≡ [] =
+      ap (λ (s : Scene). file_flaws s (read_at reads file).tree) (sym (is reads are)) ∙ ap (λ (t : Tree). file_flaws scene t) (same_tree files reads file tree are within of_file) ∙ none in
+      nothing_there (file_flaws (scene_of None files reads file) (read_at reads file).tree)
+      (capped.caps_keep_the_least (scene_of (Some past) files reads file) (read_at reads file).tree None refl (λ f c. (
+      let d : Contains [] f = subst (λ (fs : List Flaw). Contains fs f) empty c in
+      omega (arith, d.1))))
 
   pub described_of_file : file_described scene (file_at files file).path tree ≡ described_at files reads file (read_at reads file).tree
   described_of_file =

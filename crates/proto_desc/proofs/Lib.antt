@@ -2,9 +2,11 @@ pub mod CheckedFiles
 pub mod Common
 mod GivenInOrder
 pub mod LeastCheckFault
+mod MadePut
 mod NewTextFaults
 mod Opened
 mod ReadTexts
+mod Renewed
 mod ReplacedTexts
 mod SameBut
 mod WithTexts

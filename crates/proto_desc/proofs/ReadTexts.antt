@@ -1,5 +1,5 @@
 -- Texts as they are read, one after the other.
-use Rattle.std.proofs.Common.{◌≡◌, ℕ, suc, ◌+◌, ◌<◌, ◌≤◌, List, [], ◌∷◌, ◌++◌, length, map, get_or, sym, ap, ◌∙◌, subst, inl, inr, arith, All, AllPairs}
+use Rattle.std.proofs.Common.{◌≡◌, ℕ, suc, ◌<◌, ◌≤◌, List, [], ◌∷◌, ◌++◌, length, map, get_or, sym, ap, ◌∙◌, subst, inl, inr, arith, All, AllPairs}
 use Rattle.proto_faults.proofs.Common.{Text, get_or-map, length-map, map-map, map_push}
 use Rattle.proto_faults.specs.declared.fault.SchemaFault.{SchemaFault}
 use Rattle.proto_files.proofs.Common.{FileOf, AreWorkspaceFiles, HasNoFault, IsFilesError, IsGrammarFault, IsTextFault, ReadFaults}

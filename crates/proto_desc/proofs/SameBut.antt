@@ -1,5 +1,5 @@
 -- Files with other texts at some places are those of before, but at these places.
-use Rattle.std.proofs.Common.{◌≡◌, ℕ, zero, suc, ◌<◌, List, [], ◌∷◌, length, get_or, refl, sym, ◌∙◌, ap, subst, slice_set, length-set, Contains}
+use Rattle.std.proofs.Common.{◌≡◌, ℕ, zero, suc, List, [], ◌∷◌, length, refl, sym, ◌∙◌, ap, subst, slice_set, length-set, Contains}
 use Rattle.std.proofs.lemmas.List.{get_or-set_other}
 use Rattle.proto_faults.proofs.Common.{Text, contains_head, contains_later}
 use Rattle.proto_files.proofs.Common.{FileOf}

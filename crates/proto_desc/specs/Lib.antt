@@ -4,6 +4,7 @@ pub mod Common
 pub mod Edited
 pub mod NewTexts
 pub mod Opening
+pub mod Renewing
 pub mod Views
 pub mod Whole
 pub use Rattle.proto_scenes.specs.SceneOf

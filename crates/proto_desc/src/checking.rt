@@ -12,8 +12,9 @@ ghost use Rattle.proto_scenes.specs.Scenes.{AreScenes, IsSceneOf};
 ghost use Rattle.proto_desc.specs.CheckSteps.{AreOfWorkspace, HasNoFlaw, IsFaultOf, IsLeastFlawError};
 ghost use Rattle.proto_scenes.specs.Enums.{IsEnumTable};
 ghost use Rattle.proto_extensions.specs.Listed.{AreWorkspaceFlaws};
-ghost use Rattle.proto_desc.specs.Views.{files_desc};
+ghost use Rattle.proto_desc.specs.Views.{files_desc, files_kept};
 ghost use Rattle.proto_descriptors.specs.Views.{file_desc};
+ghost use Rattle.proto_kept_checks.specs.Checked.{AreKeptOf};
 
 use crate::described::file_descriptor;
 use crate::descriptors::Descriptors;
@@ -27,6 +28,7 @@ use proto_parts::Scene;
 use proto_scenes::Link;
 use proto_scenes::enum_table::{EnumRow, enum_table};
 use proto_scenes::scenes::scenes;
+use proto_spared_files::kept_files;
 use proto_tree::File;
 use std::alloc::Global;
 
@@ -141,12 +143,14 @@ fn check_with(
     requires table { IsEnumTable files.now table.now }
     ensures clean { IfOk result (λ _. HasNoFault (CheckFaults files.now)) }
     ensures descriptors { IfOk result (λ d. AreDescribed files.now (files_desc d)) }
+    ensures kept { IfOk result (λ d. AreKeptOf files.now (files_kept d)) }
     ensures fault { IfErr result (IsCheckError files.now) }
 {
     let scenes = scenes(alloc, files, link, table)?;
     check_files(alloc, files, link, &scenes)?;
     let file = descriptors(alloc, files, &scenes)?;
-    Ok(Descriptors { file })
+    let kept = kept_files(alloc, files, link)?;
+    Ok(Descriptors { file, kept })
 }
 
 /// The descriptors of linked files, in the order of their paths, where their checks find no fault;
@@ -155,6 +159,7 @@ pub fn check(alloc: Global, files: &Files, link: &Link) -> Result<Descriptors, S
     requires { IsLinkOf files.now link.now }
     ensures clean { IfOk result (λ _. HasNoFault (CheckFaults files.now)) }
     ensures descriptors { IfOk result (λ d. AreDescribed files.now (files_desc d)) }
+    ensures kept { IfOk result (λ d. AreKeptOf files.now (files_kept d)) }
     ensures fault { IfErr result (IsCheckError files.now) }
 {
     let table = enum_table(alloc, files)?;

@@ -1,9 +1,9 @@
 //! Copies of descriptors, and descriptors of files of which some were edited.
 
 ghost use Rattle.std.specs.Prelude.{◌≡◌, ◌<◌, length, All, IfOk, IfErr, OnOk, OnErr};
-ghost use Rattle.proto_desc.specs.Checked.{AreDescribed, CheckFaults, IsCheckError};
-ghost use Rattle.proto_desc.specs.Edited.{WereDescribed};
-ghost use Rattle.proto_desc.specs.Views.{files_desc};
+ghost use Rattle.proto_desc.specs.Checked.{CheckFaults, IsCheckError};
+ghost use Rattle.proto_desc.specs.Edited.{AreDescriptorsOf, WereDescribed};
+ghost use Rattle.proto_desc.specs.Views.{files_desc, files_kept};
 ghost use Rattle.proto_files.specs.Faults.{HasNoFault};
 ghost use Rattle.proto_imports.specs.Links.{LinkFaults};
 ghost use Rattle.proto_scenes.specs.LinkOfFiles.{IsLinkOf};
@@ -14,15 +14,18 @@ use proto_descriptors::copy_files;
 use proto_faults::{NoMemory, SchemaFault};
 use proto_files::Files;
 use proto_scenes::{Link, MadeOfLink};
+use proto_spared_files::copy_kept_files;
 use std::alloc::Global;
 
 impl Descriptors {
     /// A copy of the descriptors. Refused for want of memory alone.
     pub fn copy(&self, alloc: Global) -> Result<Descriptors, NoMemory>
-        ensures { IfOk result (λ d. files_desc d ≡ files_desc self.now) }
+        ensures descriptors { IfOk result (λ d. files_desc d ≡ files_desc self.now) }
+        ensures kept { IfOk result (λ d. files_kept d ≡ files_kept self.now) }
     {
         let file = copy_files(alloc, &self.file)?;
-        Ok(Descriptors { file })
+        let kept = copy_kept_files(alloc, &self.kept)?;
+        Ok(Descriptors { file, kept })
     }
 
     /// Makes these the descriptors of the files, which are those that they were of but at these
@@ -37,22 +40,23 @@ impl Descriptors {
         requires places { All (λ place. place < length files.now) places.now }
         requires link { IsLinkOf files.now link.now }
         requires clean { HasNoFault (LinkFaults files.now) }
-        requires were { WereDescribed files.now places.now (files_desc self.old) }
+        requires were { WereDescribed files.now places.now self.old }
         ensures clean { IfOk result (λ _. HasNoFault (CheckFaults files.now)) }
-        ensures descriptors { OnOk result (AreDescribed files.now (files_desc self.new)) }
+        ensures descriptors { OnOk result (AreDescriptorsOf files.now self.new) }
         ensures fault { IfErr result (IsCheckError files.now) }
         ensures kept { OnErr result (self.new ≡ self.old) }
     {
-        *self = check(alloc, files, link)?;
+        if !self.renew(alloc, files, link, places)? {
+            *self = check(alloc, files, link)?;
+        }
         Ok(())
     }
 }
 
 impl MadeOfLink for Descriptors {
-    ghost WasMade = { λ files places d. WereDescribed files places (files_desc d) };
+    ghost WasMade = { WereDescribed };
 
-    ghost IsMade = { λ files d. AreDescribed files (files_desc d)
-        × HasNoFault (CheckFaults files) };
+    ghost IsMade = { λ files d. AreDescriptorsOf files d × HasNoFault (CheckFaults files) };
 
     ghost IsRefused = { IsCheckError };
 

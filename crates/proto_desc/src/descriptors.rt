@@ -1,9 +1,12 @@
 //! The descriptors of a workspace.
 
 use proto_descriptors::FileDescriptor;
+use proto_spared_files::KeptFile;
 
 /// The descriptors of a workspace: one per file, in the order of the paths.
 #[derive(Drop)]
 pub struct Descriptors {
     pub(crate) file: Vec<FileDescriptor>,
+    /// What is kept of each file, by which an edit of others tells whether it spares it.
+    pub(crate) kept: Vec<KeptFile>,
 }

@@ -13,6 +13,7 @@ mod json_form;
 pub mod laws;
 mod new_texts;
 mod put_texts;
+mod renewing;
 mod replacing;
 mod schema;
 mod text_faults;

@@ -2,6 +2,7 @@
 
 ghost use Rattle.std.specs.Prelude.{◌≡◌, List, IfOk, IfErr};
 ghost use Rattle.proto_desc.specs.Checked.{AreDescribed};
+ghost use Rattle.proto_desc.specs.Edited.{AreDescriptorsOf};
 ghost use Rattle.proto_desc.specs.Views.{files_desc};
 ghost use Rattle.proto_files.specs.Faults.{HasNoFault, IsFilesError};
 ghost use Rattle.proto_files.specs.GivenFiles.{files_of};
@@ -57,8 +58,7 @@ impl Model for Schema {
 
     ghost Value = { List FileOf };
 
-    ghost use Rattle.proto_desc.specs.Checked.{AreDescribed};
-    ghost use Rattle.proto_desc.specs.Views.{files_desc};
+    ghost use Rattle.proto_desc.specs.Edited.{AreDescriptorsOf};
     ghost use Rattle.proto_files.specs.Faults.{HasNoFault};
     ghost use Rattle.proto_scenes.specs.LinkOfFiles.{IsLinkOf};
     ghost use Rattle.proto_desc.specs.Whole.{FileFaults};
@@ -66,7 +66,7 @@ impl Model for Schema {
     ghost view = { λ s. s.files };
 
     ghost invariant = { λ s. HasNoFault (FileFaults s.files)
-        × (IsLinkOf s.files s.link × AreDescribed s.files (files_desc s.descriptors)) };
+        × (IsLinkOf s.files s.link × AreDescriptorsOf s.files s.descriptors) };
 }
 
 /// The link of files that were read, and their descriptors, where they have no fault.
@@ -77,7 +77,7 @@ pub fn link_and_descriptors(
     requires { HasNoFault (ReadFaults files.now) }
     ensures clean { IfOk result (λ _. HasNoFault (FileFaults files.now)) }
     ensures link { IfOk result (λ l. IsLinkOf files.now l.0) }
-    ensures described { IfOk result (λ l. AreDescribed files.now (files_desc l.1)) }
+    ensures described { IfOk result (λ l. AreDescriptorsOf files.now l.1) }
     ensures fault { IfErr result (IsFilesError (FileFaults files.now)) }
 {
     let link = Link::new(alloc, files)?;

@@ -56,8 +56,9 @@ fn has_extend_in_item(item: &Item) -> bool
     }
 }
 
+/// Whether a file has an `extend` block, at any depth. Takes no memory.
 #[tactic(auto, using(crate::proofs::ExtendTrees::in_joined))]
-fn has_extend(file: &File) -> bool
+pub fn has_extend(file: &File) -> bool
     ensures { result ≡ has_extend (tree_of_file file.now) }
 {
     for item in &file.items {

@@ -8,4 +8,5 @@ pub mod laws;
 mod listed;
 mod open_table;
 
+pub use extends::has_extend;
 pub use flaws::workspace_flaws;

@@ -1,5 +1,5 @@
 -- The enums of files, found by the tokens of their names.
-use Rattle.std.specs.Prelude.{◌≡◌, ℕ, Bool, nat_eq, List, find, slice_get, Option, option_map}
+use Rattle.std.specs.Prelude.{◌≡◌, ℕ, Bool, false, if◌then◌else◌, nat_eq, List, find, get_or, slice_get, Option, None, option_map}
 use Rattle.std.specs.Option.{option_and_then}
 use Rattle.indexmap.specs.IndexMap.{IndexMap, get}
 use Rattle.proto_text.specs.Tokens.{Lexeme}
@@ -40,6 +40,18 @@ AreEnumsOf lexemes proto3 blocks rows =
 -- the enum that a table of all files has for a token of a file, if it has one
 abbrev pub enum_in : {S : Type 0} → List (IndexMap ℕ EnumRow S) → At → Option EnumOf
 enum_in table a = option_and_then (λ rows. enum_row_at rows a.token) (slice_get table a.file)
+
+-- the enum whose name is at this token of a file, if that is one of the marked files
+abbrev pub marked_enum_at : List Bool → List FileOf → List ReadOf → At → Option EnumOf
+marked_enum_at marks files reads a =
+    if get_or marks a.file false then enum_at files reads a else None
+
+-- the table has for each token of each marked file the enum whose name is at it, and nothing else
+abbrev pub IsEnumTableOf
+    : {S : Type 0} → List FileOf → List Bool → List (IndexMap ℕ EnumRow S) → Type 0
+IsEnumTableOf files marks table =
+    (reads : List ReadOf) → AreRead files reads
+    → (a : At) → enum_in table a ≡ marked_enum_at marks files reads a
 
 -- the table has for each token of each file the enum whose name is at it, and nothing else
 abbrev pub IsEnumTable : {S : Type 0} → List FileOf → List (IndexMap ℕ EnumRow S) → Type 0

@@ -1,11 +1,18 @@
 -- What a link has of references, with the enums that they mean.
-use Rattle.std.specs.Prelude.{ℕ, Option}
+use Rattle.std.specs.Prelude.{◌≡◌, ℕ, List, [], get_or, Option}
+use Rattle.std.specs.List.{All}
 use Rattle.std.specs.Option.{option_and_then}
+use Rattle.indexmap.specs.IndexMap.{IndexMap}
 use Rattle.proto_faults.specs.Texts.{or_nothing}
+use Rattle.proto_files.specs.FilesRead.{AreRead, ReadOf}
+use Rattle.proto_files.specs.GivenFiles.{FileOf}
 use Rattle.proto_meaning.specs.Grown.{At, at}
 use Rattle.proto_names.specs.Linking.{LinkOf, declaring_file, name_text, declaring_token}
 use Rattle.proto_names.specs.Linking.{Meant}
 use Rattle.proto_parts.specs.Scenes.{EnumOf, MeantOf}
+use Rattle.proto_scenes.specs.Enums.{enum_in}
+use Rattle.proto_scenes.specs.SceneOf.{enum_at}
+use Rattle.proto_scenes.specs.declared.enum_table.EnumRow.{EnumRow}
 
 -- the enum that stands at the file and token of the link's name in a row, if an enum stands there
 abbrev pub enum_of_name : LinkOf → (At → Option EnumOf) → ℕ → Option EnumOf
@@ -22,3 +29,11 @@ meant_in_table l enum m = record {
   name = or_nothing (name_text l m.row);
   enum = enum_of_name l enum m.row;
 }
+
+-- the table has the enums that the references of the file mean
+abbrev pub HasEnumsMeant
+    : {S : Type 0} → List FileOf → LinkOf → ℕ → List (IndexMap ℕ EnumRow S) → Type 0
+HasEnumsMeant files l file table =
+    (reads : List ReadOf) → AreRead files reads
+    → All (λ m. enum_of_name l (enum_in table) m.row ≡ enum_of_name l (enum_at files reads) m.row)
+    (get_or l.meant file [])

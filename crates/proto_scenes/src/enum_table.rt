@@ -1,19 +1,21 @@
 //! The enums of files, by the tokens of their names.
 
-ghost use Rattle.std.specs.Prelude.{◌≡◌, ◌++◌, ◌∷◌, [], List, map, option_map, IfOk, OnOk};
+ghost use Rattle.std.specs.Prelude.{◌≡◌, ◌<◌, ◌++◌, ◌∷◌, [], ℕ, List, length, map, option_map, IfOk, OnOk};
 ghost use Rattle.proto_text.specs.Texts.{word_at};
 ghost use Rattle.proto_tree.specs.File.{enum_item_tree, tree_of_file, trees};
+ghost use Rattle.proto_files.specs.FilesRead.{AreRead, ReadOf};
 ghost use Rattle.proto_meaning.specs.Grown.{at};
 ghost use Rattle.proto_parts.specs.Parts.{BlockOf, blocks_in};
 ghost use Rattle.proto_parts.specs.Views.{enum_of};
 ghost use Rattle.proto_scenes.specs.Blocks.{block_of, enum_block};
-ghost use Rattle.proto_scenes.specs.Enums.{AreEnumsOf, IsEnumTable, enum_in, enum_of_row};
+ghost use Rattle.proto_scenes.specs.Enums.{AreEnumsOf, IsEnumTable, IsEnumTableOf, enum_in, enum_of_row, enum_row_at, marked_enum_at};
 ghost use Rattle.proto_scenes.specs.SceneOf.{enum_within, starts_past_zero};
 
 use crate::blocks::{BlockAt, blocks_of};
 use indexmap::IndexMap;
 use proto_faults::NoMemory;
 use proto_files::{Files, Words};
+use proto_meaning::marks::is_marked;
 use proto_parts::{EnumAt, ValueNames, is_proto3, number_of, values};
 use proto_tree::{Enum, EnumItem, File, Value};
 use std::alloc::Global;
@@ -137,22 +139,51 @@ fn file_enums<'a>(
     Ok(rows)
 }
 
-/// The enums of all files: for each file, in the order of their paths, what is read of each of its
-/// enums, by the token of its name. Refused for want of memory alone.
+/// The enums of a file, if it is marked; else none.
+fn enums_if_marked<'a>(
+    alloc: Global,
+    files: &'a Files,
+    marks: &[bool],
+    file: u32,
+) -> Result<IndexMap<u32, EnumRow<'a>>, NoMemory>
+    requires { file < length files.now }
+    ensures { IfOk result (λ rows. (reads : List ReadOf) → AreRead files.now reads → (token : ℕ)
+        → enum_row_at rows token ≡ marked_enum_at marks.now files.now reads (at file token)) }
+{
+    if !is_marked(marks, file) {
+        return Ok(IndexMap::new(alloc));
+    }
+    let words = Words::new(files, file);
+    let tree = files.tree(file);
+    file_enums(alloc, &words, is_proto3(&words, tree), tree)
+}
+
+/// The enums of the marked files: for each of these, in the order of their paths, what is read of
+/// each of its enums, by the token of its name; nothing for another file. Refused for want of memory
+/// alone.
+pub fn enum_table_of<'a>(
+    alloc: Global,
+    files: &'a Files,
+    marks: &[bool],
+) -> Result<Vec<IndexMap<u32, EnumRow<'a>>>, NoMemory>
+    ensures { IfOk result (λ table. IsEnumTableOf files.now marks.now table.items) }
+{
+    let mut table = Vec::with_capacity(alloc, files.len())?;
+    for file in 0..files.len() as u32 {
+        table.push(enums_if_marked(alloc, files, marks, file)?)?;
+    }
+    Ok(table)
+}
+
+/// The enums of all files: as `enum_table_of`, with each file marked.
 pub fn enum_table<'a>(
     alloc: Global,
     files: &'a Files,
 ) -> Result<Vec<IndexMap<u32, EnumRow<'a>>>, NoMemory>
     ensures { IfOk result (λ table. IsEnumTable files.now table.items) }
 {
-    let mut table = Vec::new(alloc);
-    for file in 0..files.len() as u32 {
-        let words = Words::new(files, file);
-        let tree = files.tree(file);
-        let is_proto3 = is_proto3(&words, tree);
-        table.push(file_enums(alloc, &words, is_proto3, tree)?)?;
-    }
-    Ok(table)
+    let all = vec![in alloc; true; files.len()]?;
+    enum_table_of(alloc, files, &all)
 }
 
 /// The enum whose name is this token of the file, if it is an enum's.

@@ -6,7 +6,7 @@ ghost use Rattle.proto_names.specs.LinkOfFiles.{IsLinkOf};
 ghost use Rattle.proto_parts.specs.Views.{enum_of, meant_of};
 ghost use Rattle.proto_scenes.specs.Scenes.{AreScenes, IsSceneOf};
 ghost use Rattle.proto_scenes.specs.Enums.{IsEnumTable, enum_in};
-ghost use Rattle.proto_scenes.specs.Meanings.{enum_of_name, meant_in_table};
+ghost use Rattle.proto_scenes.specs.Meanings.{HasEnumsMeant, enum_of_name, meant_in_table};
 
 use crate::enum_table::{EnumRow, enum_at};
 use indexmap::IndexMap;
@@ -65,8 +65,10 @@ fn means<'a>(
     Ok(means)
 }
 
-/// One file.
-fn scene<'a>(
+/// The file with this number, from 0, as checks and descriptors read it. The link is that of the
+/// files, and the table has the enums that references of this file mean. Refused for want of memory
+/// alone.
+pub fn scene<'a>(
     alloc: Global,
     files: &'a Files,
     link: &'a Link,
@@ -75,7 +77,7 @@ fn scene<'a>(
 ) -> Result<Scene<'a>, NoMemory>
     requires file { file < length files.now }
     requires link { IsLinkOf files.now link.now }
-    requires table { IsEnumTable files.now table.now }
+    requires table { HasEnumsMeant files.now link.now file table.now }
     ensures { IfOk result (IsSceneOf files.now file) }
 {
     let words = Words::new(files, file);

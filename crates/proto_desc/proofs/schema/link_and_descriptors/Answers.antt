@@ -12,3 +12,6 @@ returns-in-Ok-clause-clean c = none_of_files c.args.files.now c.requires c.in_ok
 
 pub returns-in-Err-clause-fault : goal.returns-in-Err-clause-fault
 returns-in-Err-clause-fault c = checking_error c.args.files.now c.in-Err.fault c.requires c.in_ok-link.ensures.clean c.in-Err.ensures.fault
+
+pub returns-in-Ok-clause-described : goal.returns-in-Ok-clause-described
+returns-in-Ok-clause-described c = record { described = c.in-Ok.ensures.descriptors; kept = c.in-Ok.ensures.kept }

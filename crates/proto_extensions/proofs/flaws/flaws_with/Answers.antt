@@ -1,4 +1,4 @@
-use Rattle.std.proofs.Common.{◌≡◌, ℕ, suc, ◌+◌, ◌<◌, [], ◌∷◌, length, length-append, map, Some, sym, ap, subst, ◌∙◌, arith}
+use Rattle.std.proofs.Common.{◌≡◌, suc, ◌+◌, ◌<◌, [], ◌∷◌, length, length-append, map, Some, ap, ◌∙◌, arith}
 use Rattle.proto_files.proofs.Common.{each_pushed}
 use Rattle.proto_parts.proofs.Common.{past}
 use Rattle.proto_extensions.specs.Common.{extensions_before, told, told_by, workspace_flaws}

@@ -1,14 +1,13 @@
-use Rattle.std.proofs.Common.{◌≡◌, ℕ, List, Option, Some, None, refl, sym, ap, subst, ◌∙◌, unwrap_or}
+use Rattle.std.proofs.Common.{◌≡◌, ℕ, Option, Some, None, refl, sym, ap, subst, ◌∙◌, unwrap_or}
 use Rattle.proto_faults.proofs.Common.{none-some, same_Some}
 use Rattle.proto_tree.specs.References.{first_of}
 use Rattle.proto_tree.specs.declared.tree.Separated.{Separated}
-use Rattle.proto_files.specs.FilesRead.{AreRead, ReadOf}
 use Rattle.proto_meaning.specs.Grown.{at}
 use Rattle.proto_names.specs.Common.{meant_at}
 use Rattle.proto_parts.specs.Numbers.{past}
 use Rattle.proto_numbers.specs.RangeIndex.{IsRangeIndexOf}
 use Rattle.proto_extensions.specs.Common.{IsExtendee, extension_ranges_at}
-use Rattle.proto_extensions.proofs.Extendees.{MeantName, file_there, found_extendee, meant_none, meant_some, text_there, token_there}
+use Rattle.proto_extensions.proofs.Extendees.{file_there, found_extendee, meant_none, meant_some, text_there, token_there}
 use Rattle.proto_extensions.proofs.listed.extendee_of.Goals as goal
 
 first_is : (dot : Option ℕ) (words : Separated ℕ) → unwrap_or dot words.first ≡ first_of dot words

@@ -1,4 +1,4 @@
-use Rattle.std.proofs.Common.{◌≡◌, ℕ, ◌<◌, [], ◌∷◌, length, length-append, Some, sym, ap, subst, arith}
+use Rattle.std.proofs.Common.{◌<◌, [], ◌∷◌, length, length-append, Some, sym, ap, subst, arith}
 use Rattle.proto_tree.specs.File.{tree_of_file}
 use Rattle.proto_files.proofs.Common.{each_pushed, read_at}
 use Rattle.proto_parts.proofs.Common.{blocks_in, past}

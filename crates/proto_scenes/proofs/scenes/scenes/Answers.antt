@@ -1,7 +1,11 @@
 use Rattle.std.proofs.Common.{length, [], ◌∷◌, length-append, ap, arith}
 use Rattle.proto_files.proofs.FilesAreRead.{each_pushed}
 use Rattle.proto_scenes.specs.Scenes.{IsSceneOf}
+use Rattle.proto_scenes.proofs.MeantEnums.{all_meant}
 use Rattle.proto_scenes.proofs.scenes.scenes.Goals as goal
+
+pub scene-requires-clause-table : goal.scene-requires-clause-table
+scene-requires-clause-table c = all_meant c.args.files.now c.args.link.now c.loop-file.file c.args.table.now c.requires.table
 
 pub loop-file-preserved : goal.loop-file-preserved
 loop-file-preserved c = record {

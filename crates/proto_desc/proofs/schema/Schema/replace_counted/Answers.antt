@@ -1,4 +1,4 @@
-use Rattle.std.proofs.Common.{◌≡◌, ◌<◌, length, map, refl, ap, arith, inl, inr}
+use Rattle.std.proofs.Common.{length, map, refl, ap, arith, inl, inr}
 use Rattle.proto_entries.specs.Putting.{with_texts}
 use Rattle.proto_desc.specs.NewTexts.{read_text}
 use Rattle.proto_desc.specs.Whole.FileFaults.{of_link}
@@ -29,7 +29,7 @@ replace_with-replaced-requires-clause-made c =
     let files = c.self.inside.files in
     let is = put_files files files c.put_texts.new.files c.args.places.now ts (map read_text c.in_ok-read.read.items) refl c.in_ok-read.ensures.same c.in_ok-old.ensures.files in (
       files,
-      record { described = c.self.invariant.1.1; clean = c.self.invariant.0; reads = c.are_read.ensures.0; read = c.are_read.ensures.1 },
+      record { descriptors = c.self.invariant.1.1; clean = c.self.invariant.0; reads = c.are_read.ensures.0; read = c.are_read.ensures.1 },
       same_but files c.args.places.now ts c.put_texts.new.files is,
     )
 

@@ -1,0 +1,222 @@
+-- What is made anew of edited files, beside what was made of the files that the edit spares, is what is made of all files, and no file has a flaw.
+use Rattle.std.proofs.Common.{◌≡◌, ℕ, zero, suc, ◌+◌, ◌<◌, Bool, true, false, List, [], ◌∷◌, ◌++◌, length, get_or, map, Option, Some, None, option_map, slice_get, sym, refl, ap, ap₂, subst, ◌∙◌, inl, inr, arith, Contains, true≢false}
+use Rattle.proto_faults.proofs.Common.{cases_Bool, get_or-map, get_or_from_slice_get, length-map, slice_get-get_or}
+use Rattle.std.proofs.lemmas.Option.{slice_get-map}
+use Rattle.proto_files.proofs.Common.{AreRead, FileOf, HasNoFault, ReadOf, read_at}
+use Rattle.proto_numbers.specs.declared.flaw.Flaw.{Flaw}
+use Rattle.proto_imports.specs.Links.{LinkFaults}
+use Rattle.proto_relink.specs.Edited.{AreSameBut}
+use Rattle.proto_descriptors.proofs.Common.{FileDesc, file_desc}
+use Rattle.proto_descriptors.specs.declared.file.FileDescriptor.{FileDescriptor}
+use Rattle.proto_scenes.specs.LinkOfFiles.{IsLinkOf}
+use Rattle.proto_names.specs.Linking.{LinkOf}
+use Rattle.proto_extensions.proofs.NoExtensions.{no_flaw}
+use Rattle.proto_kept_checks.specs.Checked.{AreKeptOf, IsKeptStill, KeptFileOf, KeptFilesTellSpared, StaysKept, kept_file}
+use Rattle.proto_kept_checks.specs.Extended.{ExtendsAreSpared, HasNoExtend, SparedFilesStayFlawless}
+use Rattle.proto_kept_checks.specs.Spared.{AreSoundlyEdited, CleanEditsAreSound, SparedDescriptorsStay}
+use Rattle.proto_spared_files.specs.Common.{AreOthersKept, HasNoMarkedExtends, kept_file_of, kept_files_of, nothing_kept}
+use Rattle.proto_spared_files.specs.declared.kept_file.KeptFile.{KeptFile}
+use Rattle.proto_desc.specs.Checked.{AreDescribed}
+use Rattle.proto_desc.specs.Common.{CheckFaults, described_from, fault_of_flaw, flaws_of, of_flaw}
+use Rattle.proto_desc.specs.Edited.{AreCleanlyDescribed, AreDescriptorsOf, WereDescribed}
+use Rattle.proto_desc.specs.Renewing.{AreMade, ArePut, IsMade, IsMadeIfMarked, IsPut}
+use Rattle.proto_desc.specs.Views.{files_desc, files_kept}
+use Rattle.proto_desc.specs.Whole.FileFaults.{of_check, of_link}
+use Rattle.proto_desc.specs.declared.descriptors.Descriptors.{Descriptors}
+use Rattle.proto_desc.specs.declared.renewing.Made.{Made}
+use Rattle.proto_desc.proofs.CheckedFiles.{all_described, described_at, nothing_there}
+
+-- ---- the descriptors of files
+
+module _ (files : List FileOf) (reads : List ReadOf) where
+  described_there : (n : ℕ) (rs : List ReadOf) (k : ℕ) → k < length rs → slice_get (described_from files reads n rs) k ≡ Some (described_at files reads (n + k) (read_at rs k).tree)
+  described_there n [] k l = absurd (omega (arith, l))
+  described_there n (r ∷ rs) zero l = ap (λ m. Some (described_at files reads m r.tree)) {x = n} {y = n + 0} (omega arith)
+  described_there n (r ∷ rs) (suc k) l = described_there (suc n) rs k (omega (arith, l)) ∙ ap (λ m. Some (described_at files reads m (read_at rs k).tree)) {x = suc n + k} {y = n + suc k} (omega arith)
+
+  described_count : (n : ℕ) (rs : List ReadOf) → length (described_from files reads n rs) ≡ length rs
+  described_count n [] = refl
+  described_count n (r ∷ rs) = omega (arith, described_count (suc n) rs)
+
+  -- the descriptor of the file at a place
+  one_described : (ds : List FileDesc) → AreRead files reads → AreDescribed files ds → (k : ℕ) → k < length files → slice_get ds k ≡ Some (described_at files reads k (read_at reads k).tree)
+  one_described ds are is k l = ap (λ (xs : List FileDesc). slice_get xs k) (is reads are) ∙ described_there 0 reads k (omega (arith, l, are.same)) ∙ ap (λ m. Some (described_at files reads m (read_at reads k).tree)) {x = 0 + k} {y = k} (omega arith)
+
+  -- as many as files, and each that of its file
+  each_described : (ds : List FileDescriptor) → AreRead files reads → length ds ≡ length files → ((k : ℕ) → k < length files → slice_get (map file_desc ds) k ≡ Some (described_at files reads k (read_at reads k).tree)) → map file_desc ds ≡ described_from files reads 0 reads
+  each_described ds are len each =
+      all_described files reads ds (omega (arith, len, are.same))
+      (λ k d l. (
+      sym (get_or-map file_desc ds k d (file_desc d) l)
+      ∙ get_or_from_slice_get (map file_desc ds) k (described_at files reads k (read_at reads k).tree) (file_desc d) (each k (omega (arith, l, len)))))
+
+  as_many_described : (ds : List FileDescriptor) → AreRead files reads → AreDescribed files (map file_desc ds) → length ds ≡ length files
+  as_many_described ds are is = sym (length-map ds file_desc) ∙ ap length (is reads are) ∙ described_count 0 reads ∙ are.same
+
+as_many_kept : (files : List FileOf) (ks : List KeptFile) → AreKeptOf files (kept_files_of ks) → length ks ≡ length files
+as_many_kept files ks are = sym (length-map ks kept_file_of) ∙ are.len
+
+-- ---- files without a flaw
+
+clean_file : (files : List FileOf) → HasNoFault (CheckFaults files) → (reads : List ReadOf) → AreRead files reads → (file : ℕ) → file < length files → flaws_of files reads file ≡ []
+clean_file files clean reads are file within = nothing_there (flaws_of files reads file) (λ f c. clean (fault_of_flaw files reads file f) (of_flaw reads file f are within c))
+
+clean_files : (files : List FileOf) → ((reads : List ReadOf) → AreRead files reads → (file : ℕ) → file < length files → flaws_of files reads file ≡ []) → HasNoFault (CheckFaults files)
+clean_files files none y (of_flaw reads file f are within c) =
+    let there : Contains [] f = subst (λ (fs : List Flaw). Contains fs f) (none reads are file within) c in
+    omega (arith, there.1)
+
+-- ---- what was made
+
+made_of : (files : List FileOf) (b : Bool) (file : ℕ) (o : Option Made) → IsMadeIfMarked files b file o → b ≡ true → (m : Made) × (o ≡ Some m) × IsMade files file m
+made_of files true file None h e = absurd h
+made_of files true file (Some m) h e = (m, refl, h)
+made_of files false file o h e = absurd (true≢false (sym e))
+
+made_none : (files : List FileOf) (b : Bool) (file : ℕ) (o : Option Made) → IsMadeIfMarked files b file o → b ≡ false → o ≡ None
+made_none files true file o h e = absurd (true≢false e)
+made_none files false file None h e = refl
+made_none files false file (Some m) h e = absurd h
+
+-- ---- the edit
+
+as_many : (places : List ℕ) (before files : List FileOf) → AreSameBut places before files → length before ≡ length files
+as_many places before files same = sym (length-map before (λ (f : FileOf). f.path)) ∙ ap length same.paths ∙ length-map files (λ (f : FileOf). f.path)
+
+-- there are as many descriptors as files
+pub counts : (files : List FileOf) (places : List ℕ) (d : Descriptors) → WereDescribed files places d → (length d.file.items ≡ length files) × (length d.kept.items ≡ length files)
+counts files places d were =
+    let same = as_many places were.0 files were.2 in (
+      as_many_described were.0 were.1.reads d.file.items were.1.read were.1.descriptors.described ∙ same,
+      as_many_kept were.0 d.kept.items were.1.descriptors.kept ∙ same,
+    )
+
+-- marks of files that leave out none but what the edit spares, and none that has or had an `extend` block
+pub record AreMarks (places : List ℕ) (files : List FileOf) (l : LinkOf) (ks : List KeptFileOf) (marks : List Bool) : Type 0 where
+  pub link : IsLinkOf files l
+  pub others : AreOthersKept places files l ks marks
+  pub none : HasNoMarkedExtends files ks marks
+
+module _ (tells : KeptFilesTellSpared) (places : List ℕ) (before : List FileOf) (was : List ReadOf) (files : List FileOf) (reads : List ReadOf) (sound : AreSoundlyEdited places before was files reads) (clean : HasNoFault (LinkFaults before))
+    (l : LinkOf) (old : Descriptors) (kept : AreKeptOf before (files_kept old)) (marks : List Bool) (are : AreMarks places files l (files_kept old) marks) where
+  were : AreRead before was
+  were = sound.edited.were_read
+
+  was_within : (file : ℕ) → file < length files → file < length before
+  was_within file within = omega (arith, within, as_many places before files sound.edited.same)
+
+  kept_before : (file : ℕ) → file < length files → get_or (files_kept old) file nothing_kept ≡ kept_file before was file
+  kept_before file within = kept.each file nothing_kept (omega (arith, was_within file within, kept.len)) was were
+
+  stays : (file : ℕ) → file < length files → get_or marks file false ≡ false → StaysKept places before was files reads file
+  stays file within unmarked =
+      tells places before was files reads sound clean l are.link file
+      (subst (λ (k : KeptFileOf). IsKeptStill places files l k file) (kept_before file within) (are.others file within unmarked))
+
+  has_none : (file : ℕ) → file < length files → get_or marks file false ≡ true → HasNoExtend was reads file
+  has_none file within marked =
+      let none = are.none reads sound.edited.are_read file within marked in
+      (ap (λ (k : KeptFileOf). k.has_extend) (sym (kept_before file within)) ∙ none.0, none.1)
+
+  extends_are_spared : ExtendsAreSpared places before was files reads
+  extends_are_spared = record {
+    spared = λ file within. elim (cases_Bool (get_or marks file false)) [
+      | inl marked ↦ inr (has_none file within marked)
+      | inr unmarked ↦ inl (stays file within unmarked).spared
+    ];
+    elsewhere = λ file is. elim (cases_Bool (get_or marks file false)) [
+      | inl marked ↦ inl (has_none file is.within marked).1
+      | inr unmarked ↦ (stays file is.within unmarked).extendees
+    ];
+  }
+
+  module _ (all : List (Option Made)) (made : AreMade files marks all) where
+    -- what was made of a marked file
+    made_at : (file : ℕ) → file < length files → get_or marks file false ≡ true → (m : Made) × (get_or all file None ≡ Some m) × IsMade files file m
+    made_at file within marked = made_of files (get_or marks file false) file (get_or all file None) (made.each file None (omega (arith, within, made.len))) marked
+
+    flawless : SparedFilesStayFlawless → HasNoFault (CheckFaults before) → (file : ℕ) → file < length files → flaws_of files reads file ≡ []
+    flawless stay clean_before file within = elim (cases_Bool (get_or marks file false)) [
+      | inl marked ↦ ap₂ (λ (own others : List Flaw). own ++ others) ((made_at file within marked).2.flawless reads sound.edited.are_read) (no_flaw None files reads file (has_none file within marked).1)
+      | inr unmarked ↦ stay places before was files reads sound extends_are_spared file (stays file within unmarked).spared (clean_file before clean_before was were file (was_within file within))
+    ]
+
+    module _ (new : Descriptors) (put : ArePut all old new) where
+      put_at : (file : ℕ) → file < length files → (o : Option Made) → get_or all file None ≡ o → IsPut o file old new
+      put_at file within o e = subst (λ (x : Option Made). IsPut x file old new) e (put.each file None (omega (arith, within, made.len)))
+
+      put_none : (file : ℕ) → file < length files → get_or marks file false ≡ false → IsPut None file old new
+      put_none file within unmarked = put_at file within None (made_none files (get_or marks file false) file (get_or all file None) (made.each file None (omega (arith, within, made.len))) unmarked)
+
+      described_now : SparedDescriptorsStay → AreDescribed before (files_desc old) → (file : ℕ) → file < length files → slice_get (files_desc new) file ≡ Some (described_at files reads file (read_at reads file).tree)
+      described_now stay were_described file within = slice_get-map file_desc new.file.items file ∙ elim (cases_Bool (get_or marks file false)) [
+        | inl marked ↦ (let m = made_at file within marked in
+            ap (option_map file_desc) (put_at file within (Some m.0) m.1).0 ∙ ap (λ (d : FileDesc). Some d) (m.2.described reads sound.edited.are_read))
+        | inr unmarked ↦
+            ap (option_map file_desc) (put_none file within unmarked).0
+            ∙ sym (slice_get-map file_desc old.file.items file)
+            ∙ one_described before was (files_desc old) were were_described file (was_within file within)
+            ∙ ap (λ (d : FileDesc). Some d) (sym (stay places before was files reads sound file (stays file within unmarked).spared None))
+      ]
+
+      kept_now : (file : ℕ) → file < length files → slice_get (files_kept new) file ≡ Some (kept_file files reads file)
+      kept_now file within = slice_get-map kept_file_of new.kept.items file ∙ elim (cases_Bool (get_or marks file false)) [
+        | inl marked ↦ (let m = made_at file within marked in
+            ap (option_map kept_file_of) (put_at file within (Some m.0) m.1).1 ∙ ap (λ (k : KeptFileOf). Some k) (m.2.kept reads sound.edited.are_read))
+        | inr unmarked ↦
+            ap (option_map kept_file_of) (put_none file within unmarked).1
+            ∙ sym (slice_get-map kept_file_of old.kept.items file)
+            ∙ slice_get-get_or (files_kept old) file nothing_kept (omega (arith, was_within file within, kept.len))
+            ∙ ap (λ (k : KeptFileOf). Some k) (kept_before file within ∙ sym (stays file within unmarked).kept)
+      ]
+
+-- ---- all of it
+
+pub record AreLaws : Type 0 where
+  pub sound : CleanEditsAreSound
+  pub tells : KeptFilesTellSpared
+  pub described : SparedDescriptorsStay
+  pub flawless : SparedFilesStayFlawless
+
+module _ (laws : AreLaws) (places : List ℕ) (files : List FileOf) (clean : HasNoFault (LinkFaults files)) (old : Descriptors) (before : List FileOf) (cleanly : AreCleanlyDescribed before old) (same : AreSameBut places before files)
+    (l : LinkOf) (marks : List Bool) (are : AreMarks places files l (files_kept old) marks) (all : List (Option Made)) (made : AreMade files marks all) where
+  clean_link : HasNoFault (LinkFaults before)
+  clean_link y h = cleanly.clean y (of_link y h)
+
+  clean_checks : HasNoFault (CheckFaults before)
+  clean_checks y h = cleanly.clean y (of_check y h)
+
+  is_sound : (reads : List ReadOf) → AreRead files reads → AreSoundlyEdited places before cleanly.reads files reads
+  is_sound reads read = laws.sound places before cleanly.reads files reads (record { same = same; were_read = cleanly.read; are_read = read }) clean_link clean
+
+  renewed_clean : HasNoFault (CheckFaults files)
+  renewed_clean = clean_files files (λ reads read. flawless laws.tells places before cleanly.reads files reads (is_sound reads read) clean_link l old cleanly.descriptors.kept marks are all made laws.flawless clean_checks)
+
+  module _ (new : Descriptors) (put : ArePut all old new) where
+    count : length before ≡ length files
+    count = as_many places before files same
+
+    renewed_kept : AreKeptOf files (files_kept new)
+    renewed_kept =
+        let n : length (files_kept new) ≡ length files = length-map new.kept.items kept_file_of ∙ put.kept ∙ as_many_kept before old.kept.items cleanly.descriptors.kept ∙ count in
+        record {
+          len = n;
+          each = λ file k within reads read.
+              get_or_from_slice_get (files_kept new) file (kept_file files reads file) k
+              (kept_now laws.tells places before cleanly.reads files reads (is_sound reads read) clean_link l old cleanly.descriptors.kept marks are all made new put file (omega (arith, within, n)));
+        }
+
+    renewed_described : AreDescribed files (files_desc new)
+    renewed_described = λ reads read.
+        each_described files reads new.file.items read (put.files ∙ as_many_described before cleanly.reads old.file.items cleanly.read cleanly.descriptors.described ∙ count)
+        (described_now laws.tells places before cleanly.reads files reads (is_sound reads read) clean_link l old cleanly.descriptors.kept marks are all made new put laws.described cleanly.descriptors.described)
+
+-- what was made and put, beside what was spared, is what is made of the files, which have no flaw
+pub renewed : AreLaws → (places : List ℕ) (files : List FileOf) → HasNoFault (LinkFaults files) → (old new : Descriptors) → WereDescribed files places old → (l : LinkOf) (marks : List Bool) → AreMarks places files l (files_kept old) marks → (all : List (Option Made)) → AreMade files marks all → ArePut all old new → HasNoFault (CheckFaults files) × AreDescriptorsOf files new
+renewed laws places files clean old new were l marks are all made put = (
+  renewed_clean laws places files clean old were.0 were.1 were.2 l marks are all made,
+  record {
+    described = renewed_described laws places files clean old were.0 were.1 were.2 l marks are all made new put;
+    kept = renewed_kept laws places files clean old were.0 were.1 were.2 l marks are all made new put;
+  },
+)

@@ -1,0 +1,23 @@
+use Rattle.std.proofs.Common.{◌≡◌, length, ap, ◌∙◌, sym, rules}
+use Rattle.proto_faults.proofs.Common.{nil_from_length}
+use Rattle.proto_tree.specs.File.{tree_of_file}
+use Rattle.proto_described.specs.Described.{file_described}
+use Rattle.proto_desc.proofs.CheckedFiles.{described_of_file, none_of_file}
+use Rattle.proto_desc.proofs.renewing.check_again.Goals as goal
+
+pub returns : goal.returns
+returns c =
+    let files = c.args.files.now in
+    let file = c.args.file in
+    let scene = c.in_ok-scene.scene in
+    let tree = tree_of_file c.tree-tree.result.now in
+    let flaws = c.in_ok-flaws.flaws.items in
+    let count : length flaws ≡ 0 = search rules in
+    record {
+      flawless = λ reads are. none_of_file files file c.requires.file scene c.in_ok-scene.ensures tree c.tree-tree.ensures reads are (sym c.in_ok-flaws.ensures ∙ nil_from_length flaws count);
+      described = λ reads are.
+          (c.in_ok-descriptor.ensures
+          ∙ ap (λ p. file_described scene p tree) c.path.ensures
+          ∙ described_of_file files file c.requires.file scene c.in_ok-scene.ensures tree c.tree-tree.ensures reads are);
+      kept = c.in_ok-kept.ensures;
+    }

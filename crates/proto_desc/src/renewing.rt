@@ -1,0 +1,156 @@
+//! Descriptors of edited files, made anew as far as the edit does not spare them.
+
+ghost use Rattle.std.specs.Prelude.{◌≡◌, ℕ, ◌<◌, true, false, length, get_or, All, IfOk, IfSome, OnErr};
+ghost use Rattle.proto_desc.specs.Checked.{CheckFaults};
+ghost use Rattle.proto_desc.specs.Edited.{AreDescriptorsOf, WereDescribed};
+ghost use Rattle.proto_desc.specs.Renewing.{AreMade, ArePut, IsMade, IsPutAlone};
+ghost use Rattle.proto_files.specs.Faults.{HasNoFault};
+ghost use Rattle.proto_imports.specs.Links.{LinkFaults};
+ghost use Rattle.proto_scenes.specs.LinkOfFiles.{IsLinkOf};
+ghost use Rattle.proto_scenes.specs.Meanings.{HasEnumsMeant};
+
+use crate::described::file_descriptor;
+use crate::descriptors::Descriptors;
+use indexmap::IndexMap;
+use proto_checks::file_flaws;
+use proto_descriptors::FileDescriptor;
+use proto_faults::NoMemory;
+use proto_files::Files;
+use proto_kept_checks::laws::{
+    clean_edits_are_sound, kept_files_tell_spared, links_have_what_is_kept, spared_files_stay,
+};
+use proto_scenes::Link;
+use proto_scenes::enum_table::{EnumRow, enum_table_of};
+use proto_scenes::scenes::scene;
+use proto_spared_files::KeptFile;
+use proto_spared_files::marks::{files_of_enums, files_to_check, has_no_marked_extends};
+use std::alloc::Global;
+
+/// The descriptor of a file that was checked again, and what is kept of it.
+#[derive(Drop)]
+pub(crate) struct Made {
+    descriptor: FileDescriptor,
+    kept: KeptFile,
+}
+
+/// Checks a file again that has no `extend` block, and describes it; none where it has a flaw.
+/// Refused for want of memory alone.
+fn check_again(
+    alloc: Global,
+    files: &Files,
+    link: &Link,
+    table: &[IndexMap<u32, EnumRow>],
+    file: u32,
+) -> Result<Option<Made>, NoMemory>
+    requires file { file < length files.now }
+    requires link { IsLinkOf files.now link.now }
+    requires table { HasEnumsMeant files.now link.now file table.now }
+    ensures { IfOk result (λ made. IfSome made (IsMade files.now file)) }
+{
+    let scene = scene(alloc, files, link, table, file)?;
+    let tree = files.tree(file);
+    let flaws = file_flaws(alloc, &scene, tree)?;
+    if !flaws.is_empty() {
+        return Ok(None);
+    }
+    let descriptor = file_descriptor(alloc, &scene, files.path(file), tree)?;
+    let kept = KeptFile::new(alloc, files, link, file)?;
+    Ok(Some(Made { descriptor, kept }))
+}
+
+/// Checks the marked files again, which have no `extend` block, and describes them: for each file in
+/// the order of their paths what was made of it, or nothing where it is not marked. Answers none
+/// where one has a flaw. Refused for want of memory alone.
+fn check_marked(
+    alloc: Global,
+    files: &Files,
+    link: &Link,
+    table: &[IndexMap<u32, EnumRow>],
+    marks: &[bool],
+) -> Result<Option<Vec<Option<Made>>>, NoMemory>
+    requires link { IsLinkOf files.now link.now }
+    requires marks { length marks.now ≡ length files.now }
+    requires table { (file : ℕ) → file < length files.now → get_or marks.now file false ≡ true
+        → HasEnumsMeant files.now link.now file table.now }
+    ensures { IfOk result (λ all. IfSome all (λ made. AreMade files.now marks.now made.items)) }
+{
+    let mut all = Vec::with_capacity(alloc, files.len())?;
+    for file in 0..files.len() as u32 {
+        if marks[file as usize] {
+            let Some(made) = check_again(alloc, files, link, table, file)? else {
+                return Ok(None);
+            };
+            all.push(Some(made))?;
+        } else {
+            all.push(None)?;
+        }
+    }
+    Ok(Some(all))
+}
+
+impl Descriptors {
+    /// Puts what was made of a file, if something was, in place of what was there. Takes no memory.
+    fn put_one(&mut self, file: usize, made: Option<Made>)
+        requires file { file < length self.old.file.items }
+        requires kept { file < length self.old.kept.items }
+        ensures { IsPutAlone made file self.old self.new }
+    {
+        if let Some(Made { descriptor, kept }) = made {
+            self.file[file] = descriptor;
+            self.kept[file] = kept;
+        }
+    }
+
+    /// Puts what was made of files in place of what was there. Takes no memory.
+    fn put(&mut self, all: Vec<Option<Made>>)
+        requires file { length all.items ≡ length self.old.file.items }
+        requires kept { length all.items ≡ length self.old.kept.items }
+        ensures { ArePut all.items self.old self.new }
+    {
+        let mut file = 0;
+        for made in all {
+            self.put_one(file, made);
+            file += 1;
+        }
+    }
+
+    /// Makes these the descriptors of the files, which are those that they were of but at these
+    /// places, as far as the edit does not spare a file. Answers false where it gives up: where a
+    /// file that is not spared has a flaw, or has or had an `extend` block. Refused for want of
+    /// memory alone. Where it does not answer true, nothing is changed.
+    pub(crate) fn renew(
+        &mut self,
+        alloc: Global,
+        files: &Files,
+        link: &Link,
+        places: &[u32],
+    ) -> Result<bool, NoMemory>
+        requires places { All (λ place. place < length files.now) places.now }
+        requires link { IsLinkOf files.now link.now }
+        requires clean { HasNoFault (LinkFaults files.now) }
+        requires were { WereDescribed files.now places.now self.old }
+        ensures clean { IfOk result (λ done. done ≡ true → HasNoFault (CheckFaults files.now)) }
+        ensures descriptors { IfOk result (λ done. done ≡ true
+            → AreDescriptorsOf files.now self.new) }
+        ensures given_up { IfOk result (λ done. done ≡ false → self.new ≡ self.old) }
+        ensures kept { OnErr result (self.new ≡ self.old) }
+    {
+        // By these laws what is kept tells the files that the edit spares, of these all is as it
+        // was, and the table has what the other files mean.
+        clean_edits_are_sound();
+        kept_files_tell_spared();
+        spared_files_stay();
+        links_have_what_is_kept();
+        let marks = files_to_check(alloc, files, link, places, &self.kept)?;
+        if !has_no_marked_extends(files, &marks, &self.kept) {
+            return Ok(false);
+        }
+        let wanted = files_of_enums(alloc, files, link, &marks)?;
+        let table = enum_table_of(alloc, files, &wanted)?;
+        let Some(all) = check_marked(alloc, files, link, &table, &marks)? else {
+            return Ok(false);
+        };
+        self.put(all);
+        Ok(true)
+    }
+}

@@ -1,0 +1,7 @@
+mod Checked
+mod Declared
+mod Extensions
+mod Linked
+mod MessageBlocks
+mod Scenes
+mod Unedited

@@ -1,0 +1,8 @@
+use Rattle.proto_kept_checks.proofs.Linked.{links_have_what_is_kept, meant_messages_are_no_enums}
+use Rattle.proto_kept_checks.proofs.laws.links_have_what_is_kept.Goals as goal
+
+pub returns-clause-kept : goal.returns-clause-kept
+returns-clause-kept c = links_have_what_is_kept
+
+pub returns-clause-enums : goal.returns-clause-enums
+returns-clause-enums c = meant_messages_are_no_enums

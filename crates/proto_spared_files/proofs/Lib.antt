@@ -1,0 +1,3 @@
+mod MeantStill
+pub mod WantedEnums
+mod WantedMarks

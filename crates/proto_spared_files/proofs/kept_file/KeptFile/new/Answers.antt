@@ -1,0 +1,8 @@
+use Rattle.std.proofs.Common.{◌∙◌}
+use Rattle.proto_spared_files.proofs.kept_file.KeptFile.new.Goals as goal
+
+pub returns : goal.returns
+returns c = λ reads are.
+    (let means = c.in_ok-kept_names.ensures ∙ c.links_have_what_is_kept.ensures.kept c.args.files.now c.args.link.now c.requires.link reads are c.args.file c.requires.file in
+    let extends = c.has_extend_at.ensures reads are in
+    λ i. record { means = means i; has_extend = extends i })

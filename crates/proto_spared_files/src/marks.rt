@@ -1,0 +1,185 @@
+//! The files that an edit does not spare, and those whose enums they mean, as marks: one for each
+//! file.
+
+ghost use Rattle.std.specs.Prelude.{◌≡◌, ◌↔◌, ◌||◌, ℕ, ◌<◌, List, true, false, length, get_or, map, Some, IfOk, IfSome};
+ghost use Rattle.std.specs.List.{All};
+ghost use Rattle.proto_extensions.specs.Extends.{has_extend};
+ghost use Rattle.proto_files.specs.FilesRead.{AreRead, ReadOf, read_at};
+ghost use Rattle.proto_files.specs.GivenFiles.{FileOf};
+ghost use Rattle.proto_kept_checks.specs.Checked.{AreMeantStill, IsElsewhere, IsKeptStill, IsMeantStill};
+ghost use Rattle.proto_kept_references.specs.Marking.{ArePlacesMarked, IsMarked, MarksStay};
+ghost use Rattle.proto_names.specs.Linking.{name_text};
+ghost use Rattle.proto_spared_files.specs.Kept.{kept_file_of, kept_files_of, kept_name_of};
+ghost use Rattle.proto_spared_files.specs.Marks.{AreEnumsMarked, AreOthersKept, HasNoMarkedExtends, IsEnumMarked};
+
+use crate::kept_file::{KeptFile, KeptName, has_extend_at, is_message};
+use proto_faults::NoMemory;
+use proto_files::{Files, are_read};
+use proto_kept_references::marking::mark_places;
+use proto_meaning::marks::is_marked;
+use proto_names::{Link, Meant, SymbolId};
+use std::alloc::Global;
+
+/// Whether a name stands in no file that is marked as edited.
+fn is_elsewhere(link: &Link, edited: &[bool], name: SymbolId) -> bool
+    ensures { result ≡ true → (places : List ℕ) → ArePlacesMarked edited.now places
+        → IsElsewhere places link.now name.row }
+{
+    match link.file_of(name) {
+        Some(file) => !is_marked(edited, file),
+        None => true,
+    }
+}
+
+/// Whether a name has this text.
+fn has_text(link: &Link, name: SymbolId, text: &str) -> bool
+    ensures { result ≡ true → name_text link.now name.row ≡ Some text.now }
+{
+    link.name_of(name) == Some(text)
+}
+
+/// Whether a reference of a file means what is kept of it, which is to stand in a file that is not
+/// edited, or, where the file extends nothing, to be a message's and have been one.
+fn is_meant_still(
+    link: &Link,
+    edited: &[bool],
+    extends: bool,
+    kept: &KeptName,
+    meant: Meant,
+) -> bool
+    ensures { result ≡ true → (places : List ℕ) → ArePlacesMarked edited.now places
+        → IsMeantStill places link.now extends (kept_name_of kept.now) meant }
+{
+    let name = meant.symbol();
+    has_text(link, name, &kept.name)
+        && (is_elsewhere(link, edited, name)
+            || (!extends && kept.is_message && is_message(link.kind_of(name))))
+}
+
+/// Whether the references of a file mean what is kept of them.
+fn are_meant_still(link: &Link, edited: &[bool], kept: &KeptFile, meant: &[Meant]) -> bool
+    ensures { result ≡ true → (places : List ℕ) → ArePlacesMarked edited.now places
+        → AreMeantStill places link.now kept.now.has_extend (map kept_name_of kept.now.means.items)
+        meant.now }
+{
+    if kept.means.len() != meant.len() {
+        return false;
+    }
+    for k in 0..meant.len() {
+        if !is_meant_still(link, edited, kept.has_extend, &kept.means[k], meant[k]) {
+            return false;
+        }
+    }
+    true
+}
+
+/// Whether a file is not marked as edited, and its references mean what is kept of them.
+fn is_kept_still(link: &Link, edited: &[bool], kept: &KeptFile, file: u32) -> bool
+    ensures { result ≡ true → (places : List ℕ) → ArePlacesMarked edited.now places
+        → (files : List FileOf) → file < length files
+        → IsKeptStill places files link.now (kept_file_of kept.now) file }
+{
+    !is_marked(edited, file) && are_meant_still(link, edited, kept, link.meant_in(file))
+}
+
+/// Marks of the files that an edit of the files at these places does not spare: these, and each of
+/// which a reference, by the link now, does not mean what is kept of it, or means what stands in an
+/// edited file (a message may stand there, if the file has no `extend` block and it was one).
+/// Refused for want of memory alone.
+pub fn files_to_check(
+    alloc: Global,
+    files: &Files,
+    link: &Link,
+    places: &[u32],
+    kept: &[KeptFile],
+) -> Result<Vec<bool>, NoMemory>
+    requires places { All (λ place. place < length files.now) places.now }
+    requires paired { length kept.now ≡ length files.now }
+    ensures len { IfOk result (λ marks. length marks.items ≡ length files.now) }
+    ensures others { IfOk result (λ marks. AreOthersKept places.now files.now link.now
+        (kept_files_of kept.now) marks.items) }
+{
+    let mut edited = vec![in alloc; false; files.len()]?;
+    mark_places(&mut edited, places);
+    let mut marks = Vec::with_capacity(alloc, files.len())?;
+    for file in 0..files.len() as u32 {
+        let stays = is_kept_still(link, &edited, &kept[file as usize], file);
+        marks.push(!stays)?;
+    }
+    Ok(marks)
+}
+
+/// Whether a file has an `extend` block, or had one, by what is kept of it.
+fn has_or_had_extend(files: &Files, kept: &KeptFile, file: u32) -> bool
+    requires { file < length files.now }
+    ensures { (reads : List ReadOf) → AreRead files.now reads
+        → result ≡ (kept.now.has_extend || has_extend (read_at reads file).tree) }
+{
+    kept.has_extend || has_extend_at(files, file)
+}
+
+/// Whether no marked file has an `extend` block, and none had one, by what is kept of them. Takes
+/// no memory.
+pub fn has_no_marked_extends(files: &Files, marks: &[bool], kept: &[KeptFile]) -> bool
+    requires paired { length kept.now ≡ length files.now }
+    ensures { (result ≡ true) ↔ HasNoMarkedExtends files.now (kept_files_of kept.now) marks.now }
+{
+    are_read(files);
+    for file in 0..files.len() as u32 {
+        if is_marked(marks, file) && has_or_had_extend(files, &kept[file as usize], file) {
+            return false;
+        }
+    }
+    true
+}
+
+/// Marks a file, if there is one.
+fn mark_file(wanted: &mut Vec<bool>, file: Option<u32>)
+    ensures stay { MarksStay wanted.old.items wanted.new.items }
+    ensures marked { IfSome file (λ f. f < length wanted.old.items → IsMarked wanted.new.items f) }
+{
+    let Some(file) = file else { return };
+    if let Some(mark) = wanted.get_mut(file as usize) {
+        *mark = true;
+    }
+}
+
+/// Marks the file that declares what a reference means, unless that is a message's.
+fn mark_enum(wanted: &mut Vec<bool>, link: &Link, meant: Meant)
+    ensures stay { MarksStay wanted.old.items wanted.new.items }
+    ensures marked { IsEnumMarked link.now wanted.new.items meant }
+{
+    let name = meant.symbol();
+    if !is_message(link.kind_of(name)) {
+        mark_file(wanted, link.file_of(name));
+    }
+}
+
+/// Marks the files that declare what these references mean, messages left out.
+fn mark_enums(wanted: &mut Vec<bool>, link: &Link, meant: &[Meant])
+    ensures stay { MarksStay wanted.old.items wanted.new.items }
+    ensures marked { All (IsEnumMarked link.now wanted.new.items) meant.now }
+{
+    for one in meant {
+        mark_enum(wanted, link, *one);
+    }
+}
+
+/// Marks of the files whose enums references of marked files mean. Refused for want of memory
+/// alone.
+pub fn files_of_enums(
+    alloc: Global,
+    files: &Files,
+    link: &Link,
+    marks: &[bool],
+) -> Result<Vec<bool>, NoMemory>
+    ensures { IfOk result (λ wanted. AreEnumsMarked files.now link.now marks.now wanted.items) }
+{
+    let mut wanted = vec![in alloc; false; files.len()]?;
+    for file in 0..files.len() as u32 {
+        if is_marked(marks, file) {
+            mark_enums(&mut wanted, link, link.meant_in(file));
+        }
+    }
+    Ok(wanted)
+}
