@@ -1,3 +1,4 @@
 mod FewPlaces
+mod NoFaults
+mod OneFile
 mod PlainWords
-mod TwoFiles

@@ -14,6 +14,8 @@ mod descriptors;
 #[cfg(test)]
 mod extensions;
 #[cfg(test)]
+mod growths;
+#[cfg(test)]
 mod inputs;
 #[cfg(test)]
 mod names;

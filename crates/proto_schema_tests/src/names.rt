@@ -1,6 +1,6 @@
 //! The link of files.
 
-mod calls;
+pub(crate) mod calls;
 mod clashes;
 mod extensions;
 mod faults;

@@ -136,6 +136,40 @@ const TEXTS: &[Row] = &[
         &[0],
         "{\"file\":[{\"messageType\":[{\"field\":[{\"jsonName\":\"m\",\"label\":\"LABEL_OPTIONAL\",\"name\":\"m\",\"number\":1,\"type\":\"TYPE_INT32\"}],\"name\":\"A\"}],\"name\":\"a.proto\",\"syntax\":\"proto3\"},{\"messageType\":[{\"field\":[{\"jsonName\":\"s\",\"label\":\"LABEL_OPTIONAL\",\"name\":\"s\",\"number\":1,\"type\":\"TYPE_STRING\"}],\"name\":\"M\"}],\"name\":\"b.proto\",\"syntax\":\"proto3\"},{\"enumType\":[{\"name\":\"E\",\"value\":[{\"name\":\"Z\",\"number\":0}]}],\"name\":\"c.proto\",\"syntax\":\"proto3\"}]}",
     ),
+    // An enum has another value, and a file that has a field of it is as it was.
+    (
+        "a.proto import \"b.proto\"; message A { optional E e = 1; }|b.proto enum E { X = 0; }",
+        "a.proto import \"b.proto\"; message A { optional E e = 1; }|b.proto enum E { Y = 0; }",
+        &[1],
+        "{\"file\":[{\"dependency\":[\"b.proto\"],\"messageType\":[{\"field\":[{\"jsonName\":\"e\",\"label\":\"LABEL_OPTIONAL\",\"name\":\"e\",\"number\":1,\"type\":\"TYPE_ENUM\",\"typeName\":\".E\"}],\"name\":\"A\"}],\"name\":\"a.proto\"},{\"enumType\":[{\"name\":\"E\",\"value\":[{\"name\":\"Y\",\"number\":0}]}],\"name\":\"b.proto\"}]}",
+    ),
+    // An enum is a message now, so a field of another file has another type; and the other way round.
+    (
+        "a.proto import \"b.proto\"; message A { optional E e = 1; }|b.proto enum E { X = 0; }",
+        "a.proto import \"b.proto\"; message A { optional E e = 1; }|b.proto message E {}",
+        &[1],
+        "{\"file\":[{\"dependency\":[\"b.proto\"],\"messageType\":[{\"field\":[{\"jsonName\":\"e\",\"label\":\"LABEL_OPTIONAL\",\"name\":\"e\",\"number\":1,\"type\":\"TYPE_MESSAGE\",\"typeName\":\".E\"}],\"name\":\"A\"}],\"name\":\"a.proto\"},{\"messageType\":[{\"name\":\"E\"}],\"name\":\"b.proto\"}]}",
+    ),
+    (
+        "a.proto import \"b.proto\"; message A { optional E e = 1; }|b.proto message E {}",
+        "a.proto import \"b.proto\"; message A { optional E e = 1; }|b.proto enum E { X = 0; }",
+        &[1],
+        "{\"file\":[{\"dependency\":[\"b.proto\"],\"messageType\":[{\"field\":[{\"jsonName\":\"e\",\"label\":\"LABEL_OPTIONAL\",\"name\":\"e\",\"number\":1,\"type\":\"TYPE_ENUM\",\"typeName\":\".E\"}],\"name\":\"A\"}],\"name\":\"a.proto\"},{\"enumType\":[{\"name\":\"E\",\"value\":[{\"name\":\"X\",\"number\":0}]}],\"name\":\"b.proto\"}]}",
+    ),
+    // A message stands in another file, which the first sees too.
+    (
+        "a.proto import \"b.proto\"; message A { optional E e = 1; }|b.proto import public \"c.proto\"; message E {}|c.proto ",
+        "a.proto import \"b.proto\"; message A { optional E e = 1; }|b.proto import public \"c.proto\";|c.proto message E {}",
+        &[1, 2],
+        "{\"file\":[{\"dependency\":[\"b.proto\"],\"messageType\":[{\"field\":[{\"jsonName\":\"e\",\"label\":\"LABEL_OPTIONAL\",\"name\":\"e\",\"number\":1,\"type\":\"TYPE_MESSAGE\",\"typeName\":\".E\"}],\"name\":\"A\"}],\"name\":\"a.proto\"},{\"dependency\":[\"c.proto\"],\"name\":\"b.proto\",\"publicDependency\":[0]},{\"messageType\":[{\"name\":\"E\"}],\"name\":\"c.proto\"}]}",
+    ),
+    // A nearer name has come, which a reference of a file as it was means now.
+    (
+        "a.proto package p; import \"b.proto\"; import \"c.proto\"; message A { optional M m = 1; }|b.proto message M {}|c.proto package p;",
+        "a.proto package p; import \"b.proto\"; import \"c.proto\"; message A { optional M m = 1; }|b.proto message M {}|c.proto package p; message M {}",
+        &[2],
+        "{\"file\":[{\"dependency\":[\"b.proto\",\"c.proto\"],\"messageType\":[{\"field\":[{\"jsonName\":\"m\",\"label\":\"LABEL_OPTIONAL\",\"name\":\"m\",\"number\":1,\"type\":\"TYPE_MESSAGE\",\"typeName\":\".p.M\"}],\"name\":\"A\"}],\"name\":\"a.proto\",\"package\":\"p\"},{\"messageType\":[{\"name\":\"M\"}],\"name\":\"b.proto\"},{\"messageType\":[{\"name\":\"M\"}],\"name\":\"c.proto\",\"package\":\"p\"}]}",
+    ),
 ];
 
 #[test]
@@ -228,6 +262,34 @@ const FAULTS: &[Row] = &[
         "a.proto import \"b.proto\"; extend M { optional int32 x = 100; }|b.proto message M { extensions 100 to 199; }|c.proto import \"b.proto\"; extend M { optional int32 y = 100; }",
         &[0],
         "c.proto:48: 37 DuplicateExtension",
+    ),
+    // A value that a default of another file names.
+    (
+        "a.proto import \"b.proto\"; message A { optional E e = 1 [default = X]; }|b.proto enum E { X = 0; }",
+        "a.proto import \"b.proto\"; message A { optional E e = 1 [default = X]; }|b.proto enum E { Y = 0; }",
+        &[1],
+        "a.proto:48: 28 BadDefault",
+    ),
+    // An enum of another version, in a file that is as it was.
+    (
+        "a.proto syntax = \"proto3\"; import \"b.proto\"; message A { E e = 1; }|b.proto syntax = \"proto3\"; enum E { Z = 0; }",
+        "a.proto syntax = \"proto3\"; import \"b.proto\"; message A { E e = 1; }|b.proto enum E { Z = 0; }",
+        &[1],
+        "a.proto:49: 24 ClosedEnum",
+    ),
+    // The first value of an enum that a map of another file has.
+    (
+        "a.proto import \"b.proto\"; message A { map<string, E> m = 1; }|b.proto enum E { X = 0; }",
+        "a.proto import \"b.proto\"; message A { map<string, E> m = 1; }|b.proto enum E { X = 1; }",
+        &[1],
+        "a.proto:42: 23 FirstNotZero",
+    ),
+    // A message that is an enum now, where a method of another file takes it.
+    (
+        "a.proto import \"b.proto\"; service S { rpc R (M) returns (M); }|b.proto message M {}",
+        "a.proto import \"b.proto\"; service S { rpc R (M) returns (M); }|b.proto enum M { Z = 0; }",
+        &[1],
+        "a.proto:37: 15 WrongKind",
     ),
 ];
 

@@ -1,0 +1,121 @@
+//! How often a link and descriptors ask for memory where one of 256 files is edited. In a run that refuses one allocation a
+//! test here fails exactly where the call that follows the edit is what meets the refusal: `tools/refuse_allocations --fewer`
+//! counts these runs. In a run that refuses none it passes.
+
+ghost use Rattle.std.specs.Prelude.{◌≡◌, ◌≢◌, ◌<◌, ℕ, length, IfOk};
+ghost use Rattle.proto_files.specs.GivenFiles.{file_at, paths_of};
+ghost use Rattle.proto_tree.specs.File.{tree_of_file};
+ghost use Rattle.proto_tree.specs.Reads.{Reads};
+
+use crate::calls::{Given, add};
+use crate::names::calls::read;
+use proto_desc::{Descriptors, check};
+use proto_faults::{NoMemory, SchemaFault};
+use proto_files::Files;
+use proto_names::Link;
+use proto_text::{Source, Token, lex};
+use proto_tree::{File, parse};
+use std::alloc::Global;
+use std::process::Abort;
+
+// Files of one message each, with a name of its own, and no import.
+fn given(alloc: Global) -> Result<Given, NoMemory> {
+    let mut files = Vec::new(alloc);
+    for k in 0..256 {
+        let path = format!(in alloc; "f{k:03}.proto")?;
+        let text = format!(in alloc; "message M{k} {{}}")?;
+        add(alloc, &mut files, path.as_str(), text.as_bytes())?;
+    }
+    Ok(files)
+}
+
+fn many_files<R: AllocGlobal>(rt: &R) -> Result<Files, SchemaFault> {
+    read(rt, given(rt.alloc())?)
+}
+
+// The text that one of them gets, in which its message has another name.
+fn other_text(alloc: Global) -> Result<(Source, Vec<Token>, File), NoMemory>
+    ensures { IfOk result (λ r. Reads r.0 r.1.items (tree_of_file r.2)) }
+{
+    let bytes = Vec::from_slice(alloc, b"message Other {}")?;
+    let Ok(source) = Source::new(bytes) else {
+        return Err(NoMemory);
+    };
+    let Ok(tokens) = lex(alloc, &source) else {
+        return Err(NoMemory);
+    };
+    match parse(alloc, &source, &tokens) {
+        Ok(tree) => Ok((source, tokens, tree)),
+        Err(_fault) => Err(NoMemory),
+    }
+}
+
+// Gives the file at place 128 this text. Takes no memory.
+fn edit(files: &mut Files, source: Source, tokens: Vec<Token>, tree: File)
+    requires place { 128 < length files.old }
+    requires read { Reads source tokens.items (tree_of_file tree) }
+    ensures len { length files.new ≡ length files.old }
+    ensures paths { paths_of files.old ≡ paths_of files.new }
+    ensures others { (file : ℕ) → file ≢ 128 → file_at files.old file ≡ file_at files.new file }
+{
+    let (_source, _tokens, old) = files.set(128, source, tokens, tree);
+    old.release();
+}
+
+// Ends the test where the call wanted memory, or found a fault.
+fn expect_memory<R: Abort>(rt: &R, answer: &Result<(), SchemaFault>) {
+    let wants_memory = matches!(answer, Err(SchemaFault::NoMemory));
+    assert!(rt; !wants_memory, "the call wants memory");
+    assert!(rt; answer.is_ok(), "a fault");
+}
+
+fn expect_link<R: AllocGlobal + Abort>(rt: &R, files: &mut Files) -> Result<(), SchemaFault> {
+    if files.len() != 256 {
+        assert!(rt; false, "another number of files");
+        return Ok(());
+    }
+    let mut link = Link::new(rt.alloc(), files)?;
+    let (source, tokens, tree) = other_text(rt.alloc())?;
+    edit(files, source, tokens, tree);
+    let answer = link.replace(rt.alloc(), files, &[128]);
+    link.release();
+    expect_memory(rt, &answer);
+    Ok(())
+}
+
+#[test]
+fn a_link_follows_an_edited_file(rt: HostRuntime) {
+    let Ok(mut files) = many_files(&rt) else {
+        return
+    };
+    let _answer = expect_link(&rt, &mut files);
+    files.release();
+}
+
+fn expect_descriptors<R: AllocGlobal + Abort>(
+    rt: &R,
+    files: &mut Files,
+) -> Result<(), SchemaFault> {
+    if files.len() != 256 {
+        assert!(rt; false, "another number of files");
+        return Ok(());
+    }
+    let mut link = Link::new(rt.alloc(), files)?;
+    let mut descriptors = check(rt.alloc(), files, &link)?;
+    let (source, tokens, tree) = other_text(rt.alloc())?;
+    edit(files, source, tokens, tree);
+    link.replace(rt.alloc(), files, &[128])?;
+    let answer = descriptors.replace(rt.alloc(), files, &link, &[128]);
+    link.release();
+    expect_memory(rt, &answer);
+    Ok(())
+}
+
+#[test]
+fn descriptors_follow_an_edited_file(rt: HostRuntime) {
+    let Ok(mut files) = many_files(&rt) else {
+        return
+    };
+    let _answer = expect_descriptors(&rt, &mut files);
+    files.release();
+}
