@@ -7,7 +7,7 @@ use Rattle.proto_files.proofs.Common.{FileOf, file_at, paths_of, ReadOf, read_at
 use Rattle.proto_listing.proofs.Common.{Wanted, imports_in}
 use Rattle.proto_meaning.specs.Faults as all
 use Rattle.proto_imports.specs.ImportSteps as one
-use Rattle.proto_meaning.proofs.Common.{At, at, Import, Leads, Fault, AskedImport, AfterEarlier, ImportFault, file_with_path, import_from_asked, imports_of}
+use Rattle.proto_meaning.proofs.Common.{At, at, Import, IsAcyclic, Leads, Fault, AskedImport, AfterEarlier, ImportFault, file_with_path, import_from_asked, imports_of}
 use Rattle.proto_imports.specs.ImportSteps.{PathFault}
 use Rattle.proto_imports.specs.Laws.{wanted_by, KeepImports, HasSoundImports, KeptImportsAreEqual, KeptImportsAreSound}
 use Rattle.proto_imports.specs.Links.{text_of, asked_as, all_wanted}
@@ -17,7 +17,7 @@ use Rattle.proto_imports.proofs.ImportGraph.{import_contained}
 -- ---- file by file
 
 module _ (text : At → List ℕ) where
-  abbrev Own : ℕ → ReadOf → List AskedImport
+  abbrev pub Own : ℕ → ReadOf → List AskedImport
   Own file r = map (asked_as text file) (imports_in r.tree)
 
   own_file : (file : ℕ) (r : ReadOf) (a : AskedImport) → Contains (Own file r) a → a.place.file ≡ file
@@ -75,7 +75,7 @@ module _ (text : At → List ℕ) where
       after_right (SameFile (λ x y. x.path ≡ y.path)) (Own n r) (all_wanted text (suc n) rs) a (twice_of (suc n) k rs a (omega (arith, l)) (subst (λ m. Twice (Own m (read_at rs k)) a) z c))
 
   -- a path fault of a file is an import fault of the files
-  path_fault_of : (paths : List (List ℕ)) (k : ℕ) (rs : List ReadOf) {f : Fault} → k < length rs → PathFault paths (Own k (read_at rs k)) f → ImportFault paths (all_wanted text 0 rs) f
+  pub path_fault_of : (paths : List (List ℕ)) (k : ℕ) (rs : List ReadOf) {f : Fault} → k < length rs → PathFault paths (Own k (read_at rs k)) f → ImportFault paths (all_wanted text 0 rs) f
   path_fault_of paths k rs l (one.unknown a c n) =
       let z : k ≡ 0 + k = omega arith in
       all.unknown a (wanted_of 0 k rs a l (subst (λ m. Contains (Own m (read_at rs k)) a) z c)) n
@@ -124,6 +124,28 @@ named_by paths a i h = go (file_with_path paths a.path) refl
         let s : j ≡ i = same_Some j i (sym (ap (option_map (λ t. let j : Import = record { from = a.place.file; to = t; is_public = a.is_public } in j)) e) ∙ h) in
         (e ∙ ap (λ (x : Import). Some x.to) s, ap (λ (x : Import). x.from) s)
 
+-- ---- no faulty import
+
+-- imports of which none is faulty in its file and none leads back to it have no fault
+module _ (files : List FileOf) (reads : List ReadOf) (are : AreRead files reads) (each : (file : ℕ) → file < length files → (f : Fault) → PathFault (paths_of files) (wanted_by files reads file) f → ⊥)
+    (acyclic : IsAcyclic (imports_of (paths_of files) (all_wanted (text_of files reads) 0 reads))) where
+  none_faulty : {f : Fault} → ImportFault (paths_of files) (all_wanted (text_of files reads) 0 reads) f → ⊥
+  none_faulty (all.unknown a c n) =
+      let w = wanted_in (text_of files reads) 0 reads a c in
+      let z : 0 + w.0 ≡ w.0 = omega arith in
+      each w.0 (omega (arith, w.1, are.same)) (all.fault a.place 10) (one.unknown a (subst (λ m. Contains (Own (text_of files reads) m (read_at reads w.0)) a) z w.3) n)
+  none_faulty (all.double a c) =
+      let w = twice_in (text_of files reads) 0 reads a c in
+      let z : 0 + w.0 ≡ w.0 = omega arith in
+      each w.0 (omega (arith, w.1, are.same)) (all.fault a.place 11) (one.double a (subst (λ m. Twice (text_of files reads) (Own (text_of files reads) m (read_at reads w.0)) a) z w.3))
+  none_faulty (all.cycle a to c n leads) =
+      let asked = all_wanted (text_of files reads) 0 reads in
+      let i = import_contained (paths_of files) asked a to c n in
+      acyclic i.0 i.1 (subst (λ g. Leads (imports_of (paths_of files) asked) g i.0.from) (sym i.3) (subst (λ g. Leads (imports_of (paths_of files) asked) to g) (sym i.2) leads))
+
+  pub sound_by_file : HasSoundImports files reads
+  sound_by_file f h = none_faulty h
+
 -- ---- kept imports
 
 -- a file that is the same in both is read alike
@@ -135,19 +157,26 @@ read_alike before files had reads x y k l m same =
 abbrev own_of : FileOf → ReadOf → ℕ → List AskedImport
 own_of f r file = map (λ (w : Wanted). let a : AskedImport = record { place = at file w.path; path = or_nothing (value_of (words f.bytes r.tokens w.path)); is_public = w.is_public } in a) (imports_in r.tree)
 
-module _ (before : List FileOf) (had : List ReadOf) (files : List FileOf) (reads : List ReadOf) (kept : KeepImports before had files reads) where
-  many : length before ≡ length files
-  many = sym (length-map before (λ f. f.path)) ∙ ap length kept.paths ∙ length-map files (λ f. f.path)
+module _ (before : List FileOf) (had : List ReadOf) (files : List FileOf) (reads : List ReadOf) (were_read : AreRead before had) (are_read : AreRead files reads) (paths : paths_of before ≡ paths_of files) where
+  pub as_many : length before ≡ length files
+  as_many = sym (length-map before (λ f. f.path)) ∙ ap length paths ∙ length-map files (λ f. f.path)
 
   -- a file that is as it was asks for what it did
-  asks_as_before : (file : ℕ) → file < length files → file_at before file ≡ file_at files file → wanted_by before had file ≡ wanted_by files reads file
+  pub asks_as_before : (file : ℕ) → file < length files → file_at before file ≡ file_at files file → wanted_by before had file ≡ wanted_by files reads file
   asks_as_before file l same =
-      let read = read_alike before files had reads kept.were_read kept.are_read file (omega (arith, l, many)) l same in
+      let read = read_alike before files had reads were_read are_read file (omega (arith, l, as_many)) l same in
       ap (λ (f : FileOf). own_of f (read_at had file) file) same ∙ ap (λ (r : ReadOf). own_of (file_at files file) r file) read
+
+module _ (before : List FileOf) (had : List ReadOf) (files : List FileOf) (reads : List ReadOf) (kept : KeepImports before had files reads) where
+  many : length before ≡ length files
+  many = as_many before had files reads kept.were_read kept.are_read kept.paths
+
+  asks_so : (file : ℕ) → file < length files → file_at before file ≡ file_at files file → wanted_by before had file ≡ wanted_by files reads file
+  asks_so = asks_as_before before had files reads kept.were_read kept.are_read kept.paths
 
   imports_stay : (file : ℕ) → file < length files → imports_of (paths_of before) (wanted_by before had file) ≡ imports_of (paths_of files) (wanted_by files reads file)
   imports_stay file l = elim (kept.each file l) [
-    | inl same ↦ ap (λ ps. imports_of ps (wanted_by before had file)) kept.paths ∙ ap (imports_of (paths_of files)) (asks_as_before file l same)
+    | inl same ↦ ap (λ ps. imports_of ps (wanted_by before had file)) kept.paths ∙ ap (imports_of (paths_of files)) (asks_so file l same)
     | inr h ↦ h.same
   ]
 
@@ -166,31 +195,22 @@ module _ (before : List FileOf) (had : List ReadOf) (files : List FileOf) (reads
       | inl same ↦
           sound f
           (path_fault_of (text_of before had) (paths_of before) file had (omega (arith, l, many, kept.were_read.same))
-          (subst (λ ps. PathFault ps (wanted_by before had file) f) (sym kept.paths) (subst (λ asked. PathFault (paths_of files) asked f) (sym (asks_as_before file l same)) p)))
+          (subst (λ ps. PathFault ps (wanted_by before had file) f) (sym kept.paths) (subst (λ asked. PathFault (paths_of files) asked f) (sym (asks_so file l same)) p)))
       | inr h ↦ h.clean f p
     ]
 
-    still_sound : {f : Fault} → ImportFault (paths_of files) (all_wanted (text_of files reads) 0 reads) f → ⊥
-    still_sound (all.unknown a c n) =
-        let w = wanted_in (text_of files reads) 0 reads a c in
-        let z : 0 + w.0 ≡ w.0 = omega arith in
-        no_path_fault w.0 (omega (arith, w.1, kept.are_read.same)) (all.fault a.place 10) (one.unknown a (subst (λ m. Contains (Own (text_of files reads) m (read_at reads w.0)) a) z w.3) n)
-    still_sound (all.double a c) =
-        let w = twice_in (text_of files reads) 0 reads a c in
-        let z : 0 + w.0 ≡ w.0 = omega arith in
-        no_path_fault w.0 (omega (arith, w.1, kept.are_read.same)) (all.fault a.place 11) (one.double a (subst (λ m. Twice (text_of files reads) (Own (text_of files reads) m (read_at reads w.0)) a) z w.3))
-    still_sound (all.cycle a to c n leads) =
-        let i = import_contained (paths_of files) (all_wanted (text_of files reads) 0 reads) a to c n in
-        let w = filtered_from (import_from_asked (paths_of before)) (all_wanted (text_of before had) 0 had) i.0 (subst (λ is. Contains is i.0) (sym all_stay) i.1) in
-        let named = named_by (paths_of before) w.0 i.0 w.2 in
-        let back : Leads (imports_of (paths_of before) (all_wanted (text_of before had) 0 had)) i.0.to w.0.place.file =
-        subst (λ is. Leads is i.0.to w.0.place.file) (sym all_stay)
-        (subst (λ g. Leads (imports_of (paths_of files) (all_wanted (text_of files reads) 0 reads)) g w.0.place.file) (sym i.3)
-        (subst (λ g. Leads (imports_of (paths_of files) (all_wanted (text_of files reads) 0 reads)) to g) (sym (named.1 ∙ i.2)) leads)) in
-        sound (all.fault w.0.place 12) (all.cycle w.0 i.0.to w.1 named.0 back)
+    -- no import leads back
+    none_leads_back : IsAcyclic (imports_of (paths_of files) (all_wanted (text_of files reads) 0 reads))
+    none_leads_back i c leads =
+        let w = filtered_from (import_from_asked (paths_of before)) (all_wanted (text_of before had) 0 had) i (subst (λ is. Contains is i) (sym all_stay) c) in
+        let named = named_by (paths_of before) w.0 i w.2 in
+        let back : Leads (imports_of (paths_of before) (all_wanted (text_of before had) 0 had)) i.to w.0.place.file =
+        subst (λ is. Leads is i.to w.0.place.file) (sym all_stay)
+        (subst (λ g. Leads (imports_of (paths_of files) (all_wanted (text_of files reads) 0 reads)) i.to g) (sym named.1) leads) in
+        sound (all.fault w.0.place 12) (all.cycle w.0 i.to w.1 named.0 back)
 
 pub kept_imports_are_equal : KeptImportsAreEqual
 kept_imports_are_equal before had files reads kept = all_stay before had files reads kept
 
 pub kept_imports_are_sound : KeptImportsAreSound
-kept_imports_are_sound before had files reads kept sound f h = still_sound before had files reads kept sound h
+kept_imports_are_sound before had files reads kept sound = sound_by_file files reads kept.are_read (no_path_fault before had files reads kept sound) (none_leads_back before had files reads kept sound)

@@ -9,6 +9,7 @@ mod ImportFaults
 pub mod ImportGraph
 pub mod KeptImports
 pub mod LeastLinkFault
+mod ListedImports
 mod PathFaults
 pub mod PlainNames
 mod Ranks

@@ -4,11 +4,11 @@ use Rattle.proto_faults.proofs.Common.{Contains-append_cases, cond-false, cond-t
 use Rattle.std.specs.List.{filter_map}
 use Rattle.proto_files.proofs.Common.{AreRead, FileOf, ReadOf, paths_of, read_at}
 use Rattle.proto_imports.proofs.Common.{all_imports, all_wanted, asked_as, import_from, text_of}
-use Rattle.proto_imports.specs.Laws.{KeepImports, wanted_by}
+use Rattle.proto_imports.specs.Laws.{AreImportsOf, KeepImports, wanted_by}
 use Rattle.proto_imports.specs.declared.import.FileImport.{FileImport}
 use Rattle.proto_listing.proofs.Common.{imports_in}
 use Rattle.proto_meaning.proofs.Common.{AskedImport, At, Import, file_with_path, import_from_asked, imports_of}
-use Rattle.proto_kept_names.specs.KeptImports.{AreImportsOf, WereImports}
+use Rattle.proto_kept_names.specs.KeptImports.{WereImports}
 use Rattle.proto_kept_names.proofs.Places.{contains_or_not}
 
 -- ---- lists that stand one behind the other

@@ -1,4 +1,5 @@
 mod Again
+pub mod EditedImports
 mod FileLists
 mod FilesDeclare
 mod ImportsByFile

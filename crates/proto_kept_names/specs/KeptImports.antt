@@ -1,21 +1,26 @@
--- The imports of a file that are told, and those that files had before some were edited.
-use Rattle.std.specs.Prelude.{◌≡◌, ℕ, ◌<◌, List, [], length, get_or, map}
+-- The imports of files that are told, and those that files had before some were edited.
+use Rattle.std.specs.Prelude.{◌≡◌, ℕ, ◌<◌, List, [], length, get_or}
 use Rattle.proto_files.specs.FilesRead.{AreRead, ReadOf}
-use Rattle.proto_files.specs.GivenFiles.{FileOf, paths_of}
-use Rattle.proto_imports.specs.Importing.{all_imports, import_from}
-use Rattle.proto_imports.specs.ImportSteps.{PathFault}
-use Rattle.proto_imports.specs.Laws.{wanted_by}
+use Rattle.proto_files.specs.GivenFiles.{FileOf}
+use Rattle.proto_imports.specs.Importing.{all_imports}
+use Rattle.proto_imports.specs.Laws.{AreImportsOf}
 use Rattle.proto_imports.specs.Links.{link_imports}
 use Rattle.proto_imports.specs.declared.import.FileImport.{FileImport}
-use Rattle.proto_meaning.specs.Faults.{Fault, imports_of}
 use Rattle.proto_relink.specs.Edited.{AreSameBut}
 
--- the imports of the file at a place are these; each names a file, and no two of them the same
-pub record AreImportsOf (files : List FileOf) (reads : List ReadOf) (file : ℕ)
-    (imports : List FileImport) : Type 0 where
-  pub same : imports_of (paths_of files) (wanted_by files reads file)
-      ≡ map (import_from file) imports
-  pub clean : (f : Fault) → PathFault (paths_of files) (wanted_by files reads file) f → ⊥
+-- the imports of each of the files at these places are those of its list
+pub record AreImportsAt (files : List FileOf) (reads : List ReadOf) (places : List ℕ)
+    (lists : List (List FileImport)) : Type 0 where
+  pub each : (k : ℕ) → k < length places
+      → AreImportsOf files reads (get_or places k 0) (get_or lists k [])
+
+-- an import of one of the files at these places names no file, or a file again
+pub record HasUnsoundImports (files : List FileOf) (reads : List ReadOf) (places : List ℕ)
+    : Type 0 where
+  pub at : ℕ
+  pub within : at < length places
+  pub unsound : (imports : List FileImport) → AreImportsOf files reads (get_or places at 0) imports
+      → ⊥
 
 -- one of the files at these places has not the imports that are given for it
 pub record HasOtherImports (files : List FileOf) (reads : List ReadOf) (places : List ℕ)

@@ -1,5 +1,5 @@
 //! The names of edited files, taken out of a table and put in again, with a way back that takes no
-//! memory; and whether edited files import what they imported.
+//! memory; and whether edited files import what they imported, and what they import now.
 #![tactic(auto)]
 
 pub mod kept_imports;

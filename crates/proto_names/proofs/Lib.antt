@@ -15,16 +15,19 @@ pub mod LinkMeanings
 mod LinkParts
 mod LinkTable
 mod Linking
+mod MarksMore
 mod MeantBy
 pub mod MeantNames
 mod NameErrors
 mod NamesOfRows
 pub mod NamesThere
+mod OtherMarks
 mod OuterRows
 mod PartsBefore
 mod ReferencesByRow
 mod ReferencesStand
 mod Referring
+mod RenewedImports
 mod RenewedLink
 mod RenewedLists
 mod RenewedMarks

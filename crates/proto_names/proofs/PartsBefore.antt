@@ -4,7 +4,6 @@ use Rattle.proto_faults.proofs.Common.{Contains-append_cases, Contains-get_or, V
 use Rattle.proto_files.proofs.Common.{FileOf, ReadOf}
 use Rattle.proto_imports.proofs.Common.{names_in}
 use Rattle.proto_imports.specs.declared.import.FileImport.{FileImport}
-use Rattle.proto_kept_names.specs.KeptImports.{WereImports}
 use Rattle.proto_kept_names.specs.NamesOfFiles.{WereNames}
 use Rattle.proto_kept_names.specs.NamesOfFiles.{AreNamesOf as AreListedNames}
 use Rattle.proto_kept_lists.specs.Referred.{all_meant_by, meant_row, references_to_row}
@@ -17,7 +16,8 @@ use Rattle.proto_names.specs.Common.{AreNamesOf, LinkOf, Meant, MeantBy, RefId, 
 use Rattle.proto_names.specs.LinkOfFiles.{IsLinkOf}
 use Rattle.proto_names.specs.Renewal.{AreMeantBelow, link_of_parts}
 use Rattle.proto_names.specs.Renewed.{IsTableOf}
-use Rattle.proto_relink.proofs.Clean.{no_name}
+use Rattle.proto_names.specs.Sight.{WasSight}
+use Rattle.proto_relink.proofs.Clean.{no_import, no_name}
 use Rattle.proto_relink.specs.Edited.{AreSameBut}
 use Rattle.proto_relink.specs.Relinked.{WasLink}
 use Rattle.proto_table.proofs.Common.{IsTable}
@@ -94,14 +94,8 @@ module _ (files : List FileOf) (places : List ℕ) (t : Table) (imports : List (
 
   -- ---- how many there are
 
-  pub imports_count : length imports ≡ length files
-  imports_count = sym (length-map imports (λ v. v.items)) ∙ of_before.link.imported ∙ many
-
   pub rows_count : length rows ≡ length files
   rows_count = sym (length-map rows (λ v. v.items)) ∙ of_before.link.listed ∙ many
-
-  pub seen_count : length seen ≡ length files
-  seen_count = sym (length-map seen (λ v. v.items)) ∙ of_before.link.by.files ∙ length-map was names_in ∙ link_was.1.read.same ∙ many
 
   pub meant_count : length meant ≡ length files
   meant_count = sym (length-map meant (λ v. v.items)) ∙ of_before.link.lists ∙ many
@@ -132,8 +126,20 @@ module _ (files : List FileOf) (places : List ℕ) (t : Table) (imports : List (
     names = to_lists before was t rows (table_names before was link_was.1.read parts t rows of_before);
   }
 
-  pub were_imports : WereImports places files (map (λ v. v.items) imports) before was
-  were_imports = record { same = same_but; were_read = link_was.1.read; imports = of_before.link.imports }
+  pub was_sight : WasSight places files (map (λ v. v.items) imports) (map (λ v. v.items) seen)
+  was_sight = record {
+    before = before;
+    was = was;
+    same = same_but;
+    were_read = link_was.1.read;
+    listed = record { count = of_before.link.imported; same = of_before.link.imports };
+    sight = record {
+      sound = no_import before was link_was.1.read link_was.1.clean;
+      between = of_before.link.by.between;
+      count = of_before.link.by.files ∙ length-map was names_in ∙ link_was.1.read.same;
+      marks = λ file lf. of_before.link.by.seen file (omega (arith, lf, length-map was names_in, link_was.1.read.same));
+    };
+  }
 
   -- ---- the references to each name, as long as they are the same
 

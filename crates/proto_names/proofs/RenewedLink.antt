@@ -2,7 +2,7 @@
 use Rattle.std.proofs.Common.{◌≡◌, ℕ, ◌<◌, Bool, true, false, List, [], length, get_or, map, sym, ◌∙◌, ap, subst, inl, inr, arith, Contains}
 use Rattle.proto_faults.proofs.Common.{All-contains, Vec, cases_Bool, contains_map, length-map}
 use Rattle.proto_files.proofs.Common.{FileOf, HasNoFault, ReadOf, read_once}
-use Rattle.proto_imports.proofs.Common.{LinkFaults, all_imports, link_skeleton, names_in, names_of_files, text_of}
+use Rattle.proto_imports.proofs.Common.{LinkFaults, link_skeleton, names_of_files, text_of}
 use Rattle.proto_kept.specs.Kept.{IsFlawless}
 use Rattle.proto_meaning.proofs.Common.{IsLinked, Reference, Workspace}
 use Rattle.proto_names.proofs.LinkMeanings.{is_meant_in}
@@ -10,10 +10,10 @@ use Rattle.proto_names.proofs.LinkParts.{is_link}
 use Rattle.proto_names.proofs.NamesOfRows.{declared_by}
 use Rattle.proto_names.proofs.RenewedMeanings.{file_means_the_same, flawless_from, reference_from}
 use Rattle.proto_names.proofs.Unmeant.{no_references}
-use Rattle.proto_names.proofs.RenewedSight.{imports_between, marks_stay, same_count}
 use Rattle.proto_names.specs.Common.{AreFileMeant, IsFaultless, IsLinkBy, IsLinkRead, LinkOf, Meant, all_meant, references_to, uses_of, word_key}
 use Rattle.proto_names.specs.LinkOfFiles.{IsLinkOf, IsMeantIn}
 use Rattle.proto_names.specs.Renewed.{AreMeantAgain, AreNamesRenewed, IsMadeOf, IsTableOf}
+use Rattle.proto_names.specs.Sight.{IsSightOf}
 use Rattle.proto_relink.proofs.Clean.{linked, relinked_are_clean}
 use Rattle.proto_relink.proofs.Differing.{as_many}
 use Rattle.proto_relink.specs.Relinked.{HasToLook}
@@ -21,7 +21,7 @@ use Rattle.proto_table.proofs.Common.{used_named}
 use Rattle.proto_table.specs.declared.table.Table.{Table}
 
 module _ (places : List ℕ) (marks : List Bool) (before : List FileOf) (was : List ReadOf) (l : LinkOf) (old : Table) (rows_before : List (Vec ℕ)) (files : List FileOf) (reads : List ReadOf) (t : Table) (rows : List (Vec ℕ)) (meant : List (List Meant))
-    (of : IsTableOf before was l old rows_before) (is : AreNamesRenewed places before was old files reads t rows) (look : HasToLook word_key places before was files reads marks) (again : AreMeantAgain marks t files reads l.meant meant) where
+    (of : IsTableOf before was l old rows_before) (is : AreNamesRenewed places before was old files reads t rows) (seen : List (List Bool)) (sight : IsSightOf files reads seen) (look : HasToLook word_key places before was files reads marks) (again : AreMeantAgain marks t files reads l.meant meant) where
   abbrev w : Workspace
   w = names_of_files before was
 
@@ -39,7 +39,7 @@ module _ (places : List ℕ) (marks : List Bool) (before : List FileOf) (was : L
       flawless_from v r (subst (IsFaultless v) x.is (All-contains (IsFaultless v) (map named (uses_of reads r.file)) (named x.use_of) own.faultless (contains_map named (uses_of reads r.file) x.use_of x.within)))
 
   pub renewed_are_clean : HasNoFault (LinkFaults files)
-  renewed_are_clean = relinked_are_clean word_key places before was files reads marks is.edited of.clean look is.sound is.apart flawless
+  renewed_are_clean = relinked_are_clean word_key places before was files reads marks is.edited of.clean look sight.sound is.apart flawless
 
   linked_now : IsLinked v
   linked_now = linked files reads is.edited.are_read renewed_are_clean
@@ -57,10 +57,9 @@ module _ (places : List ℕ) (marks : List Bool) (before : List FileOf) (was : L
 
   -- ---- the link
 
-  module _ (new : LinkOf) (made : IsMadeOf l t rows meant new) where
+  module _ (new : LinkOf) (made : IsMadeOf files reads t rows seen meant new) where
     by : IsLinkBy (text_of files reads) (link_skeleton files reads) new
-    by = is_link files reads is.edited.are_read t is.table rows is.names l.seen meant new made.names (sym made.seen)
-        (of.link.by.files ∙ same_count places before was l old rows_before files reads t rows of is ∙ length-map reads names_in ∙ is.edited.are_read.same) again.count made.paired (imports_between places before was l old rows_before files reads t rows of is) (marks_stay places before was l old rows_before files reads t rows of is) means made.references
+    by = is_link files reads is.edited.are_read t is.table rows is.names seen meant new made.names made.sight sight.count again.count made.paired sight.between sight.marks means made.references
 
     meant_in : (file : ℕ) → file < length files → IsMeantIn files reads new file
     meant_in file lf =
@@ -69,12 +68,11 @@ module _ (places : List ℕ) (marks : List Bool) (before : List FileOf) (was : L
 
     pub renewed_link : IsLinkRead files reads new
     renewed_link =
-        let many = as_many places before was files reads is.edited in
         let lists = ap length (sym made.meanings) ∙ again.count in
         record {
           by = by;
-          imported = ap length made.imports ∙ of.link.imported ∙ many;
-          imports = ap (all_imports 0) made.imports ∙ of.link.imports ∙ is.imports;
+          imported = made.imports.count;
+          imports = made.imports.same;
           listed = ap length (sym made.declared) ∙ length-map rows (λ v. v.items) ∙ is.listed;
           declares = declared_by files reads t new made.names rows is.names is.listed is.within made.declared;
           lists = lists;

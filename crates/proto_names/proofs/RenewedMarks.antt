@@ -1,26 +1,28 @@
 -- The marks of what changed are those of the files that have to be looked at again.
-use Rattle.std.proofs.Common.{◌≡◌, ◌⊎◌, ℕ, suc, ◌+◌, ◌<◌, Bool, true, false, List, [], ◌∷◌, ◌++◌, length, get_or, map, Option, Some, refl, sym, ◌∙◌, ap, subst, inl, inr, arith, All, Contains, bytes_eq}
-use Rattle.proto_faults.proofs.Common.{All-contains, Vec, both_ways, contains_filter, contains_map, from_map, length-map, same_from_word}
+use Rattle.std.proofs.Common.{◌≡◌, ℕ, ◌+◌, ◌<◌, Bool, true, false, List, [], ◌∷◌, ◌++◌, length, get_or, map, Some, sym, ◌∙◌, ap, subst, inl, inr, arith, All, Contains}
+use Rattle.proto_faults.proofs.Common.{All-contains, Vec, both_ways, contains_filter, contains_map, from_map, same_from_word}
 use Rattle.proto_case.specs.Camel.{entry_name}
 use Rattle.proto_files.proofs.Common.{FileOf, ReadOf}
-use Rattle.proto_imports.proofs.Common.{link_imports, link_skeleton, names_are_plain, names_in, names_of_files, text_of, use_from}
+use Rattle.proto_imports.proofs.Common.{link_skeleton, names_are_plain, names_in, names_of_files, text_of, use_from}
 use Rattle.proto_kept.proofs.Still.{type_is_outer}
 use Rattle.proto_kept.specs.Marked.{IsUnmarked}
-use Rattle.proto_meaning.proofs.Common.{ArePlain, At, Reference, Symbol, Used, Workspace, all_used, is_outer, is_type, joined, joined_apart, meaning, reference_of, used_in}
-use Rattle.proto_meaning.specs.declared.kind.Kind.{Kind}
+use Rattle.proto_meaning.proofs.Common.{ArePlain, At, Reference, Symbol, Used, Workspace, all_used, is_outer, is_type, joined, meaning, reference_of}
 use Rattle.proto_names.proofs.DeclaredRows.{row_of_symbol, symbol_by_row, symbol_listed}
 use Rattle.proto_names.proofs.LinkParts.{one_row}
 use Rattle.proto_names.proofs.LinkTable.{rows_bounded, rows_listed, table_names}
-use Rattle.proto_names.proofs.RenewedMeanings.{reference_from, same_sight}
-use Rattle.proto_names.specs.Common.{AreNamesOf, LinkOf, Meant, NameOf, RefId, first_key, has_text, name_at, reference_id, uses_of, word_key}
-use Rattle.proto_names.specs.Renewed.{AreBeginnersMarked, AreChangesMarked, AreNamesRenewed, AreUsersMarked, DeclaresOuter, EndsIn, IsTableOf}
+use Rattle.proto_names.proofs.RenewedMeanings.{reference_from}
+use Rattle.proto_names.proofs.RenewedSight.{sight_stays}
+use Rattle.proto_names.specs.Common.{AreNamesOf, LinkOf, Meant, RefId, first_key, has_text, reference_id, uses_of, word_key}
+use Rattle.proto_names.specs.Renewed.{AreBeginnersMarked, AreChangesMarked, AreNamesRenewed, AreUsersMarked, DeclaresOuter, EndsIn, IsSightMarked, IsTableOf}
+use Rattle.proto_names.specs.Sight.{IsSightOf}
 use Rattle.proto_relink.proofs.Differing.{as_many}
 use Rattle.proto_relink.specs.Relinked.{HasToLook}
-use Rattle.proto_table.proofs.Common.{IsTable, names_of, used_named}
+use Rattle.proto_table.proofs.Common.{names_of, used_named}
 use Rattle.proto_table.specs.declared.table.Table.{Table}
 
 module _ (places : List ℕ) (marks : List Bool) (before : List FileOf) (was : List ReadOf) (l : LinkOf) (old : Table) (rows : List (Vec ℕ)) (files : List FileOf) (reads : List ReadOf) (t : Table) (now : List (Vec ℕ))
-    (of : IsTableOf before was l old rows) (renewed : AreNamesRenewed places before was old files reads t now) (marked : AreChangesMarked places marks old rows l t now) where
+    (of : IsTableOf before was l old rows) (renewed : AreNamesRenewed places before was old files reads t now) (marked : AreChangesMarked places marks old rows l t now)
+    (seen : List (List Bool)) (sight : IsSightOf files reads seen) (same_marks : IsSightMarked marks l.seen seen) where
   abbrev w : Workspace
   w = names_of_files before was
 
@@ -29,9 +31,6 @@ module _ (places : List ℕ) (marks : List Bool) (before : List FileOf) (was : L
 
   many : length before ≡ length files
   many = as_many places before was files reads renewed.edited
-
-  same_count : w.files ≡ v.files
-  same_count = length-map was names_in ∙ renewed.edited.were_read.same ∙ many ∙ sym renewed.edited.are_read.same ∙ sym (length-map reads names_in)
 
   -- the rows before
   names : AreNamesOf before was old rows
@@ -111,7 +110,7 @@ module _ (places : List ℕ) (marks : List Bool) (before : List FileOf) (was : L
   pub changes_have_to_look : HasToLook word_key places before was files reads marks
   changes_have_to_look = record {
     edited = marked.edited;
-    sight = λ file g left. same_sight w v same_count renewed.imports file g;
+    sight = sight_stays places before was l old rows files reads t now of renewed seen sight marks same_marks;
     none_gone = λ r s c left h cs there ty. still_declared r s c h cs left there ty;
     none_came = was_declared;
   }

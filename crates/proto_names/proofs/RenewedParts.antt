@@ -1,30 +1,30 @@
 -- The parts of a link that was changed in place are those of the link of the files that are there now.
 use Rattle.std.proofs.Common.{◌≡◌, ◌⊎◌, ℕ, ◌<◌, Bool, true, false, max, List, [], ◌∷◌, length, get_or, map, refl, sym, ◌∙◌, ap, subst, inl, inr, arith, All, Contains}
-use Rattle.proto_faults.proofs.Common.{All-contains, Vec, cases_lt, contains_head, get_or-map, get_or_past, length-map}
+use Rattle.proto_faults.proofs.Common.{All-contains, Vec, both_ways, cases_lt, contains_head, get_or-map, get_or_past, length-map}
 use Rattle.proto_files.proofs.Common.{AreRead, FileOf, HasNoFault, ReadOf}
 use Rattle.proto_imports.proofs.Common.{LinkFaults}
-use Rattle.proto_imports.specs.Laws.{KeepImports, KeptImportsAreEqual, KeptImportsAreSound}
 use Rattle.proto_imports.specs.declared.import.FileImport.{FileImport}
-use Rattle.proto_kept_names.specs.KeptImports.{WereImports}
+use Rattle.proto_kept_lists.proofs.WithValues.{length-with_values}
 use Rattle.proto_kept_names.specs.NamesOfFiles.{AreNamesOf as AreListedNames}
 use Rattle.proto_kept_references.specs.ChangedFiles.{IsChangeMarked, StaysOrIsMarked, WasOrIsMarked, outer_rows_of}
 use Rattle.proto_kept_references.specs.ChangedFiles.{AreChangesMarked as AreRowsMarked}
+use Rattle.proto_kept_references.specs.Marking.{ArePlacesMarked}
 use Rattle.proto_kept_references.specs.Renewed.{AreReferencesOf}
 use Rattle.proto_kept_references.specs.declared.outer_rows.KindRow.{KindRow}
 use Rattle.proto_meaning.specs.Names.{Word}
 use Rattle.proto_meaning.specs.declared.kind.Kind.{Kind}
 use Rattle.proto_names.proofs.OuterRows.{outer_from, outer_in, outer_to}
-use Rattle.proto_names.proofs.PartsBefore.{before, from_lists, meant_below, of_before, rows_below, rows_count, same_but, was, were_imports}
+use Rattle.proto_names.proofs.PartsBefore.{before, from_lists, meant_below, of_before, rows_below, rows_count, same_but, was}
 use Rattle.proto_names.proofs.ReferencesByRow.{references_by_row}
 use Rattle.proto_names.proofs.RenewedLink.{renewed_are_clean, renewed_link_of}
 use Rattle.proto_names.proofs.RenewedMarks.{changes_have_to_look}
 use Rattle.proto_names.proofs.RenewedSight.{file_is_linked}
-use Rattle.proto_names.proofs.ValuesAtPlaces.{all_with, length_with, rows_with_values}
+use Rattle.proto_names.proofs.ValuesAtPlaces.{all_with, rows_with_values}
 use Rattle.proto_names.specs.Common.{AreNamesOf, IsFileLinked, LinkOf, Meant, RefId, name_of_row, word_key}
 use Rattle.proto_names.specs.LinkOfFiles.{IsLinkOf}
 use Rattle.proto_names.specs.Renewal.{AreMeantBelow, AreRowsRenewed, link_of_parts}
-use Rattle.proto_names.specs.Renewed.{AreBeginnersMarked, AreChangesMarked, AreMeantAgain, AreNamesRenewed, AreUsersMarked, DeclaresOuter, EndsIn, IsMadeOf, IsTableOf}
-use Rattle.proto_relink.proofs.Clean.{no_import}
+use Rattle.proto_names.specs.Renewed.{AreBeginnersMarked, AreChangesMarked, AreMeantAgain, AreNamesRenewed, AreUsersMarked, DeclaresOuter, EndsIn, IsMadeOf, IsSightMarked, IsTableOf}
+use Rattle.proto_names.specs.Sight.{AreLinkImports, IsSightOf, StayBut}
 use Rattle.proto_relink.specs.Relinked.{HasToLook, WasLink}
 use Rattle.proto_table.proofs.Common.{IsTable, pick}
 use Rattle.proto_table.specs.declared.table.Table.{Table}
@@ -44,7 +44,7 @@ module _ (files : List FileOf) (places : List ℕ) (old : Table) (imports : List
   -- ---- the rows of each file's declarations
 
   pub now_count : length now ≡ length files
-  now_count = ap length renewed.rows ∙ length_with rows places renewed.renewed ∙ rows_count files places old imports rows seen meant references table_was link_was
+  now_count = ap length renewed.rows ∙ length-with_values rows places renewed.renewed ∙ rows_count files places old imports rows seen meant references table_was link_was
 
   abbrev IsBelow : Vec ℕ → Type 0
   IsBelow v = All (λ r. r < length t.rows.items) v.items
@@ -79,17 +79,10 @@ module _ (files : List FileOf) (places : List ℕ) (old : Table) (imports : List
 
   -- ---- the names are renewed
 
-  module _ (table : IsTable t) (equal : KeptImportsAreEqual) (sound : KeptImportsAreSound)
-      (kept : (before : List FileOf) (was : List ReadOf) → WereImports places files (map (λ v. v.items) imports) before was → (reads : List ReadOf) → AreRead files reads → KeepImports before was files reads)
-      (reads : List ReadOf) (are : AreRead files reads) where
-    keep : KeepImports files_before reads_before files reads
-    keep = kept files_before reads_before (were_imports files places old imports rows seen meant references table_was link_was) reads are
-
+  module _ (table : IsTable t) (reads : List ReadOf) (are : AreRead files reads) (seen_now : List (List Bool)) (sight : IsSightOf files reads seen_now) where
     pub names_renewed : AreNamesRenewed places files_before reads_before old files reads t now
     names_renewed = record {
       edited = record { same = same_but files places old imports rows seen meant references table_was link_was; were_read = link_was.1.read; are_read = are };
-      imports = equal files_before reads_before files reads keep;
-      sound = sound files_before reads_before files reads keep (no_import files_before reads_before link_was.1.read link_was.1.clean);
       apart = renewed.names.clean reads are;
       table = table;
       numbers = record { size = renewed.names.size; names = renewed.names.texts };
@@ -99,8 +92,8 @@ module _ (files : List FileOf) (places : List ℕ) (old : Table) (imports : List
     }
 
     -- so the references of a file can be looked up
-    pub file_is_linked_now : (file : ℕ) → file < length files → IsFileLinked t (get_or (map (λ v. v.items) seen) file []) (get_or (map (λ v. v.items) now) file []) files reads file
-    file_is_linked_now = file_is_linked places files_before reads_before l old rows files reads t now (of_before files places old imports rows seen meant references table_was link_was) names_renewed
+    pub file_is_linked_now : (file : ℕ) → file < length files → IsFileLinked t (get_or seen_now file []) (get_or (map (λ v. v.items) now) file []) files reads file
+    file_is_linked_now = file_is_linked places files_before reads_before l old rows files reads t now (of_before files places old imports rows seen meant references table_was link_was) names_renewed seen_now sight
 
   -- ---- the marks are of what changed
 
@@ -165,32 +158,40 @@ module _ (files : List FileOf) (places : List ℕ) (old : Table) (imports : List
 
     -- ---- the link
 
-    module _ (table : IsTable t) (equal : KeptImportsAreEqual) (sound : KeptImportsAreSound)
-        (kept : (before : List FileOf) (was : List ReadOf) → WereImports places files (map (λ v. v.items) imports) before was → (reads : List ReadOf) → AreRead files reads → KeepImports before was files reads)
+    module _ (table : IsTable t) (others : List ℕ) (seen_now : List (Vec Bool)) (sight_is : (reads : List ReadOf) → AreRead files reads → IsSightOf files reads (map (λ v. v.items) seen_now))
+        (kept : StayBut others (map (λ v. v.items) seen) (map (λ v. v.items) seen_now)) (others_marked : ArePlacesMarked marks others)
         (meant_now : List (Vec Meant)) (again : (reads : List ReadOf) → AreRead files reads → AreMeantAgain marks t files reads (map (λ v. v.items) meant) (map (λ v. v.items) meant_now))
         (reads : List ReadOf) (are : AreRead files reads) where
       is_of : IsTableOf files_before reads_before l old rows
       is_of = of_before files places old imports rows seen meant references table_was link_was
 
+      sight : IsSightOf files reads (map (λ v. v.items) seen_now)
+      sight = sight_is reads are
+
+      -- a file that sees others than before is marked
+      same_marks : IsSightMarked marks l.seen (map (λ v. v.items) seen_now)
+      same_marks file left = kept file (λ c. both_ways (get_or marks file false) left (All-contains (λ place. get_or marks place false ≡ true) others file others_marked c))
+
       names : AreNamesRenewed places files_before reads_before old files reads t now
-      names = names_renewed table equal sound kept reads are
+      names = names_renewed table reads are (map (λ v. v.items) seen_now) sight
 
       look : HasToLook word_key places files_before reads_before files reads marks
-      look = changes_have_to_look places marks files_before reads_before l old rows files reads t now is_of names changes_marked
+      look = changes_have_to_look places marks files_before reads_before l old rows files reads t now is_of names changes_marked (map (λ v. v.items) seen_now) sight same_marks
 
       pub parts_are_clean : HasNoFault (LinkFaults files)
-      parts_are_clean = renewed_are_clean places marks files_before reads_before l old rows files reads t now (map (λ v. v.items) meant_now) is_of names look (again reads are)
+      parts_are_clean = renewed_are_clean places marks files_before reads_before l old rows files reads t now (map (λ v. v.items) meant_now) is_of names (map (λ v. v.items) seen_now) sight look (again reads are)
 
-      pub parts_are_link : (references_now : List (Vec RefId)) → length references_now ≡ length t.rows.items → AreReferencesOf (map (λ v. v.items) references_now) (map (λ v. v.items) meant_now) → IsLinkOf files (link_of_parts t imports now seen meant_now references_now)
-      parts_are_link references_now paired referred =
-          let new = link_of_parts t imports now seen meant_now references_now in
-          let made : IsMadeOf l t now (map (λ v. v.items) meant_now) new = record {
+      pub parts_are_link : (references_now : List (Vec RefId)) → length references_now ≡ length t.rows.items → AreReferencesOf (map (λ v. v.items) references_now) (map (λ v. v.items) meant_now)
+          → (imports_now : List (Vec FileImport)) → AreLinkImports files reads (map (λ v. v.items) imports_now) → IsLinkOf files (link_of_parts t imports_now now seen_now meant_now references_now)
+      parts_are_link references_now paired referred imports_now imports_are =
+          let new = link_of_parts t imports_now now seen_now meant_now references_now in
+          let made : IsMadeOf files reads t now (map (λ v. v.items) seen_now) (map (λ v. v.items) meant_now) new = record {
             names = refl;
-            imports = refl;
+            imports = imports_are;
             declared = refl;
-            seen = refl;
+            sight = refl;
             meanings = refl;
             paired = length-map references_now (λ v. v.items) ∙ paired ∙ sym (length-map t.rows.items name_of_row);
             references = λ row. referred row ∙ references_by_row row (map (λ v. v.items) meant_now);
           } in
-          renewed_link_of places marks files_before reads_before l old rows files reads t now (map (λ v. v.items) meant_now) is_of names look (again reads are) new made
+          renewed_link_of places marks files_before reads_before l old rows files reads t now (map (λ v. v.items) meant_now) is_of names (map (λ v. v.items) seen_now) sight look (again reads are) new made

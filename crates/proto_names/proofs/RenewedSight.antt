@@ -1,41 +1,60 @@
--- Where the names of edited files are renewed and their imports are what they were, files see what they saw, and references can be looked up.
-use Rattle.std.proofs.Common.{◌≡◌, ℕ, ◌<◌, List, [], length, get_or, map, sym, ◌∙◌, subst, arith, Contains}
-use Rattle.proto_faults.proofs.Common.{Vec, length-map}
+-- What files see, once some are edited: where their marks are what they were they see what they saw, and by their marks references can be looked up.
+use Rattle.std.proofs.Common.{◌≡◌, ℕ, ◌<◌, ◌≤◌, Bool, true, false, List, [], length, get_or, map, refl, sym, ◌∙◌, ap, subst, inl, inr, arith}
+use Rattle.std.specs.Cmp.{both_ways}
+use Rattle.proto_faults.proofs.Common.{Vec, cases_lt, length-map}
 use Rattle.proto_files.proofs.Common.{FileOf, ReadOf}
 use Rattle.proto_imports.proofs.Common.{names_in, names_of_files}
-use Rattle.proto_meaning.proofs.Common.{Import, ImportsAreOfFiles, MarksSeen, Workspace}
-use Rattle.proto_names.proofs.RenewedMeanings.{same_sight}
+use Rattle.proto_kept.specs.Marked.{IsUnmarked}
+use Rattle.proto_meaning.proofs.Common.{ImportsAreOfFiles, Sees, Workspace, by_import, itself, sees, sees_is}
 use Rattle.proto_names.specs.Common.{IsFileLinked, LinkOf}
-use Rattle.proto_names.specs.Renewed.{AreNamesRenewed, IsTableOf}
+use Rattle.proto_names.specs.Renewed.{AreNamesRenewed, IsSightMarked, IsTableOf}
+use Rattle.proto_names.specs.Sight.{IsSightOf}
 use Rattle.proto_relink.proofs.Differing.{as_many}
 use Rattle.proto_table.specs.declared.table.Table.{Table}
 
+-- ---- past the last file, where no imports are
+
+alone : (w : Workspace) → ImportsAreOfFiles w → (f g : ℕ) → w.files ≤ f → Sees w.imports f g → f ≡ g
+alone w ok f g past itself = refl
+alone w ok f g past (by_import i c e r) = let b = (ok i c).0 in absurd (omega (arith, b, e, past))
+
+sees_itself : (w : Workspace) → ImportsAreOfFiles w → (f g : ℕ) → f ≡ g → sees w f g ≡ true
+sees_itself w ok f g e = (sees_is w ok f g).1 (subst (Sees w.imports f) e itself)
+
+past_all : (w v : Workspace) → ImportsAreOfFiles w → ImportsAreOfFiles v → (f g : ℕ) → w.files ≤ f → v.files ≤ f → sees v f g ≡ sees w f g
+past_all w v ok_w ok_v f g past_w past_v =
+    both_ways (sees v f g) (sees w f g)
+    (λ h. sees_itself w ok_w f g (alone v ok_v f g past_v ((sees_is v ok_v f g).0 h)))
+    (λ h. sees_itself v ok_v f g (alone w ok_w f g past_w ((sees_is w ok_w f g).0 h)))
+
 module _ (places : List ℕ) (before : List FileOf) (was : List ReadOf) (l : LinkOf) (old : Table) (rows_before : List (Vec ℕ)) (files : List FileOf) (reads : List ReadOf) (t : Table) (rows : List (Vec ℕ))
-    (of : IsTableOf before was l old rows_before) (is : AreNamesRenewed places before was old files reads t rows) where
+    (of : IsTableOf before was l old rows_before) (is : AreNamesRenewed places before was old files reads t rows) (seen : List (List Bool)) (sight : IsSightOf files reads seen) where
   abbrev w : Workspace
   w = names_of_files before was
 
   abbrev v : Workspace
   v = names_of_files files reads
 
-  pub same_count : w.files ≡ v.files
-  same_count = length-map was names_in ∙ is.edited.were_read.same ∙ as_many places before was files reads is.edited ∙ sym is.edited.are_read.same ∙ sym (length-map reads names_in)
+  count_before : w.files ≡ length files
+  count_before = length-map was names_in ∙ is.edited.were_read.same ∙ as_many places before was files reads is.edited
 
-  pub imports_between : ImportsAreOfFiles v
-  imports_between i c =
-      let x = of.link.by.between i (subst (λ (is : List Import). Contains is i) (sym is.imports) c) in
-      (omega (arith, x.0, same_count), omega (arith, x.1, same_count))
+  count_now : v.files ≡ length files
+  count_now = length-map reads names_in ∙ is.edited.are_read.same
 
-  pub marks_stay : (file : ℕ) → file < length files → MarksSeen v file (get_or l.seen file [])
-  marks_stay file lf g =
-      let lw : file < w.files = omega (arith, lf, same_count, is.edited.are_read.same, length-map reads names_in) in
-      of.link.by.seen file lw g ∙ sym (same_sight w v same_count is.imports file g)
+  -- a file that is not marked sees what it saw
+  pub sight_stays : (marks : List Bool) → IsSightMarked marks l.seen seen → (file g : ℕ) → IsUnmarked marks file → sees v file g ≡ sees w file g
+  sight_stays marks same file g left = elim (cases_lt file (length files)) [
+    | inl lf ↦
+        let lw : file < w.files = omega (arith, lf, count_before) in
+        sym (sight.marks file lf g) ∙ ap (λ (ms : List Bool). get_or ms g false) (same file left) ∙ of.link.by.seen file lw g
+    | inr past ↦ past_all w v of.link.by.between sight.between file g (omega (arith, past, count_before)) (omega (arith, past, count_now))
+  ]
 
   -- the references of a file can be looked up
-  pub file_is_linked : (file : ℕ) → file < length files → IsFileLinked t (get_or l.seen file []) (get_or (map (λ v. v.items) rows) file []) files reads file
+  pub file_is_linked : (file : ℕ) → file < length files → IsFileLinked t (get_or seen file []) (get_or (map (λ v. v.items) rows) file []) files reads file
   file_is_linked file lf = record {
     index = is.names.index;
-    marks = marks_stay file lf;
+    marks = sight.marks file lf;
     paired = is.names.counts file lf;
     plain = is.names.plain file lf;
     named = λ k b. is.names.named file k lf b;

@@ -1,14 +1,9 @@
 -- A list with values at some places.
-use Rattle.std.proofs.Common.{◌≡◌, ℕ, List, [], ◌∷◌, length, map, slice_set, refl, ◌∙◌, ap, All}
-use Rattle.std.proofs.lemmas.List.{length-set, map-set}
+use Rattle.std.proofs.Common.{◌≡◌, ℕ, List, [], ◌∷◌, map, slice_set, refl, ◌∙◌, ap, All}
+use Rattle.std.proofs.lemmas.List.{map-set}
 use Rattle.proto_faults.proofs.Common.{All-head, All-set, All-tail, Vec}
 use Rattle.proto_kept_lists.specs.Undone.{with_values}
 use Rattle.proto_kept_names.specs.RenewedNames.{rows_with}
-
-pub length_with : {T : Type 0} (items : List T) (places : List ℕ) (values : List T) → length (with_values items places values) ≡ length items
-length_with items [] values = refl
-length_with items (place ∷ places) [] = refl
-length_with items (place ∷ places) (v ∷ values) = length_with (slice_set items place v) places values ∙ length-set items place v
 
 pub all_with : {T : Type 0} (P : T → Type 0) (items : List T) (places : List ℕ) (values : List T) → All P items → All P values → All P (with_values items places values)
 all_with P items [] values old new = old

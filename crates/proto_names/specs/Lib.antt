@@ -8,4 +8,5 @@ pub mod Renewal
 pub mod Renewed
 pub mod Replacing
 pub mod Scopes
+pub mod Sight
 pub use Rattle.proto_imports.specs.Links

@@ -2,6 +2,7 @@
 use Rattle.std.specs.Prelude.{◌≡◌, ℕ, ◌<◌, ◌≤◌, Bool, true, false, List, [], ◌∷◌, ◌++◌, get_or, length, map, take}
 use Rattle.std.specs.Global.{Vec}
 use Rattle.std.specs.List.{All}
+use Rattle.proto_files.specs.FilesRead.{AreRead, ReadOf}
 use Rattle.proto_files.specs.GivenFiles.{FileOf}
 use Rattle.proto_imports.specs.declared.import.FileImport.{FileImport}
 use Rattle.proto_kept_lists.specs.Undone.{AreWithin, undone, with_values}
@@ -10,8 +11,11 @@ use Rattle.proto_kept_lists.specs.declared.backlinks.Meant.{Meant}
 use Rattle.proto_kept_lists.specs.declared.backlinks.RefId.{RefId}
 use Rattle.proto_kept_names.specs.NameLogs.{Fits, SeenTable, undone_table}
 use Rattle.proto_kept_names.specs.RenewedNames.{AreRenewed}
+use Rattle.proto_names.specs.LinkOfFiles.{IsLinkOf}
 use Rattle.proto_names.specs.Linking.{LinkOf, name_of_row}
+use Rattle.proto_names.specs.Sight.{IsSightOf, StayBut}
 use Rattle.proto_names.specs.declared.link_log.LinkLog.{LinkLog}
+use Rattle.proto_relink.specs.Relinked.{WasLink}
 use Rattle.proto_table.specs.declared.table.Table.{Table}
 
 -- the link of these parts
@@ -25,6 +29,20 @@ link_of_parts t imports rows seen meant references = record {
   meant = map (λ v. v.items) meant;
   references = map (λ v. v.items) references;
 }
+
+-- the table and these lists are those of a link of files of which these are the same but at these
+-- places; these are the marks of what each file sees now, and all but those of these others are as
+-- they were
+pub record IsSightRenewed (places : List ℕ) (files : List FileOf) (t : Table)
+    (rows : List (Vec ℕ)) (meant : List (Vec Meant)) (references : List (Vec RefId))
+    (seen : List (Vec Bool)) (others : List ℕ) : Type 0 where
+  pub imports_before : List (Vec FileImport)
+  pub seen_before : List (Vec Bool)
+  pub link : WasLink IsLinkOf files places
+      (link_of_parts t imports_before rows seen_before meant references)
+  pub sight : (reads : List ReadOf) → AreRead files reads
+      → IsSightOf files reads (map (λ v. v.items) seen)
+  pub kept : StayBut others (map (λ v. v.items) seen_before) (map (λ v. v.items) seen)
 
 -- the names of the files at these places are renewed in the table, and these are the rows of each
 -- file's declarations before and now
@@ -52,7 +70,7 @@ pub record AreMeantBelow (count : ℕ) (log : List (Change (Vec Meant))) (meant 
 abbrev pub AreOfMarked : List Bool → List (Change (Vec Meant)) → Type 0
 AreOfMarked marks log = All (λ c. get_or marks c.place false ≡ true) log
 
--- the log is one of these parts: what it changed is there, and what there was
+-- the log is one of this table and these lists: what it changed is there, and what there was
 pub record LogFits (log : LinkLog) (t : Table) (all_rows : List (Vec ℕ))
     (all_meant : List (Vec Meant)) (all_references : List (Vec RefId)) : Type 0 where
   pub names : Fits log.names t
@@ -61,7 +79,7 @@ pub record LogFits (log : LinkLog) (t : Table) (all_rows : List (Vec ℕ))
   pub references : AreWithin (length all_references) log.references.items
   pub count : log.count ≤ length all_references
 
--- the parts that change, as they were when the log began
+-- the table and the lists that follow it, as they were when the log began
 pub record SeenParts : Type 0 where
   pub table : SeenTable
   pub rows : List (Vec ℕ)

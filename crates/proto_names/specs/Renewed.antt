@@ -5,7 +5,7 @@ use Rattle.std.specs.List.{All, Contains}
 use Rattle.proto_files.specs.Faults.{HasNoFault}
 use Rattle.proto_files.specs.FilesRead.{ReadOf}
 use Rattle.proto_files.specs.GivenFiles.{FileOf}
-use Rattle.proto_imports.specs.Links.{LinkFaults, link_imports}
+use Rattle.proto_imports.specs.Links.{LinkFaults}
 use Rattle.proto_kept.specs.Marked.{IsUnmarked}
 use Rattle.proto_meaning.specs.Joined.{ArePlain, joined}
 use Rattle.proto_meaning.specs.Names.{Name, Word, is_outer}
@@ -14,8 +14,9 @@ use Rattle.proto_names.specs.FileReferences.{AreFileMeant}
 use Rattle.proto_names.specs.LinkOfFiles.{AreNamesOf, IsLinkRead}
 use Rattle.proto_names.specs.Linking.{LinkOf, all_meant, name_of_row, references_to}
 use Rattle.proto_names.specs.Referring.{word_key}
+use Rattle.proto_names.specs.Sight.{AreLinkImports}
 use Rattle.proto_relink.specs.Edited.{AreEdited}
-use Rattle.proto_relink.specs.Relinked.{NoImportIsFaulty, NoNameClashes}
+use Rattle.proto_relink.specs.Relinked.{NoNameClashes}
 use Rattle.proto_table.specs.Tables.{IsTable, names_of}
 use Rattle.proto_kept_lists.specs.declared.backlinks.RefId.{RefId}
 use Rattle.proto_kept_lists.specs.declared.backlinks.Meant.{Meant}
@@ -38,14 +39,12 @@ pub record NumbersStay (old new : Table) : Type 0 where
   pub names : (row : ℕ) → row < length old.rows.items
       → get_or (names_of new) row [] ≡ get_or (names_of old) row []
 
--- the files were edited at these places and import what they imported; the table has their names,
--- which clash with none, and these are the rows of each file's declarations
+-- the files were edited at these places; the table has their names, which clash with none, and these
+-- are the rows of each file's declarations
 pub record AreNamesRenewed (places : List ℕ) (before : List FileOf) (was : List ReadOf)
     (old : Table) (files : List FileOf) (reads : List ReadOf) (t : Table) (rows : List (Vec ℕ))
     : Type 0 where
   pub edited : AreEdited places before was files reads
-  pub imports : link_imports before was ≡ link_imports files reads
-  pub sound : NoImportIsFaulty files reads
   pub apart : NoNameClashes files reads
   pub table : IsTable t
   pub numbers : NumbersStay old t
@@ -93,6 +92,11 @@ pub record AreChangesMarked (places : List ℕ) (marks : List Bool) (old : Table
       → DeclaresOuter old before file row kind
       ⊎ ((last : Word) → EndsIn t row last → AreBeginnersMarked marks l.meant (word_key last))
 
+-- each file is marked whose marks of what it sees are others
+abbrev pub IsSightMarked : List Bool → List (List Bool) → List (List Bool) → Type 0
+IsSightMarked marks before now =
+    (file : ℕ) → IsUnmarked marks file → get_or now file [] ≡ get_or before file []
+
 -- ---- what references mean, and the link
 
 -- what the references of marked files mean is found in the table; of all others it is as it was
@@ -104,15 +108,14 @@ pub record AreMeantAgain (marks : List Bool) (t : Table) (files : List FileOf)
   pub others : (file : ℕ) → file < length files → IsUnmarked marks file
       → get_or new file [] ≡ get_or old file []
 
--- the link is made of this table, of these rows of each file's declarations and of what the
--- references of each file mean; its imports and the marks of what files see are those of the link
--- before
-pub record IsMadeOf (l : LinkOf) (t : Table) (rows : List (Vec ℕ)) (meant : List (List Meant))
-    (new : LinkOf) : Type 0 where
+-- the link of the files is made of this table, of these rows of each file's declarations, of the
+-- marks of what each file sees and of what its references mean
+pub record IsMadeOf (files : List FileOf) (reads : List ReadOf) (t : Table) (rows : List (Vec ℕ))
+    (seen : List (List Bool)) (meant : List (List Meant)) (new : LinkOf) : Type 0 where
   pub names : map name_of_row t.rows.items ≡ new.names
-  pub imports : new.imports ≡ l.imports
+  pub imports : AreLinkImports files reads new.imports
   pub declared : map (λ v. v.items) rows ≡ new.rows
-  pub seen : new.seen ≡ l.seen
+  pub sight : seen ≡ new.seen
   pub meanings : meant ≡ new.meant
   pub paired : length new.references ≡ length new.names
   pub references : (row : ℕ)

@@ -31,7 +31,8 @@ pub(crate) fn references_by_name(
 fn empty_lists(alloc: Global, count: usize) -> Result<Vec<Vec<RefId>>, NoMemory>
     ensures { IfOk result (λ lists. map (λ v. v.items) lists.items ≡ replicate count []) }
 {
-    let mut lists = Vec::with_capacity(alloc, count)?;
+    // Names that edits add have their lists behind these: the first of them is to move none.
+    let mut lists = Vec::with_capacity(alloc, count.saturating_add(count / 8))?;
     for _ in 0..count {
         lists.push(Vec::new(alloc))?;
     }

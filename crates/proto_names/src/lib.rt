@@ -11,6 +11,7 @@ mod made;
 mod read_files;
 mod references;
 mod renewal;
+mod renewed_imports;
 mod resolve;
 mod scope;
 mod whole_link;

@@ -54,7 +54,7 @@ impl MadeOfLink for Nothing {
 
     ghost IsRefused = { λ files fault. IsLinkError files fault };
 
-    /// Always.
+    /// Always answers, and makes nothing.
     fn follow(
         &mut self,
         _alloc: Global,

@@ -1,50 +1,53 @@
 //! A link that is changed in place to that of its files, once some of them are edited.
 
-ghost use Rattle.std.specs.Prelude.{◌≡◌, ◌≢◌, ◌<◌, ℕ, Bool, List, [], true, false, length, get_or, map, slice_set, IfOk, OnOk, OnErr};
+ghost use Rattle.std.specs.Prelude.{◌≡◌, ◌≢◌, ◌<◌, ℕ, Bool, List, [], true, false, length, get_or, map, slice_set, None, IfOk, OnOk, OnErr};
+ghost use Rattle.std.specs.Global.{Vec as VecOf};
 ghost use Rattle.std.specs.List.{All};
 ghost use Rattle.proto_files.specs.Faults.{HasNoFault};
 ghost use Rattle.proto_files.specs.FilesRead.{AreRead, ReadOf};
 ghost use Rattle.proto_imports.specs.Links.{LinkFaults};
+ghost use Rattle.proto_imports.specs.declared.import.FileImport.{FileImport as FileImportOf};
 ghost use Rattle.proto_kept_lists.specs.Undone.{AreWithin, undone};
 ghost use Rattle.proto_kept_names.specs.NamesOfFiles.{WereNames};
 ghost use Rattle.proto_kept_names.specs.NameLogs.{Fits, undone_table};
 ghost use Rattle.proto_names.specs.FileReferences.{AreFileMeant, IsFileLinked};
 ghost use Rattle.proto_names.specs.LinkOfFiles.{IsLinkOf};
-ghost use Rattle.proto_names.specs.Renewal.{AreMeantBelow, AreOfMarked, AreRowsRenewed, IsMeantNoted, LogFits, link_of_parts, undone_parts};
+ghost use Rattle.proto_names.specs.Renewal.{AreMeantBelow, AreOfMarked, AreRowsRenewed, IsMeantNoted, IsSightRenewed, LogFits, link_of_parts, undone_parts};
 ghost use Rattle.proto_names.specs.Renewed.{AreMeantAgain};
+ghost use Rattle.proto_names.specs.Sight.{AreLinkImports, undone_seen};
 ghost use Rattle.proto_relink.specs.Relinked.{WasLink};
 ghost use Rattle.proto_table.specs.Tables.{IsTable};
 
 use crate::all_references::file_meanings;
 use crate::link_log::LinkLog;
 use crate::references::ReferenceError;
+use crate::renewed_imports::renew_imports;
 use proto_faults::NoMemory;
 use proto_files::{Files, are_read};
 use proto_imports::import::FileImport;
-use proto_imports::laws::kept_imports_stay;
 use proto_kept_lists::laws::added_are_cut;
 use proto_kept_lists::{Change, Meant, RefId, change_all_at};
-use proto_kept_names::kept_imports::all_imports_kept;
 use proto_kept_names::name_log::NameLog;
 use proto_kept_names::renewed_names::renew_names;
 use proto_kept_references::changed_files::{Linked, marks_of_changes, outer_rows_at};
+use proto_kept_references::marking::mark_places;
 use proto_kept_references::renewed_references::{grow_references, renew_references};
 use proto_listing::file_listing::list_file;
 use proto_table::table::Table;
 use std::alloc::Global;
 use std::mem;
 
-/// Files of which some are edited, and what a link has of all of them that stays.
+/// Files of which some are edited, and what each of them sees.
 #[derive(Clone, Copy)]
-pub(crate) struct Edited<'a> {
+struct Edited<'a> {
     /// The files now.
-    pub(crate) files: &'a Files,
+    files: &'a Files,
     /// The places of those that are edited.
-    pub(crate) places: &'a [u32],
-    /// For each file, its imports.
-    pub(crate) imports: &'a [Vec<FileImport>],
-    /// For each file, the marks of the files that it sees.
-    pub(crate) seen: &'a [Vec<bool>],
+    places: &'a [u32],
+    /// For each file, the marks of the files that it sees now.
+    seen: &'a [Vec<bool>],
+    /// The places of the files that see others than before.
+    others: &'a [u32],
 }
 
 /// Puts the names of the edited files into the table, in place of those that they had, and notes
@@ -142,8 +145,9 @@ fn mean_file_again(
     }
 }
 
-/// Puts what a file's references mean in place of what they meant, and notes that in the log.
-/// Refused for want of memory alone; then neither has changed.
+/// Puts what a file's references mean in place of what they meant, and notes that in the log:
+/// `change_at`, which does not say what the log has then. Refused for want of memory alone; then
+/// neither has changed.
 fn put_meanings(
     meant: &mut Vec<Vec<Meant>>,
     log: &mut Vec<Change<Vec<Meant>>>,
@@ -217,11 +221,12 @@ fn mean_again(
     Ok(true)
 }
 
-/// Changes the parts of a link to those of the edited files, as far as they are other ones. Answers
-/// false where it gives up: where a file imports or declares what calls for a link made anew, or
-/// has a fault. Refused for want of memory alone. Where it does not answer true, some of the parts
-/// may be changed, and the log tells which.
-pub(crate) fn renew_parts(
+/// Changes the table of a link and the lists that follow it to those of the edited files, as far as
+/// they are other ones, where it is told what each file sees now. Answers false where it gives up:
+/// where a file declares what calls for a link made anew, or a reference has a fault. Refused for
+/// want of memory alone. Where it does not answer true, some of them may be changed, and the log
+/// tells which.
+fn renew_names_and_references(
     alloc: Global,
     edited: Edited,
     table: &mut Table,
@@ -231,11 +236,11 @@ pub(crate) fn renew_parts(
     log: &mut LinkLog,
 ) -> Result<bool, NoMemory>
     requires places { All (λ place. place < length edited.files.now) edited.places.now }
+    requires others { All (λ file. file < length edited.files.now) edited.others.now }
     requires table { IsTable table.old }
     requires paired { length references.old.items ≡ length table.old.rows.items }
-    requires link { WasLink IsLinkOf edited.files.now edited.places.now
-        (link_of_parts table.old edited.imports.now rows.old.items edited.seen.now meant.old.items
-        references.old.items) }
+    requires renewed { IsSightRenewed edited.places.now edited.files.now table.old rows.old.items
+        meant.old.items references.old.items edited.seen.now edited.others.now }
     requires fits { LogFits log.old table.old rows.old.items meant.old.items references.old.items }
     requires none { log.old.meant.items ≡ [] }
     ensures table { IsTable table.new }
@@ -243,24 +248,22 @@ pub(crate) fn renew_parts(
     ensures undone { undone_parts log.new table.new rows.new.items meant.new.items
         references.new.items ≡ undone_parts log.old table.old rows.old.items meant.old.items
         references.old.items }
+    ensures imports { log.new.imports.items ≡ log.old.imports.items }
+    ensures seen { log.new.seen ≡ log.old.seen }
     ensures paired { IfOk result (λ done. done ≡ true
         → length references.new.items ≡ length table.new.rows.items) }
-    ensures link { IfOk result (λ done. done ≡ true → IsLinkOf edited.entry.files.now
-        (link_of_parts table.new edited.entry.imports.now rows.new.items edited.entry.seen.now
-        meant.new.items references.new.items)) }
+    ensures link { IfOk result (λ done. done ≡ true → (imports : List (VecOf FileImportOf))
+        → ((reads : List ReadOf) → AreRead edited.entry.files.now reads
+        → AreLinkImports edited.entry.files.now reads (map (λ v. v.items) imports))
+        → IsLinkOf edited.entry.files.now (link_of_parts table.new imports rows.new.items
+        edited.entry.seen.now meant.new.items references.new.items)) }
     ensures clean { IfOk result
         (λ done. done ≡ true → HasNoFault (LinkFaults edited.entry.files.now)) }
-    ensures read { IfOk result (λ done. done ≡ true
-        → (reads : List ReadOf) × AreRead edited.entry.files.now reads) }
 {
     let Edited { files, places, .. } = edited;
     are_read(files);
     let _count = files.len();
-    kept_imports_stay();
     added_are_cut::<Vec<RefId>>();
-    if !all_imports_kept(alloc, files, places, edited.imports)? {
-        return Ok(false);
-    }
     let before = outer_rows_at(alloc, table, places, rows)?;
     if !renew_rows(
         alloc,
@@ -280,7 +283,8 @@ pub(crate) fn renew_parts(
         references,
         meant,
     };
-    let marks = marks_of_changes(alloc, linked, places, &before, &now)?;
+    let mut marks = marks_of_changes(alloc, linked, places, &before, &now)?;
+    mark_places(&mut marks, edited.others);
     if !mean_again(alloc, edited, &marks, table, rows, meant, &mut log.meant)? {
         return Ok(false);
     }
@@ -293,4 +297,69 @@ pub(crate) fn renew_parts(
         meant,
     )?;
     Ok(true)
+}
+
+/// Changes the parts of a link to those of the edited files, as far as they are other ones. Answers
+/// false where it gives up: where a file declares what calls for a link made anew, or an import or a
+/// reference has a fault. Refused for want of memory alone. Where it does not answer true, some of
+/// the parts may be changed, and the log tells which.
+pub(crate) fn renew_parts(
+    alloc: Global,
+    files: &Files,
+    places: &[u32],
+    table: &mut Table,
+    imports: &mut Vec<Vec<FileImport>>,
+    rows: &mut Vec<Vec<usize>>,
+    seen: &mut Vec<Vec<bool>>,
+    meant: &mut Vec<Vec<Meant>>,
+    references: &mut Vec<Vec<RefId>>,
+    log: &mut LinkLog,
+) -> Result<bool, NoMemory>
+    requires places { All (λ place. place < length files.now) places.now }
+    requires table { IsTable table.old }
+    requires paired { length references.old.items ≡ length table.old.rows.items }
+    requires link { WasLink IsLinkOf files.now places.now (link_of_parts table.old
+        imports.old.items rows.old.items seen.old.items meant.old.items references.old.items) }
+    requires fits { LogFits log.old table.old rows.old.items meant.old.items references.old.items }
+    requires none { log.old.meant.items ≡ [] }
+    requires no_imports { log.old.imports.items ≡ [] }
+    requires no_seen { log.old.seen ≡ None }
+    ensures table { IsTable table.new }
+    ensures fits { LogFits log.new table.new rows.new.items meant.new.items references.new.items }
+    ensures undone { undone_parts log.new table.new rows.new.items meant.new.items
+        references.new.items ≡ undone_parts log.old table.old rows.old.items meant.old.items
+        references.old.items }
+    ensures within { AreWithin (length imports.new.items) log.new.imports.items }
+    ensures imports { undone log.new.imports.items imports.new.items ≡ imports.old.items }
+    ensures seen { undone_seen log.new.seen seen.new.items ≡ seen.old.items }
+    ensures paired { IfOk result (λ done. done ≡ true
+        → length references.new.items ≡ length table.new.rows.items) }
+    ensures link { IfOk result (λ done. done ≡ true → IsLinkOf files.now (link_of_parts table.new
+        imports.new.items rows.new.items seen.new.items meant.new.items references.new.items)) }
+    ensures clean { IfOk result (λ done. done ≡ true → HasNoFault (LinkFaults files.now)) }
+    ensures read { IfOk result
+        (λ done. done ≡ true → (reads : List ReadOf) × AreRead files.now reads) }
+{
+    are_read(files);
+    let renewed = renew_imports(
+        alloc,
+        files,
+        places,
+        imports,
+        seen,
+        &mut log.imports,
+        &mut log.seen,
+    )?;
+    match renewed {
+        Some(others) => {
+            let edited = Edited {
+                files,
+                places,
+                seen,
+                others: &others,
+            };
+            renew_names_and_references(alloc, edited, table, rows, meant, references, log)
+        }
+        None => Ok(false),
+    }
 }

@@ -26,7 +26,7 @@ use crate::link_log::LinkLog;
 use crate::made::{MadeOfLink, Nothing};
 use crate::read_files::{all_spelled, all_written, listings};
 use crate::references::{ReferenceError, ReferenceFlaw};
-use crate::renewal::{Edited, renew_parts};
+use crate::renewal::renew_parts;
 use proto_faults::{FaultKind, NoMemory, SchemaFault};
 use proto_files::{Files, all_paths, are_read, fault_at_token};
 use proto_imports::import::{FileImport, ImportError, ImportFlaw, resolve_imports};
@@ -264,17 +264,14 @@ impl Link {
     {
         let count = self.references.len();
         let mut log = LinkLog::new(alloc, &self.table, count);
-        let edited = Edited {
-            files,
-            places,
-            imports: &self.imports,
-            seen: &self.seen,
-        };
         let renewed = renew_parts(
             alloc,
-            edited,
+            files,
+            places,
             &mut self.table,
+            &mut self.imports,
             &mut self.rows,
+            &mut self.seen,
             &mut self.meant,
             &mut self.references,
             &mut log,
@@ -289,7 +286,9 @@ impl Link {
         };
         log.take_back(
             &mut self.table,
+            &mut self.imports,
             &mut self.rows,
+            &mut self.seen,
             &mut self.meant,
             &mut self.references,
         );

@@ -1,6 +1,6 @@
 use Rattle.std.proofs.Common.{◌≡◌, [], get_or, map, sym, ◌∙◌, ap, subst, arith}
 use Rattle.proto_faults.proofs.Common.{get_or-map, length-map}
-use Rattle.proto_kept_names.specs.KeptImports.{AreImportsOf}
+use Rattle.proto_imports.specs.Laws.{AreImportsOf}
 use Rattle.proto_kept_names.proofs.ImportsByFile.{imports_kept}
 use Rattle.proto_kept_names.proofs.Places.{before_more}
 use Rattle.proto_kept_names.proofs.kept_imports.all_imports_kept.Goals.{After-deref}

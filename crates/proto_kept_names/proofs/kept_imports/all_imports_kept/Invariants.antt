@@ -1,6 +1,6 @@
 use Rattle.std.proofs.Common.{ℕ, ◌<◌, List, [], get_or, map}
 use Rattle.proto_files.specs.FilesRead.{AreRead, ReadOf}
-use Rattle.proto_kept_names.specs.KeptImports.{AreImportsOf}
+use Rattle.proto_imports.specs.Laws.{AreImportsOf}
 use Rattle.proto_kept_names.proofs.kept_imports.all_imports_kept.Given as goal
 
 abbrev pub invariant-loop-place : goal.invariant-loop-place

@@ -1,71 +1,20 @@
-use Rattle.std.proofs.Common.{◌≡◌, List, map, sym, ◌∙◌, ap, subst, All}
-use Rattle.proto_faults.proofs.Common.{both_ways, false≢true}
-use Rattle.proto_files.proofs.Common.{AreRead, AreWordsAt, ReadOf, paths_of}
-use Rattle.proto_imports.proofs.Common.{AreWritten, IsImportError, TokensAreRising, asked_by, fault_of, import_from}
-use Rattle.proto_imports.specs.ImportSteps.{PathFault}
-use Rattle.proto_imports.specs.Laws.{wanted_by}
-use Rattle.proto_listing.specs.declared.wanted.Wanted.{Wanted}
-use Rattle.proto_meaning.proofs.Common.{AskedImport, Fault, IsLeast, imports_of}
-use Rattle.proto_text.proofs.Common.{IsString, word_at}
-use Rattle.proto_tree.specs.File.{tree_of_file}
-use Rattle.proto_kept_names.proofs.FileLists.{asked_at, rising_at, strings_at}
+use Rattle.std.proofs.Common.{List, sym, ◌∙◌, subst, IfSome}
+use Rattle.proto_faults.proofs.Common.{both_ways}
+use Rattle.proto_files.specs.FilesRead.{AreRead, ReadOf}
+use Rattle.proto_imports.specs.Laws.{AreImportsOf}
 use Rattle.proto_kept_names.proofs.ImportsByFile.{same_imports}
-use Rattle.proto_kept_names.proofs.kept_imports.are_imports_kept.Goals.{After-deref, After-deref-2}
 use Rattle.proto_kept_names.proofs.kept_imports.are_imports_kept.Goals as goal
 
-file_words : (c : After-deref) → AreWordsAt c.args.files.now c.args.file c.new-words.ensures.some.0 c.new-words.result
-file_words c = record { within = c.requires; tokens_are = c.new-words.ensures.some.1; words = c.new-words.ensures.some.2 }
+pub returns-in-Some-clause-kept : goal.returns-in-Some-clause-kept
+returns-in-Some-clause-kept c = λ same reads are.
+    let now = subst (λ o. IfSome o (λ v. (rs : List ReadOf) → AreRead c.args.files.now rs → AreImportsOf c.args.files.now rs c.args.file v.items)) c.in-Some.is c.in_ok-now.ensures.imports in
+    subst (AreImportsOf c.args.files.now reads c.args.file) (sym c.deref.ensures.value ∙ c.are_same.ensures.0 same) (now reads are)
 
-pub written_imports-requires : goal.written_imports-requires
-written_imports-requires c =
-    let at = (goal.at.written_imports-requires c).After-deref in
-    record {
-      strings = subst (λ (ws : List Wanted). All (λ w. IsString (word_at c.new-words.result w.path)) ws) (sym c.deref.ensures.value)
-          (strings_at c.args.files.now c.args.file c.new-words.ensures.some.0 c.new-words.result (file_words at) (tree_of_file c.tree.result.now) c.tree.ensures c.in_ok-wanted.wanted.items c.in_ok-wanted.ensures);
-    }
+pub returns-in-Some-clause-changed : goal.returns-in-Some-clause-changed
+returns-in-Some-clause-changed c = λ differ reads are there.
+    (let now = subst (λ o. IfSome o (λ v. (rs : List ReadOf) → AreRead c.args.files.now rs → AreImportsOf c.args.files.now rs c.args.file v.items)) c.in-Some.is c.in_ok-now.ensures.imports in
+    let same = same_imports c.args.file c.in-Some.now.items c.args.before.now (sym (now reads are).same ∙ there.same) in
+    both_ways c.are_same.result differ (c.are_same.ensures.1 (c.deref.ensures.value ∙ same)))
 
--- the imports as they are written
-words_of : (c : After-deref-2) → AreWordsAt c.args.files.now c.args.file c.new-words.ensures.some.0 c.new-words.result
-words_of c = record { within = c.requires; tokens_are = c.new-words.ensures.some.1; words = c.new-words.ensures.some.2 }
-
-written : (c : After-deref-2) → AreWritten (word_at c.new-words.result) c.in_ok-wanted.wanted.items c.in_ok-written.written.items
-written c = subst (λ (ws : List Wanted). AreWritten (word_at c.new-words.result) ws c.in_ok-written.written.items) c.deref.ensures.value c.in_ok-written.ensures
-
-asked : (c : After-deref-2) (reads : List ReadOf) → AreRead c.args.files.now reads → map (asked_by c.args.file) c.deref-2.result.now ≡ wanted_by c.args.files.now reads c.args.file
-asked c reads are =
-    ap (map (asked_by c.args.file)) c.deref-2.ensures.value
-    ∙ asked_at c.args.files.now c.args.file c.new-words.ensures.some.0 c.new-words.result (words_of c) (tree_of_file c.tree.result.now) c.tree.ensures c.in_ok-wanted.wanted.items c.in_ok-wanted.ensures reads are c.in_ok-written.written.items (written c)
-
-pub resolve_imports_of-requires : goal.resolve_imports_of-requires
-resolve_imports_of-requires c =
-    let now = (goal.at.resolve_imports_of-requires c).After-deref-2 in
-    subst TokensAreRising (sym c.deref-2.ensures.value)
-    (rising_at c.args.files.now c.args.file c.new-words.ensures.some.0 c.new-words.result (words_of now) (tree_of_file c.tree.result.now) c.tree.ensures c.in_ok-wanted.wanted.items c.in_ok-wanted.ensures
-    c.in_ok-written.written.items (written now))
-
-pub returns-in-Ok-clause-kept : goal.returns-in-Ok-clause-kept
-returns-in-Ok-clause-kept c = λ same reads are.
-    (let paths = paths_of c.args.files.now in
-    let wanted = asked (goal.at.returns-in-Ok-clause-kept c).After-deref-2 reads are in
-    record {
-      same = ap (imports_of paths) (sym wanted) ∙ sym c.in-Ok.ensures.imports ∙ ap (map (import_from c.args.file)) (sym c.deref-in-Ok.ensures.value ∙ c.are_same.ensures.0 same);
-      clean = subst (λ (z : List AskedImport). (f : Fault) → PathFault paths z f → ⊥) wanted c.in-Ok.ensures.clean;
-    })
-
-pub returns-in-Ok-clause-changed : goal.returns-in-Ok-clause-changed
-returns-in-Ok-clause-changed c = λ differ reads are there.
-    (let wanted = asked (goal.at.returns-in-Ok-clause-changed c).After-deref-2 reads are in
-    let same = same_imports c.args.file c.in-Ok.now.items c.args.before.now (c.in-Ok.ensures.imports ∙ ap (imports_of (paths_of c.args.files.now)) wanted ∙ there.same) in
-    both_ways c.are_same.result differ (c.are_same.ensures.1 (c.deref-in-Ok.ensures.value ∙ same)))
-
-pub returns-in-Err-Fault-clause-kept : goal.returns-in-Err-Fault-clause-kept
-returns-in-Err-Fault-clause-kept c = λ no. absurd (false≢true no)
-
-pub returns-in-Err-Fault-clause-changed : goal.returns-in-Err-Fault-clause-changed
-returns-in-Err-Fault-clause-changed c = λ no reads are there.
-    (let paths = paths_of c.args.files.now in
-    let bad = c.in-Err-Fault._bad in
-    let wanted = asked (goal.at.returns-in-Err-Fault-clause-changed c).After-deref-2 reads are in
-    let says = PathFault paths (map (asked_by c.args.file) c.deref-2.result.now) in
-    let least : IsLeast says (fault_of bad) = subst (IsImportError says) c.in-Err-Fault.field-0-is c.in-Err-Fault.ensures.fault in
-    there.clean (fault_of bad) (subst (λ z. PathFault paths z (fault_of bad)) wanted least.holds))
+pub returns-in-None-clause-changed : goal.returns-in-None-clause-changed
+returns-in-None-clause-changed c = λ differ reads are there. c.in_ok-now.ensures.none c.in-None.is reads are c.args.before.now there

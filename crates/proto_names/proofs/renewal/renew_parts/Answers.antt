@@ -1,116 +1,36 @@
-use Rattle.std.proofs.Common.{◌≡◌, ℕ, ◌<◌, ◌≤◌, Bool, true, false, List, [], length, get_or, map, take, refl, sym, ◌∙◌, ap, subst, arith, All}
-use Rattle.proto_faults.proofs.Common.{Vec, length-map}
+use Rattle.std.proofs.Common.{ℕ, Bool, List, map, sym, subst, IfSome}
+use Rattle.std.proofs.lemmas.Result.{IfOk-weaker}
+use Rattle.proto_faults.proofs.Common.{Vec}
 use Rattle.proto_files.specs.FilesRead.{AreRead, ReadOf}
-use Rattle.proto_kept_lists.specs.Undone.{AreWithin, undone}
-use Rattle.proto_kept_lists.specs.declared.changes.Change.{Change}
-use Rattle.proto_kept_references.specs.ChangedFiles.{AreChangesMarked, outer_rows_of}
-use Rattle.proto_kept_references.specs.Renewed.{AreReferencesOf}
-use Rattle.proto_kept_references.specs.declared.outer_rows.KindRow.{KindRow}
-use Rattle.proto_names.proofs.GrownLists.{cut_grown, not_less, paired_now}
-use Rattle.proto_names.proofs.OuterRows.{outer_count, outer_within}
-use Rattle.proto_names.proofs.PartsBefore.{are_references_of, references_within, rows_below, were_names}
-use Rattle.proto_names.proofs.RenewedParts.{file_is_linked_now, meant_below_now, now_below, parts_are_clean, parts_are_link}
-use Rattle.proto_names.specs.Common.{Meant, RefId}
-use Rattle.proto_names.specs.FileReferences.{IsFileLinked}
-use Rattle.proto_names.specs.Renewal.{AreMeantBelow}
-use Rattle.proto_names.specs.Renewed.{AreMeantAgain}
+use Rattle.proto_names.proofs.PartsBefore.{was_sight}
+use Rattle.proto_names.specs.LinkOfFiles.{IsLinkOf}
+use Rattle.proto_names.specs.Renewal.{link_of_parts}
+use Rattle.proto_names.specs.Sight.{AreLinkImports, IsSightOf, StayBut}
 use Rattle.proto_names.proofs.renewal.renew_parts.Goals as goal
 
-pub renew_rows-requires-clause-within : goal.renew_rows-requires-clause-within
-renew_rows-requires-clause-within c = rows_below c.args.edited.files.now c.args.edited.places.now c.args.table.now c.args.edited.imports.now c.args.rows.now.items c.args.edited.seen.now c.args.meant.now.items c.args.references.now.items c.requires.table c.requires.link
+pub renew_imports-requires-clause-was : goal.renew_imports-requires-clause-was
+renew_imports-requires-clause-was c = was_sight c.args.files.now c.args.places.now c.args.table.now c.args.imports.now.items c.args.rows.now.items c.args.seen.now.items c.args.meant.now.items c.args.references.now.items c.requires.table c.requires.link
 
-pub renew_rows-requires-clause-were : goal.renew_rows-requires-clause-were
-renew_rows-requires-clause-were c = were_names c.args.edited.files.now c.args.edited.places.now c.args.table.now c.args.edited.imports.now c.args.rows.now.items c.args.edited.seen.now c.args.meant.now.items c.args.references.now.items c.requires.table c.requires.link
+pub renew_names_and_references-requires-clause-renewed : goal.renew_names_and_references-requires-clause-renewed
+renew_names_and_references-requires-clause-renewed c =
+    let before = map (λ (v : Vec Bool). v.items) c.args.seen.now.items in
+    let now = map (λ (v : Vec Bool). v.items) c.renew_imports.new.seen.items in
+    let sight = subst (λ o. IfSome o (λ (os : Vec ℕ). (reads : List ReadOf) → AreRead c.args.files.now reads → IsSightOf c.args.files.now reads now)) c.in-Some.is c.in_ok-renewed.ensures.sight in
+    let kept = subst (λ o. IfSome o (λ (os : Vec ℕ). StayBut os.items before now)) c.in-Some.is c.in_ok-renewed.ensures.kept in
+    record {
+      imports_before = c.args.imports.now.items;
+      seen_before = c.args.seen.now.items;
+      link = c.requires.link;
+      sight = λ reads are. subst (λ (vs : List (Vec Bool)). IsSightOf c.args.files.now reads (map (λ v. v.items) vs)) (sym c.deref.ensures.value) (sight reads are);
+      kept = subst (λ (vs : List (Vec Bool)). StayBut c.deref-in-Some.result.now before (map (λ v. v.items) vs)) (sym c.deref.ensures.value) (subst (λ (os : List ℕ). StayBut os before now) (sym c.deref-in-Some.ensures.value) kept);
+    }
 
-pub returns-in_err-grow_references-clause-fits : goal.returns-in_err-grow_references-clause-fits
-returns-in_err-grow_references-clause-fits c = record {
-  names = c.renew_rows.ensures.fits;
-  rows = λ k d l. omega (arith, c.renew_rows.ensures.log c.requires.fits.rows k d l, c.renew_rows.ensures.len);
-  meant = c.requires.fits.meant;
-  references = λ k d l. omega (arith, c.requires.fits.references k d l, not_less (c.added_are_cut.ensures) c.args.references.now.items c.grow_references.new.references.items c.grow_references.ensures.grown);
-  count = omega (arith, c.requires.fits.count, not_less (c.added_are_cut.ensures) c.args.references.now.items c.grow_references.new.references.items c.grow_references.ensures.grown);
-}
-
-pub returns-in_err-grow_references-clause-undone : goal.returns-in_err-grow_references-clause-undone
-returns-in_err-grow_references-clause-undone c = λ i. record { table = c.renew_rows.ensures.names i; rows = c.renew_rows.ensures.undone i; meant = undone c.args.log.now.meant.items c.args.meant.now.items; references = (cut_grown (c.added_are_cut.ensures) c.args.references.now.items c.grow_references.new.references.items c.grow_references.ensures.grown c.args.log.now.references.items c.args.log.now.count c.requires.fits.count) i }
-
-pub returns-in_err-now-clause-undone : goal.returns-in_err-now-clause-undone
-returns-in_err-now-clause-undone c = λ i. record { table = c.renew_rows.ensures.names i; rows = c.renew_rows.ensures.undone i; meant = undone c.args.log.now.meant.items c.args.meant.now.items; references = (cut_grown (c.added_are_cut.ensures) c.args.references.now.items c.grow_references.new.references.items c.grow_references.ensures.grown c.args.log.now.references.items c.args.log.now.count c.requires.fits.count) i }
-
-pub returns-in_err-marks-clause-undone : goal.returns-in_err-marks-clause-undone
-returns-in_err-marks-clause-undone c = λ i. record { table = c.renew_rows.ensures.names i; rows = c.renew_rows.ensures.undone i; meant = undone c.args.log.now.meant.items c.args.meant.now.items; references = (cut_grown (c.added_are_cut.ensures) c.args.references.now.items c.grow_references.new.references.items c.grow_references.ensures.grown c.args.log.now.references.items c.args.log.now.count c.requires.fits.count) i }
-
-pub returns-in_err-mean_again-clause-undone : goal.returns-in_err-mean_again-clause-undone
-returns-in_err-mean_again-clause-undone c = λ i. record { table = c.renew_rows.ensures.names i; rows = c.renew_rows.ensures.undone i; meant = c.mean_again.ensures.undone i; references = (cut_grown (c.added_are_cut.ensures) c.args.references.now.items c.grow_references.new.references.items c.grow_references.ensures.grown c.args.log.now.references.items c.args.log.now.count c.requires.fits.count) i }
-
-pub returns-then-not-branch-3-clause-undone : goal.returns-then-not-branch-3-clause-undone
-returns-then-not-branch-3-clause-undone c = λ i. record { table = c.renew_rows.ensures.names i; rows = c.renew_rows.ensures.undone i; meant = c.mean_again.ensures.undone i; references = (cut_grown (c.added_are_cut.ensures) c.args.references.now.items c.grow_references.new.references.items c.grow_references.ensures.grown c.args.log.now.references.items c.args.log.now.count c.requires.fits.count) i }
-
-pub returns-in_err-renew_references-clause-undone : goal.returns-in_err-renew_references-clause-undone
-returns-in_err-renew_references-clause-undone c = λ i. record { table = c.renew_rows.ensures.names i; rows = c.renew_rows.ensures.undone i; meant = c.mean_again.ensures.undone i; references = (ap (take c.args.log.now.count) c.renew_references.ensures.undone ∙ cut_grown (c.added_are_cut.ensures) c.args.references.now.items c.grow_references.new.references.items c.grow_references.ensures.grown c.args.log.now.references.items c.args.log.now.count c.requires.fits.count) i }
-
-pub returns-clause-undone : goal.returns-clause-undone
-returns-clause-undone c = λ i. record { table = c.renew_rows.ensures.names i; rows = c.renew_rows.ensures.undone i; meant = c.mean_again.ensures.undone i; references = (ap (take c.args.log.now.count) c.renew_references.ensures.undone ∙ cut_grown (c.added_are_cut.ensures) c.args.references.now.items c.grow_references.new.references.items c.grow_references.ensures.grown c.args.log.now.references.items c.args.log.now.count c.requires.fits.count) i }
-
-pub returns-in_err-renew_references-clause-fits : goal.returns-in_err-renew_references-clause-fits
-returns-in_err-renew_references-clause-fits c = record {
-  names = c.renew_rows.ensures.fits;
-  rows = λ k d l. omega (arith, c.renew_rows.ensures.log c.requires.fits.rows k d l, c.renew_rows.ensures.len);
-  meant = λ k d l. omega (arith, c.mean_again.ensures.within c.requires.fits.meant k d l, c.mean_again.ensures.len);
-  references = λ k d l. omega (arith, c.renew_references.ensures.within (λ j e m. omega (arith, c.requires.fits.references j e m, not_less (c.added_are_cut.ensures) c.args.references.now.items c.grow_references.new.references.items c.grow_references.ensures.grown)) k d l, c.renew_references.ensures.len);
-  count = omega (arith, c.requires.fits.count, not_less (c.added_are_cut.ensures) c.args.references.now.items c.grow_references.new.references.items c.grow_references.ensures.grown, c.renew_references.ensures.len);
-}
-
-pub returns-clause-fits : goal.returns-clause-fits
-returns-clause-fits c = record {
-  names = c.renew_rows.ensures.fits;
-  rows = λ k d l. omega (arith, c.renew_rows.ensures.log c.requires.fits.rows k d l, c.renew_rows.ensures.len);
-  meant = λ k d l. omega (arith, c.mean_again.ensures.within c.requires.fits.meant k d l, c.mean_again.ensures.len);
-  references = λ k d l. omega (arith, c.renew_references.ensures.within (λ j e m. omega (arith, c.requires.fits.references j e m, not_less (c.added_are_cut.ensures) c.args.references.now.items c.grow_references.new.references.items c.grow_references.ensures.grown)) k d l, c.renew_references.ensures.len);
-  count = omega (arith, c.requires.fits.count, not_less (c.added_are_cut.ensures) c.args.references.now.items c.grow_references.new.references.items c.grow_references.ensures.grown, c.renew_references.ensures.len);
-}
-
-pub marks_of_changes-requires-clause-before : goal.marks_of_changes-requires-clause-before
-marks_of_changes-requires-clause-before c = ap length c.deref-5.ensures.value ∙ outer_count c.args.table.now (map (λ v. v.items) c.args.rows.now.items) c.args.edited.places.now c.in_ok-before.before.items (c.in_ok-before.ensures ∙ ap (λ (rs : List (Vec ℕ)). map (outer_rows_of c.args.table.now (map (λ v. v.items) rs)) c.args.edited.places.now) c.deref.ensures.value)
-
-pub marks_of_changes-requires-clause-now : goal.marks_of_changes-requires-clause-now
-marks_of_changes-requires-clause-now c = ap length c.deref-6.ensures.value ∙ outer_count c.renew_rows.new.table (map (λ v. v.items) c.renew_rows.new.rows.items) c.args.edited.places.now c.in_ok-now.now.items (c.in_ok-now.ensures ∙ ap (λ (rs : List (Vec ℕ)). map (outer_rows_of c.renew_rows.new.table (map (λ v. v.items) rs)) c.args.edited.places.now) c.deref-2.ensures.value)
-
-pub marks_of_changes-requires-clause-within : goal.marks_of_changes-requires-clause-within
-marks_of_changes-requires-clause-within c = subst (All (λ (v : Vec KindRow). All (λ p. p.row < length c.renew_rows.new.table.rows.items) v.items)) (sym c.deref-6.ensures.value) (outer_within c.renew_rows.new.table (map (λ v. v.items) c.renew_rows.new.rows.items) c.args.edited.places.now c.in_ok-now.now.items (c.in_ok-now.ensures ∙ ap (λ (rs : List (Vec ℕ)). map (outer_rows_of c.renew_rows.new.table (map (λ v. v.items) rs)) c.args.edited.places.now) c.deref-2.ensures.value))
-
-pub marks_of_changes-requires-clause-references : goal.marks_of_changes-requires-clause-references
-marks_of_changes-requires-clause-references c =
-    subst (λ (n : ℕ). All (λ (v : Vec RefId). All (λ r. r.file < n) v.items) c.deref-3.result.now) (sym (ap length c.deref-4.ensures.value))
-    (subst (All (λ (v : Vec RefId). All (λ r. r.file < length c.args.meant.now.items) v.items)) (sym c.deref-3.ensures.value) (references_within c.args.edited.files.now c.args.edited.places.now c.args.table.now c.args.edited.imports.now c.args.rows.now.items c.args.edited.seen.now c.args.meant.now.items c.args.references.now.items c.requires.table c.requires.link c.grow_references.new.references.items c.grow_references.ensures.same))
-
-pub mean_again-requires-clause-within : goal.mean_again-requires-clause-within
-mean_again-requires-clause-within c = subst (All (λ (v : Vec ℕ). All (λ r. r < length c.renew_rows.new.table.rows.items) v.items)) (sym c.deref-8.ensures.value) (now_below c.args.edited.files.now c.args.edited.places.now c.args.table.now c.args.edited.imports.now c.args.rows.now.items c.args.edited.seen.now c.args.meant.now.items c.args.references.now.items c.requires.table c.requires.link c.renew_rows.new.table c.renew_rows.new.rows.items (c.in_ok-renew_rows.ensures.renewed c.if-not-branch-2.false))
-
-pub mean_again-requires-clause-linked : goal.mean_again-requires-clause-linked
-mean_again-requires-clause-linked c = λ reads are file lf.
-    (subst (λ (rs : List (Vec ℕ)). IsFileLinked c.renew_rows.new.table (get_or (map (λ v. v.items) c.args.edited.seen.now) file []) (get_or (map (λ v. v.items) rs) file []) c.args.edited.files.now reads file) (sym c.deref-8.ensures.value)
-    (file_is_linked_now c.args.edited.files.now c.args.edited.places.now c.args.table.now c.args.edited.imports.now c.args.rows.now.items c.args.edited.seen.now c.args.meant.now.items c.args.references.now.items c.requires.table c.requires.link c.renew_rows.new.table c.renew_rows.new.rows.items (c.in_ok-renew_rows.ensures.renewed c.if-not-branch-2.false) c.renew_rows.ensures.table c.kept_imports_stay.ensures.equal c.kept_imports_stay.ensures.sound (c.in_ok-all_imports_kept.ensures.kept c.if-not-branch.false) reads are file lf))
-
-pub renew_references-requires-clause-former : goal.renew_references-requires-clause-former
-renew_references-requires-clause-former c = λ k d l j m lj.
-    (let is = c.deref-10.ensures.value in
-    let below = (c.mean_again.ensures.below (subst (λ (log : List (Change (Vec Meant))). AreMeantBelow (length c.renew_rows.new.table.rows.items) log c.args.meant.now.items) (sym c.requires.none) (meant_below_now c.args.edited.files.now c.args.edited.places.now c.args.table.now c.args.edited.imports.now c.args.rows.now.items c.args.edited.seen.now c.args.meant.now.items c.args.references.now.items c.requires.table c.requires.link c.renew_rows.new.table c.renew_rows.new.rows.items (c.in_ok-renew_rows.ensures.renewed c.if-not-branch-2.false)))) in
-    omega (arith, (subst (All (λ (x : Change (Vec Meant)). All (λ m. m.row < length c.renew_rows.new.table.rows.items) x.was.items)) (sym is) below.before) k d l j m lj, paired_now (c.added_are_cut.ensures) c.args.references.now.items c.grow_references.new.references.items c.grow_references.ensures.grown c.len.result (length c.renew_rows.new.table.rows.items) c.len.ensures (sym c.renew_rows.new.table.rows.ok.0) (length c.args.table.now.rows.items) c.requires.paired (c.in_ok-renew_rows.ensures.renewed c.if-not-branch-2.false).names.size c.in_ok-grow_references.ensures.len))
-
-pub renew_references-requires-clause-rows : goal.renew_references-requires-clause-rows
-renew_references-requires-clause-rows c = λ k d l j m lj.
-    (let is = c.deref-11.ensures.value in
-    let below = (c.mean_again.ensures.below (subst (λ (log : List (Change (Vec Meant))). AreMeantBelow (length c.renew_rows.new.table.rows.items) log c.args.meant.now.items) (sym c.requires.none) (meant_below_now c.args.edited.files.now c.args.edited.places.now c.args.table.now c.args.edited.imports.now c.args.rows.now.items c.args.edited.seen.now c.args.meant.now.items c.args.references.now.items c.requires.table c.requires.link c.renew_rows.new.table c.renew_rows.new.rows.items (c.in_ok-renew_rows.ensures.renewed c.if-not-branch-2.false)))) in
-    omega (arith, (subst (All (λ (v : Vec Meant). All (λ m. m.row < length c.renew_rows.new.table.rows.items) v.items)) (sym is) below.now) k d l j m lj, paired_now (c.added_are_cut.ensures) c.args.references.now.items c.grow_references.new.references.items c.grow_references.ensures.grown c.len.result (length c.renew_rows.new.table.rows.items) c.len.ensures (sym c.renew_rows.new.table.rows.ok.0) (length c.args.table.now.rows.items) c.requires.paired (c.in_ok-renew_rows.ensures.renewed c.if-not-branch-2.false).names.size c.in_ok-grow_references.ensures.len))
-
-pub renew_references-requires-clause-before : goal.renew_references-requires-clause-before
-renew_references-requires-clause-before c =
-    are_references_of c.args.edited.files.now c.args.edited.places.now c.args.table.now c.args.edited.imports.now c.args.rows.now.items c.args.edited.seen.now c.args.meant.now.items c.args.references.now.items c.requires.table c.requires.link c.grow_references.new.references.items c.grow_references.ensures.same (undone c.deref-10.result.now c.deref-11.result.now)
-    (ap (λ (log : List (Change (Vec Meant))). undone log c.deref-11.result.now) c.deref-10.ensures.value ∙ ap (undone c.mean_again.new.log.items) c.deref-11.ensures.value ∙ c.mean_again.ensures.undone ∙ ap (λ (log : List (Change (Vec Meant))). undone log c.args.meant.now.items) c.requires.none)
-
-pub returns-clause-clean : goal.returns-clause-clean
-returns-clause-clean c = λ done. parts_are_clean c.args.edited.files.now c.args.edited.places.now c.args.table.now c.args.edited.imports.now c.args.rows.now.items c.args.edited.seen.now c.args.meant.now.items c.args.references.now.items c.requires.table c.requires.link c.renew_rows.new.table c.renew_rows.new.rows.items (c.in_ok-renew_rows.ensures.renewed c.if-not-branch-2.false) c.in_ok-marks.marks.items c.grow_references.new.references.items c.grow_references.ensures.same c.in_ok-before.before.items c.in_ok-now.now.items (c.in_ok-before.ensures ∙ ap (λ (rs : List (Vec ℕ)). map (outer_rows_of c.args.table.now (map (λ v. v.items) rs)) c.args.edited.places.now) c.deref.ensures.value) (c.in_ok-now.ensures ∙ ap (λ (rs : List (Vec ℕ)). map (outer_rows_of c.renew_rows.new.table (map (λ v. v.items) rs)) c.args.edited.places.now) c.deref-2.ensures.value) (subst (λ (rs : List (Vec RefId)). AreChangesMarked c.renew_rows.new.table c.in_ok-marks.marks.items c.args.edited.places.now (map (λ v. v.items) rs) (map (λ v. v.items) c.args.meant.now.items) (map (λ v. v.items) c.in_ok-before.before.items) (map (λ v. v.items) c.in_ok-now.now.items)) c.deref-3.ensures.value (subst (λ (ms : List (Vec Meant)). AreChangesMarked c.renew_rows.new.table c.in_ok-marks.marks.items c.args.edited.places.now (map (λ v. v.items) c.deref-3.result.now) (map (λ v. v.items) ms) (map (λ v. v.items) c.in_ok-before.before.items) (map (λ v. v.items) c.in_ok-now.now.items)) c.deref-4.ensures.value (subst (λ (ps : List (Vec KindRow)). AreChangesMarked c.renew_rows.new.table c.in_ok-marks.marks.items c.args.edited.places.now (map (λ v. v.items) c.deref-3.result.now) (map (λ v. v.items) c.deref-4.result.now) (map (λ v. v.items) ps) (map (λ v. v.items) c.in_ok-now.now.items)) c.deref-5.ensures.value (subst (λ (ps : List (Vec KindRow)). AreChangesMarked c.renew_rows.new.table c.in_ok-marks.marks.items c.args.edited.places.now (map (λ v. v.items) c.deref-3.result.now) (map (λ v. v.items) c.deref-4.result.now) (map (λ v. v.items) c.deref-5.result.now) (map (λ v. v.items) ps)) c.deref-6.ensures.value c.in_ok-marks.ensures.marked)))) c.renew_rows.ensures.table c.kept_imports_stay.ensures.equal c.kept_imports_stay.ensures.sound (c.in_ok-all_imports_kept.ensures.kept c.if-not-branch.false) c.mean_again.new.meant.items (λ reads are. subst (λ (ms : List Bool). AreMeantAgain ms c.renew_rows.new.table c.args.edited.files.now reads (map (λ v. v.items) c.args.meant.now.items) (map (λ v. v.items) c.mean_again.new.meant.items)) c.deref-7.ensures.value (c.in_ok-mean_again.ensures.meant c.if-not-branch-3.false reads are)) c.are_read.ensures.0 c.are_read.ensures.1
-
-pub returns-clause-link : goal.returns-clause-link
-returns-clause-link c = λ done. parts_are_link c.args.edited.files.now c.args.edited.places.now c.args.table.now c.args.edited.imports.now c.args.rows.now.items c.args.edited.seen.now c.args.meant.now.items c.args.references.now.items c.requires.table c.requires.link c.renew_rows.new.table c.renew_rows.new.rows.items (c.in_ok-renew_rows.ensures.renewed c.if-not-branch-2.false) c.in_ok-marks.marks.items c.grow_references.new.references.items c.grow_references.ensures.same c.in_ok-before.before.items c.in_ok-now.now.items (c.in_ok-before.ensures ∙ ap (λ (rs : List (Vec ℕ)). map (outer_rows_of c.args.table.now (map (λ v. v.items) rs)) c.args.edited.places.now) c.deref.ensures.value) (c.in_ok-now.ensures ∙ ap (λ (rs : List (Vec ℕ)). map (outer_rows_of c.renew_rows.new.table (map (λ v. v.items) rs)) c.args.edited.places.now) c.deref-2.ensures.value) (subst (λ (rs : List (Vec RefId)). AreChangesMarked c.renew_rows.new.table c.in_ok-marks.marks.items c.args.edited.places.now (map (λ v. v.items) rs) (map (λ v. v.items) c.args.meant.now.items) (map (λ v. v.items) c.in_ok-before.before.items) (map (λ v. v.items) c.in_ok-now.now.items)) c.deref-3.ensures.value (subst (λ (ms : List (Vec Meant)). AreChangesMarked c.renew_rows.new.table c.in_ok-marks.marks.items c.args.edited.places.now (map (λ v. v.items) c.deref-3.result.now) (map (λ v. v.items) ms) (map (λ v. v.items) c.in_ok-before.before.items) (map (λ v. v.items) c.in_ok-now.now.items)) c.deref-4.ensures.value (subst (λ (ps : List (Vec KindRow)). AreChangesMarked c.renew_rows.new.table c.in_ok-marks.marks.items c.args.edited.places.now (map (λ v. v.items) c.deref-3.result.now) (map (λ v. v.items) c.deref-4.result.now) (map (λ v. v.items) ps) (map (λ v. v.items) c.in_ok-now.now.items)) c.deref-5.ensures.value (subst (λ (ps : List (Vec KindRow)). AreChangesMarked c.renew_rows.new.table c.in_ok-marks.marks.items c.args.edited.places.now (map (λ v. v.items) c.deref-3.result.now) (map (λ v. v.items) c.deref-4.result.now) (map (λ v. v.items) c.deref-5.result.now) (map (λ v. v.items) ps)) c.deref-6.ensures.value c.in_ok-marks.ensures.marked)))) c.renew_rows.ensures.table c.kept_imports_stay.ensures.equal c.kept_imports_stay.ensures.sound (c.in_ok-all_imports_kept.ensures.kept c.if-not-branch.false) c.mean_again.new.meant.items (λ reads are. subst (λ (ms : List Bool). AreMeantAgain ms c.renew_rows.new.table c.args.edited.files.now reads (map (λ v. v.items) c.args.meant.now.items) (map (λ v. v.items) c.mean_again.new.meant.items)) c.deref-7.ensures.value (c.in_ok-mean_again.ensures.meant c.if-not-branch-3.false reads are)) c.are_read.ensures.0 c.are_read.ensures.1 c.renew_references.new.references.items (c.renew_references.ensures.len ∙ paired_now (c.added_are_cut.ensures) c.args.references.now.items c.grow_references.new.references.items c.grow_references.ensures.grown c.len.result (length c.renew_rows.new.table.rows.items) c.len.ensures (sym c.renew_rows.new.table.rows.ok.0) (length c.args.table.now.rows.items) c.requires.paired (c.in_ok-renew_rows.ensures.renewed c.if-not-branch-2.false).names.size c.in_ok-grow_references.ensures.len) (subst (λ (ms : List (Vec Meant)). AreReferencesOf (map (λ v. v.items) c.renew_references.new.references.items) (map (λ v. v.items) ms)) c.deref-11.ensures.value c.in_ok-renew_references.ensures.references)
+pub returns-in-Some-clause-link : goal.returns-in-Some-clause-link
+returns-in-Some-clause-link c =
+    let files = c.args.files.now in
+    let last = c.renew_names_and_references.new in
+    let imports = c.renew_imports.new.imports.items in
+    let are = subst (λ o. IfSome o (λ (os : Vec ℕ). (reads : List ReadOf) → AreRead files reads → AreLinkImports files reads (map (λ v. v.items) imports))) c.in-Some.is c.in_ok-renewed.ensures.imports in
+    IfOk-weaker c.renew_names_and_references.result _ _
+    (λ done link yes. subst (λ (vs : List (Vec Bool)). IsLinkOf files (link_of_parts last.table imports last.rows.items vs last.meant.items last.references.items)) c.deref.ensures.value (link yes imports are))
+    c.renew_names_and_references.ensures.link

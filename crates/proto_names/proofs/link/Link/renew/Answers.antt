@@ -1,14 +1,13 @@
-use Rattle.std.proofs.Common.{◌≡◌, ◌≢◌, ℕ, ◌<◌, Bool, true, false, List, length, get_or, map, refl, sym, ◌∙◌, ap, subst, arith, inl, inr, All, AllPairs}
+use Rattle.std.proofs.Common.{◌≡◌, ◌<◌, Bool, true, false, length, map, refl, sym, ◌∙◌, ap, subst, arith, inl, inr, All, AllPairs}
 use Rattle.proto_faults.proofs.Common.{Vec, both_ways}
 use Rattle.proto_faults.specs.declared.fault.SchemaFault.{SchemaFault}
 use Rattle.proto_faults.specs.declared.fault.SchemaFault.TheVariants.{NoMemory}
 use Rattle.proto_names.specs.declared.whole_link.Renewal.{Renewal}
 use Rattle.proto_names.specs.declared.whole_link.Renewal.TheVariants.{Done, GivenUp, Refused}
 use Rattle.proto_imports.specs.LinkErrors.{IsLinkError}
-use Rattle.proto_names.specs.Common.{LinkOf, Meant, name_of_row}
-use Rattle.proto_names.specs.Renewal.{link_of_parts}
+use Rattle.proto_names.specs.Common.{Meant}
 use Rattle.proto_names.proofs.WaysBack.{lists_rise, meant_back, names_unchanged, references_back, rows_back, size_unchanged, table_back}
-use Rattle.proto_names.proofs.link.Link.renew.Goals.{After-take_back, in-Ok-true+in-Err-follow, in-Ok-false, in-Err}
+use Rattle.proto_names.proofs.link.Link.renew.Goals.{in-Ok-true+in-Err-follow, in-Ok-false, in-Err}
 use Rattle.proto_names.proofs.link.Link.renew.Goals as goal
 
 pub invariant_of-self : goal.invariant_of-self
@@ -54,11 +53,13 @@ returns-clause-kept g c = λ other.
     let count : log.count ≡ length was.references.items = omega (arith, none.count, c.len-count.ensures, was.references.ok.0) in
     let same = c.renew_parts-renewed.ensures.undone in
     let table = table_back log last.log was.table last.table was.rows.items last.rows.items was.meant.items last.meant.items was.references.items last.references.items same none.rows none.meant none.references count none.names in
+    let imports = ap (map (λ v. v.items)) (c.take_back.ensures.imports ∙ c.renew_parts-renewed.ensures.imports) in
+    let seen = ap (map (λ v. v.items)) (c.take_back.ensures.seen ∙ c.renew_parts-renewed.ensures.seen) in
     let rows = ap (map (λ v. v.items)) (c.take_back.ensures.rows ∙ rows_back log last.log was.table last.table was.rows.items last.rows.items was.meant.items last.meant.items was.references.items last.references.items same none.rows none.meant none.references count) in
     let meant = ap (map (λ v. v.items)) (c.take_back.ensures.meant ∙ meant_back log last.log was.table last.table was.rows.items last.rows.items was.meant.items last.meant.items was.references.items last.references.items same none.rows none.meant none.references count) in
     let references = ap (map (λ v. v.items)) (c.take_back.ensures.references ∙ references_back log last.log was.table last.table was.rows.items last.rows.items was.meant.items last.meant.items was.references.items last.references.items same none.rows none.meant none.references count) in
     let names = names_unchanged was.table c.take_back.new.table (c.take_back.ensures.unchanged was.table table) in (
-      (λ i. record { names = names i; imports = map (λ v. v.items) was.imports.items; rows = rows i; seen = map (λ v. v.items) was.seen.items; meant = meant i; references = references i }) ∙ c.self.view_is,
+      (λ i. record { names = names i; imports = imports i; rows = rows i; seen = seen i; meant = meant i; references = references i }) ∙ c.self.view_is,
       elim c.match-renewed.branch [
         | in-Ok-true+in-Err-follow w ↦ w.made-is ∙ w.in-Err-follow.ensures.kept
         | in-Ok-false w ↦ w.made-is

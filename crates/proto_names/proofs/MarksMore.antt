@@ -1,0 +1,33 @@
+-- Marks of what changed are so still where more files are marked.
+use Rattle.std.proofs.Common.{ℕ, Bool, List, [], get_or, inl, inr}
+use Rattle.proto_faults.proofs.Common.{All-weaker}
+use Rattle.proto_kept_lists.specs.declared.backlinks.RefId.{RefId}
+use Rattle.proto_kept_references.specs.ChangedFiles.{AreChangesMarked, IsChangeMarked, StaysOrIsMarked, WasOrIsMarked}
+use Rattle.proto_kept_references.specs.Marking.{AreReferencesMarked, IsMarked, MarksStay}
+use Rattle.proto_kept_references.specs.declared.outer_rows.KindRow.{KindRow}
+use Rattle.proto_names.specs.Common.{Meant}
+use Rattle.proto_table.specs.declared.table.Table.{Table}
+
+module _ (t : Table) (marks more : List Bool) (stay : MarksStay marks more) (references : List (List RefId)) (meant : List (List Meant)) where
+  users : (rs : List RefId) → AreReferencesMarked marks rs → AreReferencesMarked more rs
+  users rs h = All-weaker (λ (r : RefId). IsMarked marks r.file) (λ (r : RefId). IsMarked more r.file) (λ r m. stay.set r.file m) rs h
+
+  stays : (now : List KindRow) (p : KindRow) → StaysOrIsMarked marks references now p → StaysOrIsMarked more references now p
+  stays now p (inl c) = inl c
+  stays now p (inr m) = inr (users (get_or references p.row []) m)
+
+  was : (before : List KindRow) (p : KindRow) → WasOrIsMarked t marks meant before p → WasOrIsMarked t more meant before p
+  was before p (inl c) = inl c
+  was before p (inr begin) = inr (λ front word plain name file m there key. stay.set file (begin front word plain name file m there key))
+
+  change : (before now : List KindRow) → IsChangeMarked t marks references meant before now → IsChangeMarked t more references meant before now
+  change before now is = record {
+    gone = All-weaker (StaysOrIsMarked marks references now) (StaysOrIsMarked more references now) (stays now) before is.gone;
+    came = All-weaker (WasOrIsMarked t marks meant before) (WasOrIsMarked t more meant before) (was before) now is.came;
+  }
+
+  pub changes_stay_marked : (places : List ℕ) (before now : List (List KindRow)) → AreChangesMarked t marks places references meant before now → AreChangesMarked t more places references meant before now
+  changes_stay_marked places before now is = record {
+    edited = All-weaker (IsMarked marks) (IsMarked more) stay.set places is.edited;
+    each = λ k l. change (get_or before k []) (get_or now k []) (is.each k l);
+  }

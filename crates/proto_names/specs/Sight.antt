@@ -1,0 +1,48 @@
+-- The imports of files and what each file sees, before some are edited and now.
+use Rattle.std.specs.Prelude.{◌≡◌, ℕ, ◌<◌, Bool, List, [], length, get_or, Option, Some, None}
+use Rattle.std.specs.Global.{Vec}
+use Rattle.std.specs.List.{Contains}
+use Rattle.proto_files.specs.FilesRead.{AreRead, ReadOf}
+use Rattle.proto_files.specs.GivenFiles.{FileOf}
+use Rattle.proto_imports.specs.Importing.{all_imports}
+use Rattle.proto_imports.specs.Links.{link_imports, names_of_files}
+use Rattle.proto_imports.specs.declared.import.FileImport.{FileImport}
+use Rattle.proto_meaning.specs.Linked.{ImportsAreOfFiles}
+use Rattle.proto_meaning.specs.Marks.{MarksSeen}
+use Rattle.proto_relink.specs.Edited.{AreSameBut}
+use Rattle.proto_relink.specs.Relinked.{NoImportIsFaulty}
+
+-- for each file, its imports
+pub record AreLinkImports (files : List FileOf) (reads : List ReadOf)
+    (imports : List (List FileImport)) : Type 0 where
+  pub count : length imports ≡ length files
+  pub same : all_imports 0 imports ≡ link_imports files reads
+
+-- no import of the files is faulty, and for each file these are the marks of the files that it sees
+pub record IsSightOf (files : List FileOf) (reads : List ReadOf) (seen : List (List Bool))
+    : Type 0 where
+  pub sound : NoImportIsFaulty files reads
+  pub between : ImportsAreOfFiles (names_of_files files reads)
+  pub count : length seen ≡ length files
+  pub marks : (file : ℕ) → file < length files
+      → MarksSeen (names_of_files files reads) file (get_or seen file [])
+
+-- these were the imports and the marks of files of which these are the same but at these places
+pub record WasSight (places : List ℕ) (files : List FileOf) (imports : List (List FileImport))
+    (seen : List (List Bool)) : Type 0 where
+  pub before : List FileOf
+  pub was : List ReadOf
+  pub same : AreSameBut places before files
+  pub were_read : AreRead before was
+  pub listed : AreLinkImports before was imports
+  pub sight : IsSightOf before was seen
+
+-- the marks of all files but these are as they were
+abbrev pub StayBut : List ℕ → List (List Bool) → List (List Bool) → Type 0
+StayBut others before now =
+    (file : ℕ) → (Contains others file → ⊥) → get_or now file [] ≡ get_or before file []
+
+-- the marks of all files as they were: those that were put away, if they were
+abbrev pub undone_seen : Option (Vec (Vec Bool)) → List (Vec Bool) → List (Vec Bool)
+undone_seen None seen = seen
+undone_seen (Some was) seen = was.items
