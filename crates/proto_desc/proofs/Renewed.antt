@@ -9,16 +9,17 @@ use Rattle.proto_relink.specs.Edited.{AreSameBut}
 use Rattle.proto_descriptors.proofs.Common.{FileDesc, file_desc}
 use Rattle.proto_descriptors.specs.declared.file.FileDescriptor.{FileDescriptor}
 use Rattle.proto_scenes.specs.LinkOfFiles.{IsLinkOf}
+use Rattle.proto_names.specs.Following.{WasMadeOf}
 use Rattle.proto_names.specs.Linking.{LinkOf}
 use Rattle.proto_extensions.proofs.NoExtensions.{no_flaw}
 use Rattle.proto_kept_checks.specs.Checked.{AreKeptOf, IsKeptStill, KeptFileOf, KeptFilesTellSpared, StaysKept, kept_file}
 use Rattle.proto_kept_checks.specs.Extended.{ExtendsAreSpared, HasNoExtend, SparedFilesStayFlawless}
 use Rattle.proto_kept_checks.specs.Spared.{AreSoundlyEdited, CleanEditsAreSound, SparedDescriptorsStay}
-use Rattle.proto_spared_files.specs.Common.{AreOthersKept, HasNoMarkedExtends, kept_file_of, kept_files_of, nothing_kept}
+use Rattle.proto_spared_files.specs.Common.{AreOthersKept, AreOthersKeptAsTold, HasNoMarkedExtends, kept_file_of, kept_files_of, nothing_kept}
 use Rattle.proto_spared_files.specs.declared.kept_file.KeptFile.{KeptFile}
 use Rattle.proto_desc.specs.Checked.{AreDescribed}
 use Rattle.proto_desc.specs.Common.{CheckFaults, described_from, fault_of_flaw, flaws_of, of_flaw}
-use Rattle.proto_desc.specs.Edited.{AreCleanlyDescribed, AreDescriptorsOf, WereDescribed}
+use Rattle.proto_desc.specs.Edited.{AreCheckedDescriptors, AreDescriptorsOf, WereDescribed}
 use Rattle.proto_desc.specs.Renewing.{AreMade, ArePut, IsMade, IsMadeIfMarked, IsPut}
 use Rattle.proto_desc.specs.Views.{files_desc, files_kept}
 use Rattle.proto_desc.specs.Whole.FileFaults.{of_check, of_link}
@@ -83,13 +84,37 @@ made_none files false file (Some m) h e = absurd h
 as_many : (places : List ℕ) (before files : List FileOf) → AreSameBut places before files → length before ≡ length files
 as_many places before files same = sym (length-map before (λ (f : FileOf). f.path)) ∙ ap length same.paths ∙ length-map files (λ (f : FileOf). f.path)
 
+-- what was made of files before
+abbrev pub WasMade : List FileOf → List ℕ → Option (List Bool) → Descriptors → Type 0
+WasMade = WasMadeOf AreCheckedDescriptors
+
+-- descriptors of files without a fault were so
+pub was_made : (files : List FileOf) (places : List ℕ) (d : Descriptors) → WereDescribed files places d → WasMade files places None d
+was_made files places d were = record {
+  before = were.0;
+  clean = λ y h. were.1.clean y (of_link y h);
+  reads = were.1.reads;
+  read = were.1.read;
+  made = (were.1.descriptors, λ y h. were.1.clean y (of_check y h));
+  same = were.2;
+  look = tt;
+}
+
 -- there are as many descriptors as files
-pub counts : (files : List FileOf) (places : List ℕ) (d : Descriptors) → WereDescribed files places d → (length d.file.items ≡ length files) × (length d.kept.items ≡ length files)
-counts files places d were =
-    let same = as_many places were.0 files were.2 in (
-      as_many_described were.0 were.1.reads d.file.items were.1.read were.1.descriptors.described ∙ same,
-      as_many_kept were.0 d.kept.items were.1.descriptors.kept ∙ same,
+pub counts : (files : List FileOf) (places : List ℕ) (told : Option (List Bool)) (d : Descriptors) → WasMade files places told d → (length d.file.items ≡ length files) × (length d.kept.items ≡ length files)
+counts files places told d was =
+    let same = as_many places was.before files was.same in (
+      as_many_described was.before was.reads d.file.items was.read was.made.0.described ∙ same,
+      as_many_kept was.before d.kept.items was.made.0.kept ∙ same,
     )
+
+-- where marks were told, those that were made by them leave out none but what the edit spares
+pub kept_as_told : CleanEditsAreSound → (files : List FileOf) (places : List ℕ) (told : List Bool) (d : Descriptors) → WasMade files places (Some told) d → HasNoFault (LinkFaults files) → (reads : List ReadOf) → AreRead files reads → (l : LinkOf) (marks : List Bool)
+    → AreOthersKeptAsTold places files l (files_kept d) told marks → AreOthersKept places files l (files_kept d) marks
+kept_as_told sound files places told d was clean reads read l marks kept =
+    kept was.before was.reads reads
+    (sound places was.before was.reads files reads (record { same = was.same; were_read = was.read; are_read = read }) was.clean clean)
+    was.clean was.made.0.kept (was.look.look was.reads reads was.read read)
 
 -- marks of files that leave out none but what the edit spares, and none that has or had an `extend` block
 pub record AreMarks (places : List ℕ) (files : List FileOf) (l : LinkOf) (ks : List KeptFileOf) (marks : List Bool) : Type 0 where
@@ -178,45 +203,39 @@ pub record AreLaws : Type 0 where
   pub described : SparedDescriptorsStay
   pub flawless : SparedFilesStayFlawless
 
-module _ (laws : AreLaws) (places : List ℕ) (files : List FileOf) (clean : HasNoFault (LinkFaults files)) (old : Descriptors) (before : List FileOf) (cleanly : AreCleanlyDescribed before old) (same : AreSameBut places before files)
+module _ (laws : AreLaws) (places : List ℕ) (files : List FileOf) (clean : HasNoFault (LinkFaults files)) (told : Option (List Bool)) (old : Descriptors) (was : WasMade files places told old)
     (l : LinkOf) (marks : List Bool) (are : AreMarks places files l (files_kept old) marks) (all : List (Option Made)) (made : AreMade files marks all) where
-  clean_link : HasNoFault (LinkFaults before)
-  clean_link y h = cleanly.clean y (of_link y h)
-
-  clean_checks : HasNoFault (CheckFaults before)
-  clean_checks y h = cleanly.clean y (of_check y h)
-
-  is_sound : (reads : List ReadOf) → AreRead files reads → AreSoundlyEdited places before cleanly.reads files reads
-  is_sound reads read = laws.sound places before cleanly.reads files reads (record { same = same; were_read = cleanly.read; are_read = read }) clean_link clean
+  is_sound : (reads : List ReadOf) → AreRead files reads → AreSoundlyEdited places was.before was.reads files reads
+  is_sound reads read = laws.sound places was.before was.reads files reads (record { same = was.same; were_read = was.read; are_read = read }) was.clean clean
 
   renewed_clean : HasNoFault (CheckFaults files)
-  renewed_clean = clean_files files (λ reads read. flawless laws.tells places before cleanly.reads files reads (is_sound reads read) clean_link l old cleanly.descriptors.kept marks are all made laws.flawless clean_checks)
+  renewed_clean = clean_files files (λ reads read. flawless laws.tells places was.before was.reads files reads (is_sound reads read) was.clean l old was.made.0.kept marks are all made laws.flawless was.made.1)
 
   module _ (new : Descriptors) (put : ArePut all old new) where
-    count : length before ≡ length files
-    count = as_many places before files same
+    count : length was.before ≡ length files
+    count = as_many places was.before files was.same
 
     renewed_kept : AreKeptOf files (files_kept new)
     renewed_kept =
-        let n : length (files_kept new) ≡ length files = length-map new.kept.items kept_file_of ∙ put.kept ∙ as_many_kept before old.kept.items cleanly.descriptors.kept ∙ count in
+        let n : length (files_kept new) ≡ length files = length-map new.kept.items kept_file_of ∙ put.kept ∙ as_many_kept was.before old.kept.items was.made.0.kept ∙ count in
         record {
           len = n;
           each = λ file k within reads read.
               get_or_from_slice_get (files_kept new) file (kept_file files reads file) k
-              (kept_now laws.tells places before cleanly.reads files reads (is_sound reads read) clean_link l old cleanly.descriptors.kept marks are all made new put file (omega (arith, within, n)));
+              (kept_now laws.tells places was.before was.reads files reads (is_sound reads read) was.clean l old was.made.0.kept marks are all made new put file (omega (arith, within, n)));
         }
 
     renewed_described : AreDescribed files (files_desc new)
     renewed_described = λ reads read.
-        each_described files reads new.file.items read (put.files ∙ as_many_described before cleanly.reads old.file.items cleanly.read cleanly.descriptors.described ∙ count)
-        (described_now laws.tells places before cleanly.reads files reads (is_sound reads read) clean_link l old cleanly.descriptors.kept marks are all made new put laws.described cleanly.descriptors.described)
+        each_described files reads new.file.items read (put.files ∙ as_many_described was.before was.reads old.file.items was.read was.made.0.described ∙ count)
+        (described_now laws.tells places was.before was.reads files reads (is_sound reads read) was.clean l old was.made.0.kept marks are all made new put laws.described was.made.0.described)
 
 -- what was made and put, beside what was spared, is what is made of the files, which have no flaw
-pub renewed : AreLaws → (places : List ℕ) (files : List FileOf) → HasNoFault (LinkFaults files) → (old new : Descriptors) → WereDescribed files places old → (l : LinkOf) (marks : List Bool) → AreMarks places files l (files_kept old) marks → (all : List (Option Made)) → AreMade files marks all → ArePut all old new → HasNoFault (CheckFaults files) × AreDescriptorsOf files new
-renewed laws places files clean old new were l marks are all made put = (
-  renewed_clean laws places files clean old were.0 were.1 were.2 l marks are all made,
+pub renewed : AreLaws → (places : List ℕ) (files : List FileOf) → HasNoFault (LinkFaults files) → (told : Option (List Bool)) (old new : Descriptors) → WasMade files places told old → (l : LinkOf) (marks : List Bool) → AreMarks places files l (files_kept old) marks → (all : List (Option Made)) → AreMade files marks all → ArePut all old new → HasNoFault (CheckFaults files) × AreDescriptorsOf files new
+renewed laws places files clean told old new was l marks are all made put = (
+  renewed_clean laws places files clean told old was l marks are all made,
   record {
-    described = renewed_described laws places files clean old were.0 were.1 were.2 l marks are all made new put;
-    kept = renewed_kept laws places files clean old were.0 were.1 were.2 l marks are all made new put;
+    described = renewed_described laws places files clean told old was l marks are all made new put;
+    kept = renewed_kept laws places files clean told old was l marks are all made new put;
   },
 )

@@ -1,6 +1,6 @@
 -- What descriptors are of files, and what they were before some of these were edited.
 use Rattle.std.specs.Prelude.{ℕ, List}
-use Rattle.proto_desc.specs.Checked.{AreDescribed}
+use Rattle.proto_desc.specs.Checked.{AreDescribed, CheckFaults}
 use Rattle.proto_desc.specs.Views.{files_desc, files_kept}
 use Rattle.proto_desc.specs.Whole.{FileFaults}
 use Rattle.proto_desc.specs.declared.descriptors.Descriptors.{Descriptors}
@@ -14,6 +14,10 @@ use Rattle.proto_relink.specs.Edited.{AreSameBut}
 pub record AreDescriptorsOf (files : List FileOf) (d : Descriptors) : Type 0 where
   pub described : AreDescribed files (files_desc d)
   pub kept : AreKeptOf files (files_kept d)
+
+-- so they are, and the checks find no fault in the files
+abbrev pub AreCheckedDescriptors : List FileOf → Descriptors → Type 0
+AreCheckedDescriptors files d = AreDescriptorsOf files d × HasNoFault (CheckFaults files)
 
 -- the descriptors of files that are read and have no fault
 pub record AreCleanlyDescribed (files : List FileOf) (d : Descriptors) : Type 0 where

@@ -1,11 +1,12 @@
 //! Copies of descriptors, and descriptors of files of which some were edited.
 
-ghost use Rattle.std.specs.Prelude.{◌≡◌, ◌<◌, length, All, IfOk, IfErr, OnOk, OnErr};
+ghost use Rattle.std.specs.Prelude.{◌≡◌, ◌<◌, length, option_map, All, IfOk, IfErr, OnOk, OnErr};
 ghost use Rattle.proto_desc.specs.Checked.{CheckFaults, IsCheckError};
-ghost use Rattle.proto_desc.specs.Edited.{AreDescriptorsOf, WereDescribed};
+ghost use Rattle.proto_desc.specs.Edited.{AreCheckedDescriptors, AreDescriptorsOf, WereDescribed};
 ghost use Rattle.proto_desc.specs.Views.{files_desc, files_kept};
 ghost use Rattle.proto_files.specs.Faults.{HasNoFault};
 ghost use Rattle.proto_imports.specs.Links.{LinkFaults};
+ghost use Rattle.proto_names.specs.Following.{WasMadeOf};
 ghost use Rattle.proto_scenes.specs.LinkOfFiles.{IsLinkOf};
 
 use crate::checking::check;
@@ -46,7 +47,29 @@ impl Descriptors {
         ensures fault { IfErr result (IsCheckError files.now) }
         ensures kept { OnErr result (self.new ≡ self.old) }
     {
-        if !self.renew(alloc, files, link, places)? {
+        self.renew_or_check(alloc, files, link, places, None)
+    }
+
+    /// The same; marks may be told of the files that have to be looked at again.
+    fn renew_or_check(
+        &mut self,
+        alloc: Global,
+        files: &Files,
+        link: &Link,
+        places: &[u32],
+        told: Option<&[bool]>,
+    ) -> Result<(), SchemaFault>
+        requires places { All (λ place. place < length files.now) places.now }
+        requires link { IsLinkOf files.now link.now }
+        requires clean { HasNoFault (LinkFaults files.now) }
+        requires were { WasMadeOf AreCheckedDescriptors files.now places.now
+            (option_map (λ marks. marks.now) told) self.old }
+        ensures clean { IfOk result (λ _. HasNoFault (CheckFaults files.now)) }
+        ensures descriptors { OnOk result (AreDescriptorsOf files.now self.new) }
+        ensures fault { IfErr result (IsCheckError files.now) }
+        ensures kept { OnErr result (self.new ≡ self.old) }
+    {
+        if !self.renew(alloc, files, link, places, told)? {
             *self = check(alloc, files, link)?;
         }
         Ok(())
@@ -54,20 +77,19 @@ impl Descriptors {
 }
 
 impl MadeOfLink for Descriptors {
-    ghost WasMade = { WereDescribed };
-
-    ghost IsMade = { λ files d. AreDescriptorsOf files d × HasNoFault (CheckFaults files) };
+    ghost IsMade = { AreCheckedDescriptors };
 
     ghost IsRefused = { IsCheckError };
 
-    /// As `replace`.
+    /// As `replace`; the marks that are told spare a look at each reference of all files.
     fn follow(
         &mut self,
         alloc: Global,
         files: &Files,
         link: &Link,
         places: &[u32],
+        told: Option<&[bool]>,
     ) -> Result<(), SchemaFault> {
-        self.replace(alloc, files, link, places)
+        self.renew_or_check(alloc, files, link, places, told)
     }
 }

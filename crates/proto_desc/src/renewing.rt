@@ -1,13 +1,16 @@
 //! Descriptors of edited files, made anew as far as the edit does not spare them.
 
-ghost use Rattle.std.specs.Prelude.{◌≡◌, ℕ, ◌<◌, true, false, length, get_or, All, IfOk, IfSome, OnErr};
+ghost use Rattle.std.specs.Prelude.{◌≡◌, ℕ, ◌<◌, true, false, length, get_or, option_map, All, IfOk, IfSome, OnErr};
 ghost use Rattle.proto_desc.specs.Checked.{CheckFaults};
-ghost use Rattle.proto_desc.specs.Edited.{AreDescriptorsOf, WereDescribed};
+ghost use Rattle.proto_desc.specs.Edited.{AreCheckedDescriptors, AreDescriptorsOf};
 ghost use Rattle.proto_desc.specs.Renewing.{AreMade, ArePut, IsMade, IsPutAlone};
+ghost use Rattle.proto_desc.specs.Views.{files_kept};
 ghost use Rattle.proto_files.specs.Faults.{HasNoFault};
 ghost use Rattle.proto_imports.specs.Links.{LinkFaults};
+ghost use Rattle.proto_names.specs.Following.{WasMadeOf};
 ghost use Rattle.proto_scenes.specs.LinkOfFiles.{IsLinkOf};
 ghost use Rattle.proto_scenes.specs.Meanings.{HasEnumsMeant};
+ghost use Rattle.proto_spared_files.specs.Marks.{AreOthersKept};
 
 use crate::described::file_descriptor;
 use crate::descriptors::Descriptors;
@@ -15,16 +18,18 @@ use indexmap::IndexMap;
 use proto_checks::file_flaws;
 use proto_descriptors::FileDescriptor;
 use proto_faults::NoMemory;
-use proto_files::Files;
-use proto_kept_checks::laws::{
-    clean_edits_are_sound, kept_files_tell_spared, links_have_what_is_kept, spared_files_stay,
-};
+use proto_files::{Files, are_read};
+use proto_kept_checks::laws::{clean_edits_are_sound, kept_files_tell_spared, spared_files_stay};
 use proto_scenes::Link;
 use proto_scenes::enum_table::{EnumRow, enum_table_of};
 use proto_scenes::scenes::scene;
 use proto_spared_files::KeptFile;
-use proto_spared_files::marks::{files_of_enums, files_to_check, has_no_marked_extends};
+use proto_spared_files::laws::wanted_enums_are_there;
+use proto_spared_files::marks::{
+    files_of_enums, files_to_check, has_no_marked_extends, told_files_to_check,
+};
 use std::alloc::Global;
+use std::hash::{BuildHasherDefault, FoldHasher};
 
 /// The descriptor of a file that was checked again, and what is kept of it.
 #[derive(Drop)]
@@ -114,21 +119,53 @@ impl Descriptors {
         }
     }
 
+    /// Marks of the files that the edit does not spare: by the marks of those that have to be
+    /// looked at again, where these are told, else by each reference of all files. Refused for want
+    /// of memory alone.
+    fn unspared(
+        &self,
+        alloc: Global,
+        files: &Files,
+        link: &Link,
+        places: &[u32],
+        told: Option<&[bool]>,
+    ) -> Result<Vec<bool>, NoMemory>
+        requires places { All (λ place. place < length files.now) places.now }
+        requires link { IsLinkOf files.now link.now }
+        requires clean { HasNoFault (LinkFaults files.now) }
+        requires were { WasMadeOf AreCheckedDescriptors files.now places.now
+            (option_map (λ marks. marks.now) told) self.now }
+        ensures len { IfOk result (λ marks. length marks.items ≡ length files.now) }
+        ensures others { IfOk result (λ marks. AreOthersKept places.now files.now link.now
+            (files_kept self.now) marks.items) }
+    {
+        // Each file is read, and by the law no name clashes with another.
+        are_read(files);
+        clean_edits_are_sound();
+        match told {
+            Some(told) => told_files_to_check(alloc, files, link, places, &self.kept, told),
+            None => files_to_check(alloc, files, link, places, &self.kept),
+        }
+    }
+
     /// Makes these the descriptors of the files, which are those that they were of but at these
-    /// places, as far as the edit does not spare a file. Answers false where it gives up: where a
-    /// file that is not spared has a flaw, or has or had an `extend` block. Refused for want of
-    /// memory alone. Where it does not answer true, nothing is changed.
+    /// places, as far as the edit does not spare a file. Marks may be told of the files that have
+    /// to be looked at again. Answers false where it gives up: where a file that is not spared has
+    /// a flaw, or has or had an `extend` block. Refused for want of memory alone. Where it does not
+    /// answer true, nothing is changed.
     pub(crate) fn renew(
         &mut self,
         alloc: Global,
         files: &Files,
         link: &Link,
         places: &[u32],
+        told: Option<&[bool]>,
     ) -> Result<bool, NoMemory>
         requires places { All (λ place. place < length files.now) places.now }
         requires link { IsLinkOf files.now link.now }
         requires clean { HasNoFault (LinkFaults files.now) }
-        requires were { WereDescribed files.now places.now self.old }
+        requires were { WasMadeOf AreCheckedDescriptors files.now places.now
+            (option_map (λ marks. marks.now) told) self.old }
         ensures clean { IfOk result (λ done. done ≡ true → HasNoFault (CheckFaults files.now)) }
         ensures descriptors { IfOk result (λ done. done ≡ true
             → AreDescriptorsOf files.now self.new) }
@@ -140,8 +177,8 @@ impl Descriptors {
         clean_edits_are_sound();
         kept_files_tell_spared();
         spared_files_stay();
-        links_have_what_is_kept();
-        let marks = files_to_check(alloc, files, link, places, &self.kept)?;
+        wanted_enums_are_there::<BuildHasherDefault<FoldHasher>>();
+        let marks = self.unspared(alloc, files, link, places, told)?;
         if !has_no_marked_extends(files, &marks, &self.kept) {
             return Ok(false);
         }

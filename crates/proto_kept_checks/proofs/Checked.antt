@@ -22,13 +22,13 @@ use Rattle.proto_kept_checks.proofs.Unedited.{as_many, same_reading}
 
 -- ---- references
 
-plain_meaning : (files : List FileOf) (reads : List ReadOf) → AreRead files reads → (file : ℕ) (u : Used ℕ) (name : List (List ℕ)) → meaning_of files reads file u ≡ Some name → ArePlain name
+pub plain_meaning : (files : List FileOf) (reads : List ReadOf) → AreRead files reads → (file : ℕ) (u : Used ℕ) (name : List (List ℕ)) → meaning_of files reads file u ≡ Some name → ArePlain name
 plain_meaning files reads read file u name means =
     let t = meant (names_of_files files reads) (used_named (text_of files reads) file u) name means in
     subst ArePlain t.2 (names_are_plain files reads read t.0 t.1)
 
 -- in files without faults each means something
-resolved : (files : List FileOf) (reads : List ReadOf) → AreRead files reads → HasNoFault (LinkFaults files) → (file : ℕ) (u : Used ℕ) → file < length reads → Contains (uses_of reads file) u → meaning_of files reads file u ≡ None → ⊥
+pub resolved : (files : List FileOf) (reads : List ReadOf) → AreRead files reads → HasNoFault (LinkFaults files) → (file : ℕ) (u : Used ℕ) → file < length reads → Contains (uses_of reads file) u → meaning_of files reads file u ≡ None → ⊥
 resolved files reads read clean file u l c none =
     let zero_more : 0 + file ≡ file = omega arith in
     let there : Contains (all_used 0 (map names_in reads)) (used_in file u) = subst (λ n. Contains (all_used 0 (map names_in reads)) (used_in n u)) zero_more (use_in 0 file reads u l c) in

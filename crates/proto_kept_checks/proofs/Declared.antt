@@ -61,7 +61,7 @@ declared_in n (suc k) (r ∷ rs) p l c =
     (Contains-append_right (file_declared n (names_in r)) (all_declared (suc n) (map names_in rs)) (declares (suc n + k) p) (declared_in (suc n) k rs p (omega (arith, l)) c))
 
 -- it stands there
-place_file : (k : ℕ) (x : At) (path : List (Source ℕ)) → x.file ≡ k → (place_from x (map (shifted_source (at k)) path)).file ≡ k
+pub place_file : (k : ℕ) (x : At) (path : List (Source ℕ)) → x.file ≡ k → (place_from x (map (shifted_source (at k)) path)).file ≡ k
 place_file k x [] e = e
 place_file k x (Token t ∷ path) e = place_file k (at k t) path refl
 place_file k x (EntryOf t ∷ path) e = place_file k (at k t) path refl

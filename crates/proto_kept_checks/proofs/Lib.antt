@@ -2,6 +2,8 @@ mod Checked
 mod Declared
 mod Extensions
 mod Linked
+mod Listed
+mod Marked
 mod MessageBlocks
 mod Scenes
 mod Unedited

@@ -121,7 +121,7 @@ module _ (files : List FileOf) (reads : List ReadOf) (l : LinkOf) (link : IsLink
 
 -- ---- the references of a file
 
-paired : {A B C : Type 0} (f : A → C) (g : B → C) (xs : List A) (ys : List B) → map f xs ≡ map g ys → (y : B) → Contains ys y → (x : A) × Contains xs x × (f x ≡ g y)
+pub paired : {A B C : Type 0} (f : A → C) (g : B → C) (xs : List A) (ys : List B) → map f xs ≡ map g ys → (y : B) → Contains ys y → (x : A) × Contains xs x × (f x ≡ g y)
 paired {C = C} f g xs ys e y c = from_map f xs (g y) (subst (λ (zs : List C). Contains zs (g y)) (sym e) (contains_map g ys y c))
 
 pub links_have_what_is_kept : LinksHaveWhatIsKept

@@ -10,6 +10,7 @@ use Rattle.proto_meaning.specs.Joined.{joined}
 use Rattle.proto_meaning.specs.declared.kind.Kind.{Kind}
 use Rattle.proto_meaning.specs.declared.kind.Kind.TheVariants as kind
 use Rattle.proto_imports.specs.Links.{LinkFaults}
+use Rattle.proto_relink.specs.Relinked.{HasToLook}
 use Rattle.proto_names.specs.LinkOfFiles.{IsLinkOf}
 use Rattle.proto_names.specs.Linking.{LinkOf, Meant, declaring_file, name_at, name_text}
 use Rattle.proto_names.specs.Links.{uses_of}
@@ -95,6 +96,19 @@ MeantMessagesAreNoEnums =
     → All (λ m. (kept_by_link l m).is_message ≡ true
     → enum_of_name l (enum_at files reads) m.row ≡ None) (get_or l.meant file [])
 
+-- a reference of this file is among those that mean its name, and the name among those that the
+-- file declares which declares it
+pub record IsListed (l : LinkOf) (file : ℕ) (m : Meant) : Type 0 where
+  pub reference : Contains (get_or l.references m.row []) (record { file = file; token = m.token })
+  pub name : (own : ℕ) → declaring_file l m.row ≡ Some own → Contains (get_or l.rows own []) m.row
+
+-- so it is with each reference that a link of files has
+abbrev pub LinksListReferences : Type 0
+LinksListReferences =
+    (files : List FileOf) (l : LinkOf) → IsLinkOf files l
+    → (reads : List ReadOf) → AreRead files reads → (file : ℕ) → file < length files
+    → All (IsListed l file) (get_or l.meant file [])
+
 -- ---- which files are spared
 
 -- no file at these places declares the name in the row
@@ -144,3 +158,24 @@ KeptFilesTellSpared =
     → (l : LinkOf) → IsLinkOf files l
     → (file : ℕ) → IsKeptStill places files l (kept_file before was file) file
     → StaysKept places before was files reads file
+
+-- ---- which files are told to be looked at again
+
+-- what the reference means stands in a file that is not edited; or, of a file without an `extend`
+-- block, it is a message's
+abbrev pub IsSettled : List ℕ → LinkOf → Bool → Meant → Type 0
+IsSettled places l extends m =
+    IsElsewhere places l m.row ⊎ ((extends ≡ false) × ((kept_by_link l m).is_message ≡ true))
+
+-- of a file that need not be looked at again the references mean the names that they meant, and a
+-- message's was one; so it is spared, where each of its references is settled
+abbrev pub MarksTellKept : Type 0
+MarksTellKept =
+    (key : Text → ℕ) (places : List ℕ) (before : List FileOf) (was : List ReadOf)
+    → (files : List FileOf) (reads : List ReadOf) (marks : List Bool)
+    → AreSoundlyEdited places before was files reads → HasNoFault (LinkFaults before)
+    → HasToLook key places before was files reads marks
+    → (l : LinkOf) → IsLinkOf files l
+    → (file : ℕ) → file < length files → get_or marks file false ≡ false
+    → All (IsSettled places l (has_extend (read_at was file).tree)) (get_or l.meant file [])
+    → IsKeptStill places files l (kept_file before was file) file

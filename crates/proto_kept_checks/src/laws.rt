@@ -1,8 +1,10 @@
 //! The laws, as functions that do nothing.
 
-ghost use Rattle.proto_kept_checks.specs.Checked.{KeptFilesTellSpared, LinksHaveWhatIsKept, MeantMessagesAreNoEnums};
+ghost use Rattle.proto_kept_checks.specs.Checked.{KeptFilesTellSpared, LinksHaveWhatIsKept, LinksListReferences, MarksTellKept, MeantMessagesAreNoEnums};
 ghost use Rattle.proto_kept_checks.specs.Extended.{SparedFilesStayFlawless, SparedFlawsStay, SparedFlawsOfFilesStay};
 ghost use Rattle.proto_kept_checks.specs.Spared.{CleanEditsAreSound, SparedDescriptorsStay, SparedScenesStay};
+
+use proto_relink::laws::{edited_files_differ, relinked_are_clean};
 
 /// Files are soundly edited that had no fault of imports, names and references, and have none now.
 pub fn clean_edits_are_sound()
@@ -23,10 +25,12 @@ pub fn spared_files_stay()
 {}
 
 /// A link has of each reference what is kept of it (`kept`). Where it says that a name which a
-/// reference means is a message's, there is no enum (`enums`).
+/// reference means is a message's, there is no enum (`enums`). Each reference is among those that
+/// mean its name, and the name among those of the file that declares it (`listed`).
 pub fn links_have_what_is_kept()
     ensures kept { LinksHaveWhatIsKept }
     ensures enums { MeantMessagesAreNoEnums }
+    ensures listed { LinksListReferences }
 {}
 
 /// What is kept of a file that is not edited tells with the link of the edited files that the file
@@ -35,3 +39,13 @@ pub fn links_have_what_is_kept()
 pub fn kept_files_tell_spared()
     ensures { KeptFilesTellSpared }
 {}
+
+/// Where the files that have to be looked at again are marked, what is kept of any other tells that
+/// it is spared, if what its references mean stands in files that are not edited, or is messages',
+/// and the file had no `extend` block.
+pub fn marks_tell_kept()
+    ensures { MarksTellKept }
+{
+    edited_files_differ();
+    relinked_are_clean();
+}

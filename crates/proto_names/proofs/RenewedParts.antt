@@ -156,42 +156,50 @@ module _ (files : List FileOf) (places : List ℕ) (old : Table) (imports : List
       came = came;
     }
 
-    -- ---- the link
+    -- ---- which files have to be looked at again
 
     module _ (table : IsTable t) (others : List ℕ) (seen_now : List (Vec Bool)) (sight_is : (reads : List ReadOf) → AreRead files reads → IsSightOf files reads (map (λ v. v.items) seen_now))
-        (kept : StayBut others (map (λ v. v.items) seen) (map (λ v. v.items) seen_now)) (others_marked : ArePlacesMarked marks others)
-        (meant_now : List (Vec Meant)) (again : (reads : List ReadOf) → AreRead files reads → AreMeantAgain marks t files reads (map (λ v. v.items) meant) (map (λ v. v.items) meant_now))
-        (reads : List ReadOf) (are : AreRead files reads) where
+        (kept : StayBut others (map (λ v. v.items) seen) (map (λ v. v.items) seen_now)) (others_marked : ArePlacesMarked marks others) where
       is_of : IsTableOf files_before reads_before l old rows
       is_of = of_before files places old imports rows seen meant references table_was link_was
-
-      sight : IsSightOf files reads (map (λ v. v.items) seen_now)
-      sight = sight_is reads are
 
       -- a file that sees others than before is marked
       same_marks : IsSightMarked marks l.seen (map (λ v. v.items) seen_now)
       same_marks file left = kept file (λ c. both_ways (get_or marks file false) left (All-contains (λ place. get_or marks place false ≡ true) others file others_marked c))
 
-      names : AreNamesRenewed places files_before reads_before old files reads t now
-      names = names_renewed table reads are (map (λ v. v.items) seen_now) sight
+      names_of_now : (reads : List ReadOf) → AreRead files reads → AreNamesRenewed places files_before reads_before old files reads t now
+      names_of_now reads are = names_renewed table reads are (map (λ v. v.items) seen_now) (sight_is reads are)
 
-      look : HasToLook word_key places files_before reads_before files reads marks
-      look = changes_have_to_look places marks files_before reads_before l old rows files reads t now is_of names changes_marked (map (λ v. v.items) seen_now) sight same_marks
+      pub parts_have_to_look : (reads : List ReadOf) → AreRead files reads → HasToLook word_key places files_before reads_before files reads marks
+      parts_have_to_look reads are = changes_have_to_look places marks files_before reads_before l old rows files reads t now is_of (names_of_now reads are) changes_marked (map (λ v. v.items) seen_now) (sight_is reads are) same_marks
 
-      pub parts_are_clean : HasNoFault (LinkFaults files)
-      parts_are_clean = renewed_are_clean places marks files_before reads_before l old rows files reads t now (map (λ v. v.items) meant_now) is_of names (map (λ v. v.items) seen_now) sight look (again reads are)
+      -- ---- the link
 
-      pub parts_are_link : (references_now : List (Vec RefId)) → length references_now ≡ length t.rows.items → AreReferencesOf (map (λ v. v.items) references_now) (map (λ v. v.items) meant_now)
-          → (imports_now : List (Vec FileImport)) → AreLinkImports files reads (map (λ v. v.items) imports_now) → IsLinkOf files (link_of_parts t imports_now now seen_now meant_now references_now)
-      parts_are_link references_now paired referred imports_now imports_are =
-          let new = link_of_parts t imports_now now seen_now meant_now references_now in
-          let made : IsMadeOf files reads t now (map (λ v. v.items) seen_now) (map (λ v. v.items) meant_now) new = record {
-            names = refl;
-            imports = imports_are;
-            declared = refl;
-            sight = refl;
-            meanings = refl;
-            paired = length-map references_now (λ v. v.items) ∙ paired ∙ sym (length-map t.rows.items name_of_row);
-            references = λ row. referred row ∙ references_by_row row (map (λ v. v.items) meant_now);
-          } in
-          renewed_link_of places marks files_before reads_before l old rows files reads t now (map (λ v. v.items) meant_now) is_of names (map (λ v. v.items) seen_now) sight look (again reads are) new made
+      module _ (meant_now : List (Vec Meant)) (again : (reads : List ReadOf) → AreRead files reads → AreMeantAgain marks t files reads (map (λ v. v.items) meant) (map (λ v. v.items) meant_now))
+          (reads : List ReadOf) (are : AreRead files reads) where
+        sight : IsSightOf files reads (map (λ v. v.items) seen_now)
+        sight = sight_is reads are
+
+        names : AreNamesRenewed places files_before reads_before old files reads t now
+        names = names_of_now reads are
+
+        look : HasToLook word_key places files_before reads_before files reads marks
+        look = parts_have_to_look reads are
+
+        pub parts_are_clean : HasNoFault (LinkFaults files)
+        parts_are_clean = renewed_are_clean places marks files_before reads_before l old rows files reads t now (map (λ v. v.items) meant_now) is_of names (map (λ v. v.items) seen_now) sight look (again reads are)
+
+        pub parts_are_link : (references_now : List (Vec RefId)) → length references_now ≡ length t.rows.items → AreReferencesOf (map (λ v. v.items) references_now) (map (λ v. v.items) meant_now)
+            → (imports_now : List (Vec FileImport)) → AreLinkImports files reads (map (λ v. v.items) imports_now) → IsLinkOf files (link_of_parts t imports_now now seen_now meant_now references_now)
+        parts_are_link references_now paired referred imports_now imports_are =
+            let new = link_of_parts t imports_now now seen_now meant_now references_now in
+            let made : IsMadeOf files reads t now (map (λ v. v.items) seen_now) (map (λ v. v.items) meant_now) new = record {
+              names = refl;
+              imports = imports_are;
+              declared = refl;
+              sight = refl;
+              meanings = refl;
+              paired = length-map references_now (λ v. v.items) ∙ paired ∙ sym (length-map t.rows.items name_of_row);
+              references = λ row. referred row ∙ references_by_row row (map (λ v. v.items) meant_now);
+            } in
+            renewed_link_of places marks files_before reads_before l old rows files reads t now (map (λ v. v.items) meant_now) is_of names (map (λ v. v.items) seen_now) sight look (again reads are) new made

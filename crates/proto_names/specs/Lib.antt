@@ -1,5 +1,6 @@
 pub mod Common
 pub mod FileReferences
+pub mod Following
 pub mod Laws
 pub mod LinkOfFiles
 pub mod Linking

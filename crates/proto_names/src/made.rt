@@ -1,12 +1,13 @@
 //! What is made of a link of files, and follows it where they are edited.
 
-ghost use Rattle.std.specs.Prelude.{◌≡◌, ◌<◌, List, ℕ, length, OnOk, OnErr, IfErr};
+ghost use Rattle.std.specs.Prelude.{◌≡◌, ◌<◌, List, length, option_map, OnOk, OnErr, IfErr};
 ghost use Rattle.std.specs.List.{All};
 ghost use Rattle.proto_faults.specs.declared.fault.SchemaFault.{SchemaFault as SchemaFaultOf};
 ghost use Rattle.proto_files.specs.Faults.{HasNoFault};
 ghost use Rattle.proto_files.specs.GivenFiles.{FileOf};
 ghost use Rattle.proto_imports.specs.LinkErrors.{IsLinkError};
 ghost use Rattle.proto_imports.specs.Links.{LinkFaults};
+ghost use Rattle.proto_names.specs.Following.{WasMadeOf};
 ghost use Rattle.proto_names.specs.LinkOfFiles.{IsLinkOf};
 
 use crate::link::Link;
@@ -16,9 +17,6 @@ use std::alloc::Global;
 
 /// What is made of files and their link, and is made anew as far as they are edited.
 pub trait MadeOfLink {
-    /// It was made of files that had other bytes at these places.
-    ghost WasMade: { List FileOf → List ℕ → Self → Type 0 };
-
     /// It is made of the files.
     ghost IsMade: { List FileOf → Self → Type 0 };
 
@@ -26,18 +24,22 @@ pub trait MadeOfLink {
     ghost IsRefused: { List FileOf → SchemaFaultOf → Type 0 };
 
     /// Makes it that of the files, of which this is the link, where it was that of files with other
-    /// bytes at these places. After a refusal it is as it was.
+    /// bytes at these places. If marks are told, they are of the files that have to be looked at
+    /// again: what a reference of any other file means is what it meant. After a refusal it is as
+    /// it was.
     fn follow(
         &mut self,
         alloc: Global,
         files: &Files,
         link: &Link,
         places: &[u32],
+        told: Option<&[bool]>,
     ) -> Result<(), SchemaFault>
         requires places { All (λ place. place < length files.now) places.now }
         requires link { IsLinkOf files.now link.now }
         requires clean { HasNoFault (LinkFaults files.now) }
-        requires was { WasMade files.now places.now self.old }
+        requires was { WasMadeOf IsMade files.now places.now (option_map (λ marks. marks.now) told)
+            self.old }
         ensures made { OnOk result (IsMade files.now self.new) }
         ensures fault { IfErr result (IsRefused files.now) }
         ensures kept { OnErr result (self.new ≡ self.old) };
@@ -48,8 +50,6 @@ pub trait MadeOfLink {
 pub struct Nothing;
 
 impl MadeOfLink for Nothing {
-    ghost WasMade = { λ _ _ _. Unit {0} };
-
     ghost IsMade = { λ _ _. Unit {0} };
 
     ghost IsRefused = { λ files fault. IsLinkError files fault };
@@ -61,6 +61,7 @@ impl MadeOfLink for Nothing {
         _files: &Files,
         _link: &Link,
         _places: &[u32],
+        _told: Option<&[bool]>,
     ) -> Result<(), SchemaFault>
         ensures { OnErr result ⊥ }
     {

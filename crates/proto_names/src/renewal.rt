@@ -1,6 +1,6 @@
 //! A link that is changed in place to that of its files, once some of them are edited.
 
-ghost use Rattle.std.specs.Prelude.{◌≡◌, ◌≢◌, ◌<◌, ℕ, Bool, List, [], true, false, length, get_or, map, slice_set, None, IfOk, OnOk, OnErr};
+ghost use Rattle.std.specs.Prelude.{◌≡◌, ◌≢◌, ◌<◌, ℕ, Bool, List, [], true, false, length, get_or, map, slice_set, None, IfOk, IfSome, OnOk, OnErr};
 ghost use Rattle.std.specs.Global.{Vec as VecOf};
 ghost use Rattle.std.specs.List.{All};
 ghost use Rattle.proto_files.specs.Faults.{HasNoFault};
@@ -11,10 +11,11 @@ ghost use Rattle.proto_kept_lists.specs.Undone.{AreWithin, undone};
 ghost use Rattle.proto_kept_names.specs.NamesOfFiles.{WereNames};
 ghost use Rattle.proto_kept_names.specs.NameLogs.{Fits, undone_table};
 ghost use Rattle.proto_names.specs.FileReferences.{AreFileMeant, IsFileLinked};
+ghost use Rattle.proto_names.specs.Following.{TellWhatToLook};
 ghost use Rattle.proto_names.specs.LinkOfFiles.{IsLinkOf};
 ghost use Rattle.proto_names.specs.Renewal.{AreMeantBelow, AreOfMarked, AreRowsRenewed, IsMeantNoted, IsSightRenewed, LogFits, link_of_parts, undone_parts};
 ghost use Rattle.proto_names.specs.Renewed.{AreMeantAgain};
-ghost use Rattle.proto_names.specs.Sight.{AreLinkImports, undone_seen};
+ghost use Rattle.proto_names.specs.Sight.{AreLinkImports, StayBut, undone_seen};
 ghost use Rattle.proto_relink.specs.Relinked.{WasLink};
 ghost use Rattle.proto_table.specs.Tables.{IsTable};
 
@@ -222,10 +223,10 @@ fn mean_again(
 }
 
 /// Changes the table of a link and the lists that follow it to those of the edited files, as far as
-/// they are other ones, where it is told what each file sees now. Answers false where it gives up:
-/// where a file declares what calls for a link made anew, or a reference has a fault. Refused for
-/// want of memory alone. Where it does not answer true, some of them may be changed, and the log
-/// tells which.
+/// they are other ones, where it is told what each file sees now. Answers the marks of the files
+/// that were looked at again; none where it gives up: where a file declares what calls for a link
+/// made anew, or a reference has a fault. Refused for want of memory alone. Where it answers no
+/// marks, some of them may be changed, and the log tells which.
 fn renew_names_and_references(
     alloc: Global,
     edited: Edited,
@@ -234,7 +235,7 @@ fn renew_names_and_references(
     meant: &mut Vec<Vec<Meant>>,
     references: &mut Vec<Vec<RefId>>,
     log: &mut LinkLog,
-) -> Result<bool, NoMemory>
+) -> Result<Option<Vec<bool>>, NoMemory>
     requires places { All (λ place. place < length edited.files.now) edited.places.now }
     requires others { All (λ file. file < length edited.files.now) edited.others.now }
     requires table { IsTable table.old }
@@ -250,15 +251,21 @@ fn renew_names_and_references(
         references.old.items }
     ensures imports { log.new.imports.items ≡ log.old.imports.items }
     ensures seen { log.new.seen ≡ log.old.seen }
-    ensures paired { IfOk result (λ done. done ≡ true
-        → length references.new.items ≡ length table.new.rows.items) }
-    ensures link { IfOk result (λ done. done ≡ true → (imports : List (VecOf FileImportOf))
+    ensures paired { IfOk result (λ o. IfSome o (λ _.
+        length references.new.items ≡ length table.new.rows.items)) }
+    ensures link { IfOk result (λ o. IfSome o (λ _. (imports : List (VecOf FileImportOf))
         → ((reads : List ReadOf) → AreRead edited.entry.files.now reads
         → AreLinkImports edited.entry.files.now reads (map (λ v. v.items) imports))
         → IsLinkOf edited.entry.files.now (link_of_parts table.new imports rows.new.items
-        edited.entry.seen.now meant.new.items references.new.items)) }
+        edited.entry.seen.now meant.new.items references.new.items))) }
     ensures clean { IfOk result
-        (λ done. done ≡ true → HasNoFault (LinkFaults edited.entry.files.now)) }
+        (λ o. IfSome o (λ _. HasNoFault (LinkFaults edited.entry.files.now))) }
+    ensures told { IfOk result (λ o. IfSome o (λ marks.
+        (imports : List (VecOf FileImportOf)) (seen : List (VecOf Bool))
+        → StayBut edited.entry.others.now (map (λ v. v.items) seen)
+        (map (λ v. v.items) edited.entry.seen.now)
+        → TellWhatToLook edited.entry.places.now edited.entry.files.now (link_of_parts table.old
+        imports rows.old.items seen meant.old.items references.old.items) marks.items)) }
 {
     let Edited { files, places, .. } = edited;
     are_read(files);
@@ -274,7 +281,7 @@ fn renew_names_and_references(
         &mut log.names,
         &mut log.rows,
     )? {
-        return Ok(false);
+        return Ok(None);
     }
     grow_references(alloc, references, table.rows.len())?;
     let now = outer_rows_at(alloc, table, places, rows)?;
@@ -286,7 +293,7 @@ fn renew_names_and_references(
     let mut marks = marks_of_changes(alloc, linked, places, &before, &now)?;
     mark_places(&mut marks, edited.others);
     if !mean_again(alloc, edited, &marks, table, rows, meant, &mut log.meant)? {
-        return Ok(false);
+        return Ok(None);
     }
     renew_references(
         alloc,
@@ -296,13 +303,14 @@ fn renew_names_and_references(
         &log.meant,
         meant,
     )?;
-    Ok(true)
+    Ok(Some(marks))
 }
 
 /// Changes the parts of a link to those of the edited files, as far as they are other ones. Answers
-/// false where it gives up: where a file declares what calls for a link made anew, or an import or a
-/// reference has a fault. Refused for want of memory alone. Where it does not answer true, some of
-/// the parts may be changed, and the log tells which.
+/// the marks of the files that were looked at again; none where it gives up: where a file declares
+/// what calls for a link made anew, or an import or a reference has a fault. Refused for want of
+/// memory alone. Where it answers no marks, some of the parts may be changed, and the log tells
+/// which.
 pub(crate) fn renew_parts(
     alloc: Global,
     files: &Files,
@@ -314,7 +322,7 @@ pub(crate) fn renew_parts(
     meant: &mut Vec<Vec<Meant>>,
     references: &mut Vec<Vec<RefId>>,
     log: &mut LinkLog,
-) -> Result<bool, NoMemory>
+) -> Result<Option<Vec<bool>>, NoMemory>
     requires places { All (λ place. place < length files.now) places.now }
     requires table { IsTable table.old }
     requires paired { length references.old.items ≡ length table.old.rows.items }
@@ -332,13 +340,16 @@ pub(crate) fn renew_parts(
     ensures within { AreWithin (length imports.new.items) log.new.imports.items }
     ensures imports { undone log.new.imports.items imports.new.items ≡ imports.old.items }
     ensures seen { undone_seen log.new.seen seen.new.items ≡ seen.old.items }
-    ensures paired { IfOk result (λ done. done ≡ true
-        → length references.new.items ≡ length table.new.rows.items) }
-    ensures link { IfOk result (λ done. done ≡ true → IsLinkOf files.now (link_of_parts table.new
-        imports.new.items rows.new.items seen.new.items meant.new.items references.new.items)) }
-    ensures clean { IfOk result (λ done. done ≡ true → HasNoFault (LinkFaults files.now)) }
+    ensures paired { IfOk result (λ o. IfSome o (λ _.
+        length references.new.items ≡ length table.new.rows.items)) }
+    ensures link { IfOk result (λ o. IfSome o (λ _. IsLinkOf files.now (link_of_parts table.new
+        imports.new.items rows.new.items seen.new.items meant.new.items references.new.items))) }
+    ensures clean { IfOk result (λ o. IfSome o (λ _. HasNoFault (LinkFaults files.now))) }
     ensures read { IfOk result
-        (λ done. done ≡ true → (reads : List ReadOf) × AreRead files.now reads) }
+        (λ o. IfSome o (λ _. (reads : List ReadOf) × AreRead files.now reads)) }
+    ensures told { IfOk result (λ o. IfSome o (λ marks. TellWhatToLook places.now files.now
+        (link_of_parts table.old imports.old.items rows.old.items seen.old.items meant.old.items
+        references.old.items) marks.items)) }
 {
     are_read(files);
     let renewed = renew_imports(
@@ -360,6 +371,6 @@ pub(crate) fn renew_parts(
             };
             renew_names_and_references(alloc, edited, table, rows, meant, references, log)
         }
-        None => Ok(false),
+        None => Ok(None),
     }
 }

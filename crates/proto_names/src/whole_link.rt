@@ -1,6 +1,6 @@
 //! The link of files, from their trees.
 
-ghost use Rattle.std.specs.Prelude.{◌≡◌, ◌≢◌, ℕ, ◌<◌, List, [], length, get_or, map, IfOk, IfErr, OnOk, OnErr};
+ghost use Rattle.std.specs.Prelude.{◌≡◌, ◌≢◌, ℕ, ◌<◌, List, [], length, get_or, map, None, IfOk, IfErr, OnOk, OnErr};
 ghost use Rattle.std.specs.List.{All};
 ghost use Rattle.proto_files.specs.Faults.{HasNoFault};
 ghost use Rattle.proto_faults.specs.FaultTable.{kind_number as number_of_kind};
@@ -8,6 +8,7 @@ ghost use Rattle.proto_meaning.specs.Faults.{Fault as FaultAtToken, ReferenceFau
 ghost use Rattle.proto_names.specs.FileReferences.{AreFileMeant, flaw_number};
 ghost use Rattle.proto_imports.specs.Importing.{all_imports, import_flaw_number};
 ghost use Rattle.proto_imports.specs.LinkErrors.{IsLinkError};
+ghost use Rattle.proto_names.specs.Following.{WasMadeOf, WereLinkAndMade};
 ghost use Rattle.proto_names.specs.LinkOfFiles.{AreNamesOf, HasNoImportFault, HasNoNameFault, IsLinkOf};
 ghost use Rattle.proto_names.specs.Replacing.{IsReplaceError};
 ghost use Rattle.proto_names.specs.declared.whole_link.Renewal.TheVariants.{Done, Refused};
@@ -230,8 +231,7 @@ impl Link {
         made: &mut M,
     ) -> Result<(), SchemaFault>
         requires places { All (λ place. place < length files.now) places.now }
-        requires link { WasLink IsLinkOf files.now places.now self.old }
-        requires made { M.WasMade files.now places.now made.old }
+        requires were { WereLinkAndMade M.IsMade files.now places.now self.old made.old }
         ensures link { OnOk result (IsLinkOf files.now self.new) }
         ensures clean { IfOk result (λ _. HasNoFault (LinkFaults files.now)) }
         ensures made { OnOk result (M.IsMade files.now made.new) }
@@ -254,8 +254,7 @@ impl Link {
         made: &mut M,
     ) -> Renewal
         requires places { All (λ place. place < length files.now) places.now }
-        requires link { WasLink IsLinkOf files.now places.now self.old }
-        requires made { M.WasMade files.now places.now made.old }
+        requires were { WereLinkAndMade M.IsMade files.now places.now self.old made.old }
         ensures done { result ≡ Done → IsLinkOf files.now self.new
             × HasNoFault (LinkFaults files.now) × M.IsMade files.now made.new }
         ensures refused { (fault : SchemaFaultOf) → result ≡ Refused fault
@@ -277,11 +276,11 @@ impl Link {
             &mut log,
         );
         let answer = match renewed {
-            Ok(true) => match made.follow(alloc, files, self, places) {
+            Ok(Some(marks)) => match made.follow(alloc, files, self, places, Some(&marks)) {
                 Ok(()) => return Renewal::Done,
                 Err(fault) => Renewal::Refused(fault),
             },
-            Ok(false) => Renewal::GivenUp,
+            Ok(None) => Renewal::GivenUp,
             Err(NoMemory) => Renewal::Refused(SchemaFault::NoMemory),
         };
         log.take_back(
@@ -304,7 +303,7 @@ impl Link {
         made: &mut M,
     ) -> Result<(), SchemaFault>
         requires places { All (λ place. place < length files.now) places.now }
-        requires made { M.WasMade files.now places.now made.old }
+        requires made { WasMadeOf M.IsMade files.now places.now None made.old }
         ensures link { OnOk result (IsLinkOf files.now self.new) }
         ensures clean { IfOk result (λ _. HasNoFault (LinkFaults files.now)) }
         ensures made { OnOk result (M.IsMade files.now made.new) }
@@ -312,7 +311,7 @@ impl Link {
         ensures kept { OnErr result ((self.new ≡ self.old) × (made.new ≡ made.old)) }
     {
         let link = Link::new(alloc, files)?;
-        match made.follow(alloc, files, &link, places) {
+        match made.follow(alloc, files, &link, places, None) {
             Ok(()) => {
                 mem::replace(self, link).release();
                 Ok(())

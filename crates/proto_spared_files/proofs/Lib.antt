@@ -1,3 +1,4 @@
 mod MeantStill
-pub mod WantedEnums
+mod ToldMarks
+mod WantedEnums
 mod WantedMarks

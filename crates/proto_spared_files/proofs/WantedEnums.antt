@@ -1,4 +1,4 @@
--- A table of the enums of wanted files has those that references of marked files mean (for the crates above).
+-- A table of the enums of wanted files has those that references of marked files mean.
 use Rattle.std.proofs.Common.{◌≡◌, ℕ, ◌≤◌, Bool, true, false, if◌then◌else◌, List, [], length, get_or, Option, Some, None, option_map, option_and_then, find, refl, sym, ap, ◌∙◌, inl, inr, arith}
 use Rattle.indexmap.specs.IndexMap.{IndexMap}
 use Rattle.proto_faults.proofs.Common.{cases_lt, false≢true, get_or_past}

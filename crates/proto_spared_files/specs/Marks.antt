@@ -1,17 +1,22 @@
 -- Marks of files, one for each: those that an edit does not spare, and those whose enums they mean.
-use Rattle.std.specs.Prelude.{◌≡◌, ℕ, ◌<◌, Bool, false, List, [], length, get_or, Some}
+use Rattle.std.specs.Prelude.{◌≡◌, ◌⊎◌, ℕ, ◌<◌, Bool, true, false, not, ◌||◌, List, [], length, get_or, Some, option_map}
 use Rattle.std.specs.List.{All}
 use Rattle.indexmap.specs.IndexMap.{IndexMap}
+use Rattle.proto_files.specs.Faults.{HasNoFault}
 use Rattle.proto_files.specs.FilesRead.{AreRead, ReadOf, read_at}
 use Rattle.proto_files.specs.GivenFiles.{FileOf}
+use Rattle.proto_imports.specs.Links.{LinkFaults}
+use Rattle.proto_relink.specs.Relinked.{HasToLook}
 use Rattle.proto_kept_references.specs.Marking.{IsMarked}
 use Rattle.proto_names.specs.LinkOfFiles.{IsLinkOf}
-use Rattle.proto_names.specs.Linking.{LinkOf, Meant, declaring_file}
+use Rattle.proto_names.specs.Linking.{LinkOf, Meant, RefId, declaring_file, name_at}
+use Rattle.proto_names.specs.Referring.{word_key}
 use Rattle.proto_scenes.specs.Enums.{IsEnumTableOf}
 use Rattle.proto_scenes.specs.Meanings.{HasEnumsMeant}
 use Rattle.proto_scenes.specs.declared.enum_table.EnumRow.{EnumRow}
 use Rattle.proto_extensions.specs.Extends.{has_extend}
-use Rattle.proto_kept_checks.specs.Checked.{IsKeptStill, KeptFileOf, kept_by_link}
+use Rattle.proto_kept_checks.specs.Checked.{AreKeptOf, IsKeptStill, KeptFileOf, is_message_kind, kept_by_link}
+use Rattle.proto_kept_checks.specs.Spared.{AreSoundlyEdited}
 
 -- what is kept of a file that is not there
 abbrev pub nothing_kept : KeptFileOf
@@ -23,6 +28,51 @@ abbrev pub AreOthersKept
 AreOthersKept places files l ks marks =
     (file : ℕ) → file < length files → get_or marks file false ≡ false
     → IsKeptStill places files l (get_or ks file nothing_kept) file
+
+-- so it is with each file that is not marked, if it was unsure
+abbrev pub AreUnsureKept
+    : List ℕ → List FileOf → LinkOf → List KeptFileOf → List Bool → List Bool → Type 0
+AreUnsureKept places files l ks unsure marks =
+    (file : ℕ) → file < length files → get_or marks file false ≡ false
+    → (get_or unsure file false ≡ false)
+    ⊎ IsKeptStill places files l (get_or ks file nothing_kept) file
+
+-- ---- by marks that are told
+
+-- who refers to the name in this row has to be checked again, where that is edited: the name is no
+-- message's, or this file, which refers to it, had an `extend` block
+abbrev pub counts_to : LinkOf → List KeptFileOf → ℕ → ℕ → Bool
+counts_to l ks row file =
+    not (is_message_kind (option_map (λ n. n.kind) (name_at l row)))
+    || (get_or ks file nothing_kept).has_extend
+
+-- the file of this reference to the name in this row is marked, if the name counts to it
+abbrev pub IsUserMarked : LinkOf → List KeptFileOf → List Bool → ℕ → RefId → Type 0
+IsUserMarked l ks marks row r =
+    counts_to l ks row r.file ≡ true → r.file < length marks → IsMarked marks r.file
+
+-- so it is with each reference to the name in this row
+abbrev pub AreUsersMarked : LinkOf → List KeptFileOf → List Bool → ℕ → Type 0
+AreUsersMarked l ks marks row = All (IsUserMarked l ks marks row) (get_or l.references row [])
+
+-- so it is with each name that one of the files at these places declares
+abbrev pub AreUsersOfFilesMarked
+    : List ℕ → LinkOf → List KeptFileOf → List Bool → Type 0
+AreUsersOfFilesMarked places l ks marks =
+    All (λ file. All (AreUsersMarked l ks marks) (get_or l.rows file [])) places
+
+-- where what is kept is of files without faults, and the marks that are told are of the files that
+-- have to be looked at again once these are edited: each file that is not marked is not edited, and
+-- by the link its references mean what is kept
+abbrev pub AreOthersKeptAsTold
+    : List ℕ → List FileOf → LinkOf → List KeptFileOf → List Bool → List Bool → Type 0
+AreOthersKeptAsTold places files l ks told marks =
+    (before : List FileOf) (was reads : List ReadOf)
+    → AreSoundlyEdited places before was files reads → HasNoFault (LinkFaults before)
+    → AreKeptOf before ks → HasToLook word_key places before was files reads told
+    → AreOthersKept places files l ks marks
+
+-- ---- what is asked of marked files
 
 -- no marked file has an `extend` block, and none had one
 abbrev pub HasNoMarkedExtends : List FileOf → List KeptFileOf → List Bool → Type 0

@@ -1,23 +1,25 @@
 //! The files that an edit does not spare, and those whose enums they mean, as marks: one for each
 //! file.
 
-ghost use Rattle.std.specs.Prelude.{◌≡◌, ◌↔◌, ◌||◌, ℕ, ◌<◌, List, true, false, length, get_or, map, Some, IfOk, IfSome};
+ghost use Rattle.std.specs.Prelude.{◌≡◌, ◌↔◌, ◌⊎◌, ◌||◌, ℕ, ◌<◌, List, [], true, false, length, get_or, map, slice_get, Some, IfOk, IfSome};
 ghost use Rattle.std.specs.List.{All};
 ghost use Rattle.proto_extensions.specs.Extends.{has_extend};
 ghost use Rattle.proto_files.specs.FilesRead.{AreRead, ReadOf, read_at};
 ghost use Rattle.proto_files.specs.GivenFiles.{FileOf};
 ghost use Rattle.proto_kept_checks.specs.Checked.{AreMeantStill, IsElsewhere, IsKeptStill, IsMeantStill};
 ghost use Rattle.proto_kept_references.specs.Marking.{ArePlacesMarked, IsMarked, MarksStay};
+ghost use Rattle.proto_names.specs.LinkOfFiles.{IsLinkOf};
 ghost use Rattle.proto_names.specs.Linking.{name_text};
 ghost use Rattle.proto_spared_files.specs.Kept.{kept_file_of, kept_files_of, kept_name_of};
-ghost use Rattle.proto_spared_files.specs.Marks.{AreEnumsMarked, AreOthersKept, HasNoMarkedExtends, IsEnumMarked};
+ghost use Rattle.proto_spared_files.specs.Marks.{AreEnumsMarked, AreOthersKept, AreOthersKeptAsTold, AreUnsureKept, AreUsersMarked, AreUsersOfFilesMarked, HasNoMarkedExtends, IsEnumMarked, IsUserMarked, nothing_kept};
 
 use crate::kept_file::{KeptFile, KeptName, has_extend_at, is_message};
 use proto_faults::NoMemory;
 use proto_files::{Files, are_read};
+use proto_kept_checks::laws::{links_have_what_is_kept, marks_tell_kept};
 use proto_kept_references::marking::mark_places;
 use proto_meaning::marks::is_marked;
-use proto_names::{Link, Meant, SymbolId};
+use proto_names::{DeclaredNames, Link, Meant, RefId, SymbolId};
 use std::alloc::Global;
 
 /// Whether a name stands in no file that is marked as edited.
@@ -82,6 +84,46 @@ fn is_kept_still(link: &Link, edited: &[bool], kept: &KeptFile, file: u32) -> bo
     !is_marked(edited, file) && are_meant_still(link, edited, kept, link.meant_in(file))
 }
 
+/// Whether a file is not marked as unsure, or its references mean what is kept of them.
+fn is_left_out(link: &Link, edited: &[bool], unsure: &[bool], kept: &KeptFile, file: u32) -> bool
+    ensures { result ≡ true → (get_or unsure.now file false ≡ false) ⊎ ((places : List ℕ)
+        → ArePlacesMarked edited.now places → (files : List FileOf) → file < length files
+        → IsKeptStill places files link.now (kept_file_of kept.now) file) }
+{
+    if !is_marked(unsure, file) {
+        return true;
+    }
+    is_kept_still(link, edited, kept, file)
+}
+
+/// Marks of those of the unsure files that are edited, at these places, or of which a reference, by
+/// the link now, does not mean what is kept of it, or means what stands in an edited file (a message
+/// may stand there, if the file has no `extend` block and it was one). Refused for want of memory
+/// alone.
+fn unsure_to_check(
+    alloc: Global,
+    files: &Files,
+    link: &Link,
+    places: &[u32],
+    kept: &[KeptFile],
+    unsure: &[bool],
+) -> Result<Vec<bool>, NoMemory>
+    requires places { All (λ place. place < length files.now) places.now }
+    requires paired { length kept.now ≡ length files.now }
+    ensures len { IfOk result (λ marks. length marks.items ≡ length files.now) }
+    ensures others { IfOk result (λ marks. AreUnsureKept places.now files.now link.now
+        (kept_files_of kept.now) unsure.now marks.items) }
+{
+    let mut edited = vec![in alloc; false; files.len()]?;
+    mark_places(&mut edited, places);
+    let mut marks = Vec::with_capacity(alloc, files.len())?;
+    for file in 0..files.len() as u32 {
+        let stays = is_left_out(link, &edited, unsure, &kept[file as usize], file);
+        marks.push(!stays)?;
+    }
+    Ok(marks)
+}
+
 /// Marks of the files that an edit of the files at these places does not spare: these, and each of
 /// which a reference, by the link now, does not mean what is kept of it, or means what stands in an
 /// edited file (a message may stand there, if the file has no `extend` block and it was one).
@@ -99,14 +141,108 @@ pub fn files_to_check(
     ensures others { IfOk result (λ marks. AreOthersKept places.now files.now link.now
         (kept_files_of kept.now) marks.items) }
 {
-    let mut edited = vec![in alloc; false; files.len()]?;
-    mark_places(&mut edited, places);
-    let mut marks = Vec::with_capacity(alloc, files.len())?;
-    for file in 0..files.len() as u32 {
-        let stays = is_kept_still(link, &edited, &kept[file as usize], file);
-        marks.push(!stays)?;
+    let unsure = vec![in alloc; true; files.len()]?;
+    unsure_to_check(alloc, files, link, places, kept, &unsure)
+}
+
+/// Whether a file had an `extend` block, by what is kept of it; false where nothing is.
+fn had_extend(kept: &[KeptFile], file: u32) -> bool
+    ensures { result ≡ (get_or (kept_files_of kept.now) file nothing_kept).has_extend }
+{
+    match kept.get(file as usize) {
+        Some(kept) => kept.has_extend,
+        None => false,
     }
-    Ok(marks)
+}
+
+/// Marks a file that refers to a name, unless that is a message's and the file had no `extend`
+/// block.
+fn mark_user(marks: &mut Vec<bool>, link: &Link, kept: &[KeptFile], name: SymbolId, user: RefId)
+    ensures stay { MarksStay marks.old.items marks.new.items }
+    ensures marked { IsUserMarked link.now (kept_files_of kept.now) marks.new.items name.row user }
+{
+    if !is_message(link.kind_of(name)) || had_extend(kept, user.file) {
+        mark_file(marks, Some(user.file));
+    }
+}
+
+/// Marks so the files that refer to a name.
+fn mark_users_of_name(marks: &mut Vec<bool>, link: &Link, kept: &[KeptFile], name: SymbolId)
+    ensures stay { MarksStay marks.old.items marks.new.items }
+    ensures marked { AreUsersMarked link.now (kept_files_of kept.now) marks.new.items name.row }
+{
+    for user in link.references(name) {
+        mark_user(marks, link, kept, name, *user);
+    }
+}
+
+/// The same of the name at a place among these, if there is one.
+fn mark_users_at(
+    marks: &mut Vec<bool>,
+    link: &Link,
+    kept: &[KeptFile],
+    names: &DeclaredNames<'_>,
+    place: usize,
+)
+    ensures stay { MarksStay marks.old.items marks.new.items }
+    ensures marked { IfSome (slice_get names.now.rows.now place)
+        (AreUsersMarked link.now (kept_files_of kept.now) marks.new.items) }
+{
+    if let Some(name) = names.get(place) {
+        mark_users_of_name(marks, link, kept, name);
+    }
+}
+
+/// The same of each name that a file declares.
+fn mark_users_of_file(marks: &mut Vec<bool>, link: &Link, kept: &[KeptFile], file: u32)
+    ensures stay { MarksStay marks.old.items marks.new.items }
+    ensures marked { All (AreUsersMarked link.now (kept_files_of kept.now) marks.new.items)
+        (get_or link.now.rows file []) }
+{
+    let names = link.declared_in(file);
+    for place in 0..names.len() {
+        mark_users_at(marks, link, kept, &names, place);
+    }
+}
+
+/// The same of each name that the files at these places declare.
+fn mark_users(marks: &mut Vec<bool>, link: &Link, kept: &[KeptFile], places: &[u32])
+    ensures stay { MarksStay marks.old.items marks.new.items }
+    ensures marked { AreUsersOfFilesMarked
+        places.now link.now (kept_files_of kept.now) marks.new.items }
+{
+    for place in places {
+        mark_users_of_file(marks, link, kept, *place);
+    }
+}
+
+/// Marks of the files that an edit of the files at these places does not spare, by the marks of
+/// those that have to be looked at again, which are told. Of these, and of the files that refer to a
+/// name of an edited file, where it is no message's or they had an `extend` block, it is asked what
+/// their references mean; no other file is asked. Refused for want of memory alone.
+pub fn told_files_to_check(
+    alloc: Global,
+    files: &Files,
+    link: &Link,
+    places: &[u32],
+    kept: &[KeptFile],
+    told: &[bool],
+) -> Result<Vec<bool>, NoMemory>
+    requires places { All (λ place. place < length files.now) places.now }
+    requires paired { length kept.now ≡ length files.now }
+    requires link { IsLinkOf files.now link.now }
+    requires told { length told.now ≡ length files.now }
+    ensures len { IfOk result (λ marks. length marks.items ≡ length files.now) }
+    ensures others { IfOk result (λ marks. AreOthersKeptAsTold places.now files.now link.now
+        (kept_files_of kept.now) told.now marks.items) }
+{
+    // By these laws a file that is not asked means what it meant, and each reference is in the
+    // lists that are walked here.
+    marks_tell_kept();
+    links_have_what_is_kept();
+    let mut unsure = Vec::from_slice(alloc, told)?;
+    mark_users(&mut unsure, link, kept, places);
+    unsure_to_check(alloc, files, link, places, kept, &unsure)
 }
 
 /// Whether a file has an `extend` block, or had one, by what is kept of it.

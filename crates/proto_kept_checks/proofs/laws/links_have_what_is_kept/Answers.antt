@@ -1,4 +1,5 @@
 use Rattle.proto_kept_checks.proofs.Linked.{links_have_what_is_kept, meant_messages_are_no_enums}
+use Rattle.proto_kept_checks.proofs.Listed.{links_list_references}
 use Rattle.proto_kept_checks.proofs.laws.links_have_what_is_kept.Goals as goal
 
 pub returns-clause-kept : goal.returns-clause-kept
@@ -6,3 +7,6 @@ returns-clause-kept c = links_have_what_is_kept
 
 pub returns-clause-enums : goal.returns-clause-enums
 returns-clause-enums c = meant_messages_are_no_enums
+
+pub returns-clause-listed : goal.returns-clause-listed
+returns-clause-listed c = links_list_references

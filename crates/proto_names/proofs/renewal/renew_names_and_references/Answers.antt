@@ -9,7 +9,7 @@ use Rattle.proto_names.proofs.MarksMore.{changes_stay_marked}
 use Rattle.proto_names.proofs.GrownLists.{cut_grown, not_less, paired_now}
 use Rattle.proto_names.proofs.OuterRows.{outer_count, outer_within}
 use Rattle.proto_names.proofs.PartsBefore.{are_references_of, meant_count, references_within, rows_below, were_names}
-use Rattle.proto_names.proofs.RenewedParts.{file_is_linked_now, meant_below_now, now_below, parts_are_clean, parts_are_link}
+use Rattle.proto_names.proofs.RenewedParts.{file_is_linked_now, meant_below_now, now_below, parts_are_clean, parts_are_link, parts_have_to_look}
 use Rattle.proto_names.specs.Common.{Meant, RefId}
 use Rattle.proto_names.specs.FileReferences.{IsFileLinked}
 use Rattle.proto_names.specs.Renewal.{AreMeantBelow}
@@ -110,10 +110,17 @@ renew_references-requires-clause-before c =
     (ap (λ (log : List (Change (Vec Meant))). undone log c.deref-11.result.now) c.deref-10.ensures.value ∙ ap (undone c.mean_again.new.log.items) c.deref-11.ensures.value ∙ c.mean_again.ensures.undone ∙ ap (λ (log : List (Change (Vec Meant))). undone log c.args.meant.now.items) c.requires.none)
 
 pub returns-clause-clean : goal.returns-clause-clean
-returns-clause-clean c = λ done. parts_are_clean c.args.edited.files.now c.args.edited.places.now c.args.table.now c.requires.renewed.imports_before c.args.rows.now.items c.requires.renewed.seen_before c.args.meant.now.items c.args.references.now.items c.requires.table c.requires.renewed.link c.renew_rows.new.table c.renew_rows.new.rows.items (c.in_ok-renew_rows.ensures.renewed c.if-not-branch.false) c.mark_places.new.marks.items c.grow_references.new.references.items c.grow_references.ensures.same c.in_ok-before.before.items c.in_ok-now.now.items (c.in_ok-before.ensures ∙ ap (λ (rs : List (Vec ℕ)). map (outer_rows_of c.args.table.now (map (λ v. v.items) rs)) c.args.edited.places.now) c.deref.ensures.value) (c.in_ok-now.ensures ∙ ap (λ (rs : List (Vec ℕ)). map (outer_rows_of c.renew_rows.new.table (map (λ v. v.items) rs)) c.args.edited.places.now) c.deref-2.ensures.value) (changes_stay_marked c.renew_rows.new.table c.in_ok-marks.marks.items c.mark_places.new.marks.items c.mark_places.ensures.stay (map (λ v. v.items) c.grow_references.new.references.items) (map (λ v. v.items) c.args.meant.now.items) c.args.edited.places.now (map (λ v. v.items) c.in_ok-before.before.items) (map (λ v. v.items) c.in_ok-now.now.items) (subst (λ (rs : List (Vec RefId)). AreChangesMarked c.renew_rows.new.table c.in_ok-marks.marks.items c.args.edited.places.now (map (λ v. v.items) rs) (map (λ v. v.items) c.args.meant.now.items) (map (λ v. v.items) c.in_ok-before.before.items) (map (λ v. v.items) c.in_ok-now.now.items)) c.deref-3.ensures.value (subst (λ (ms : List (Vec Meant)). AreChangesMarked c.renew_rows.new.table c.in_ok-marks.marks.items c.args.edited.places.now (map (λ v. v.items) c.deref-3.result.now) (map (λ v. v.items) ms) (map (λ v. v.items) c.in_ok-before.before.items) (map (λ v. v.items) c.in_ok-now.now.items)) c.deref-4.ensures.value (subst (λ (ps : List (Vec KindRow)). AreChangesMarked c.renew_rows.new.table c.in_ok-marks.marks.items c.args.edited.places.now (map (λ v. v.items) c.deref-3.result.now) (map (λ v. v.items) c.deref-4.result.now) (map (λ v. v.items) ps) (map (λ v. v.items) c.in_ok-now.now.items)) c.deref-5.ensures.value (subst (λ (ps : List (Vec KindRow)). AreChangesMarked c.renew_rows.new.table c.in_ok-marks.marks.items c.args.edited.places.now (map (λ v. v.items) c.deref-3.result.now) (map (λ v. v.items) c.deref-4.result.now) (map (λ v. v.items) c.deref-5.result.now) (map (λ v. v.items) ps)) c.deref-6.ensures.value c.in_ok-marks.ensures.marked))))) c.renew_rows.ensures.table c.args.edited.others.now c.args.edited.seen.now c.requires.renewed.sight c.requires.renewed.kept c.mark_places.ensures.marked c.mean_again.new.meant.items (λ reads are. subst (λ (ms : List Bool). AreMeantAgain ms c.renew_rows.new.table c.args.edited.files.now reads (map (λ v. v.items) c.args.meant.now.items) (map (λ v. v.items) c.mean_again.new.meant.items)) c.deref-7.ensures.value (c.in_ok-mean_again.ensures.meant c.if-not-branch-2.false reads are)) c.are_read.ensures.0 c.are_read.ensures.1
+returns-clause-clean c = parts_are_clean c.args.edited.files.now c.args.edited.places.now c.args.table.now c.requires.renewed.imports_before c.args.rows.now.items c.requires.renewed.seen_before c.args.meant.now.items c.args.references.now.items c.requires.table c.requires.renewed.link c.renew_rows.new.table c.renew_rows.new.rows.items (c.in_ok-renew_rows.ensures.renewed c.if-not-branch.false) c.mark_places.new.marks.items c.grow_references.new.references.items c.grow_references.ensures.same c.in_ok-before.before.items c.in_ok-now.now.items (c.in_ok-before.ensures ∙ ap (λ (rs : List (Vec ℕ)). map (outer_rows_of c.args.table.now (map (λ v. v.items) rs)) c.args.edited.places.now) c.deref.ensures.value) (c.in_ok-now.ensures ∙ ap (λ (rs : List (Vec ℕ)). map (outer_rows_of c.renew_rows.new.table (map (λ v. v.items) rs)) c.args.edited.places.now) c.deref-2.ensures.value) (changes_stay_marked c.renew_rows.new.table c.in_ok-marks.marks.items c.mark_places.new.marks.items c.mark_places.ensures.stay (map (λ v. v.items) c.grow_references.new.references.items) (map (λ v. v.items) c.args.meant.now.items) c.args.edited.places.now (map (λ v. v.items) c.in_ok-before.before.items) (map (λ v. v.items) c.in_ok-now.now.items) (subst (λ (rs : List (Vec RefId)). AreChangesMarked c.renew_rows.new.table c.in_ok-marks.marks.items c.args.edited.places.now (map (λ v. v.items) rs) (map (λ v. v.items) c.args.meant.now.items) (map (λ v. v.items) c.in_ok-before.before.items) (map (λ v. v.items) c.in_ok-now.now.items)) c.deref-3.ensures.value (subst (λ (ms : List (Vec Meant)). AreChangesMarked c.renew_rows.new.table c.in_ok-marks.marks.items c.args.edited.places.now (map (λ v. v.items) c.deref-3.result.now) (map (λ v. v.items) ms) (map (λ v. v.items) c.in_ok-before.before.items) (map (λ v. v.items) c.in_ok-now.now.items)) c.deref-4.ensures.value (subst (λ (ps : List (Vec KindRow)). AreChangesMarked c.renew_rows.new.table c.in_ok-marks.marks.items c.args.edited.places.now (map (λ v. v.items) c.deref-3.result.now) (map (λ v. v.items) c.deref-4.result.now) (map (λ v. v.items) ps) (map (λ v. v.items) c.in_ok-now.now.items)) c.deref-5.ensures.value (subst (λ (ps : List (Vec KindRow)). AreChangesMarked c.renew_rows.new.table c.in_ok-marks.marks.items c.args.edited.places.now (map (λ v. v.items) c.deref-3.result.now) (map (λ v. v.items) c.deref-4.result.now) (map (λ v. v.items) c.deref-5.result.now) (map (λ v. v.items) ps)) c.deref-6.ensures.value c.in_ok-marks.ensures.marked))))) c.renew_rows.ensures.table c.args.edited.others.now c.args.edited.seen.now c.requires.renewed.sight c.requires.renewed.kept c.mark_places.ensures.marked c.mean_again.new.meant.items (λ reads are. subst (λ (ms : List Bool). AreMeantAgain ms c.renew_rows.new.table c.args.edited.files.now reads (map (λ v. v.items) c.args.meant.now.items) (map (λ v. v.items) c.mean_again.new.meant.items)) c.deref-7.ensures.value (c.in_ok-mean_again.ensures.meant c.if-not-branch-2.false reads are)) c.are_read.ensures.0 c.are_read.ensures.1
 
 pub returns-clause-link : goal.returns-clause-link
-returns-clause-link c = λ done imports are_imports. parts_are_link c.args.edited.files.now c.args.edited.places.now c.args.table.now c.requires.renewed.imports_before c.args.rows.now.items c.requires.renewed.seen_before c.args.meant.now.items c.args.references.now.items c.requires.table c.requires.renewed.link c.renew_rows.new.table c.renew_rows.new.rows.items (c.in_ok-renew_rows.ensures.renewed c.if-not-branch.false) c.mark_places.new.marks.items c.grow_references.new.references.items c.grow_references.ensures.same c.in_ok-before.before.items c.in_ok-now.now.items (c.in_ok-before.ensures ∙ ap (λ (rs : List (Vec ℕ)). map (outer_rows_of c.args.table.now (map (λ v. v.items) rs)) c.args.edited.places.now) c.deref.ensures.value) (c.in_ok-now.ensures ∙ ap (λ (rs : List (Vec ℕ)). map (outer_rows_of c.renew_rows.new.table (map (λ v. v.items) rs)) c.args.edited.places.now) c.deref-2.ensures.value) (changes_stay_marked c.renew_rows.new.table c.in_ok-marks.marks.items c.mark_places.new.marks.items c.mark_places.ensures.stay (map (λ v. v.items) c.grow_references.new.references.items) (map (λ v. v.items) c.args.meant.now.items) c.args.edited.places.now (map (λ v. v.items) c.in_ok-before.before.items) (map (λ v. v.items) c.in_ok-now.now.items) (subst (λ (rs : List (Vec RefId)). AreChangesMarked c.renew_rows.new.table c.in_ok-marks.marks.items c.args.edited.places.now (map (λ v. v.items) rs) (map (λ v. v.items) c.args.meant.now.items) (map (λ v. v.items) c.in_ok-before.before.items) (map (λ v. v.items) c.in_ok-now.now.items)) c.deref-3.ensures.value (subst (λ (ms : List (Vec Meant)). AreChangesMarked c.renew_rows.new.table c.in_ok-marks.marks.items c.args.edited.places.now (map (λ v. v.items) c.deref-3.result.now) (map (λ v. v.items) ms) (map (λ v. v.items) c.in_ok-before.before.items) (map (λ v. v.items) c.in_ok-now.now.items)) c.deref-4.ensures.value (subst (λ (ps : List (Vec KindRow)). AreChangesMarked c.renew_rows.new.table c.in_ok-marks.marks.items c.args.edited.places.now (map (λ v. v.items) c.deref-3.result.now) (map (λ v. v.items) c.deref-4.result.now) (map (λ v. v.items) ps) (map (λ v. v.items) c.in_ok-now.now.items)) c.deref-5.ensures.value (subst (λ (ps : List (Vec KindRow)). AreChangesMarked c.renew_rows.new.table c.in_ok-marks.marks.items c.args.edited.places.now (map (λ v. v.items) c.deref-3.result.now) (map (λ v. v.items) c.deref-4.result.now) (map (λ v. v.items) c.deref-5.result.now) (map (λ v. v.items) ps)) c.deref-6.ensures.value c.in_ok-marks.ensures.marked))))) c.renew_rows.ensures.table c.args.edited.others.now c.args.edited.seen.now c.requires.renewed.sight c.requires.renewed.kept c.mark_places.ensures.marked c.mean_again.new.meant.items (λ reads are. subst (λ (ms : List Bool). AreMeantAgain ms c.renew_rows.new.table c.args.edited.files.now reads (map (λ v. v.items) c.args.meant.now.items) (map (λ v. v.items) c.mean_again.new.meant.items)) c.deref-7.ensures.value (c.in_ok-mean_again.ensures.meant c.if-not-branch-2.false reads are)) c.are_read.ensures.0 c.are_read.ensures.1 c.renew_references.new.references.items (c.renew_references.ensures.len ∙ paired_now (c.added_are_cut.ensures) c.args.references.now.items c.grow_references.new.references.items c.grow_references.ensures.grown c.len.result (length c.renew_rows.new.table.rows.items) c.len.ensures (sym c.renew_rows.new.table.rows.ok.0) (length c.args.table.now.rows.items) c.requires.paired (c.in_ok-renew_rows.ensures.renewed c.if-not-branch.false).names.size c.in_ok-grow_references.ensures.len) (subst (λ (ms : List (Vec Meant)). AreReferencesOf (map (λ v. v.items) c.renew_references.new.references.items) (map (λ v. v.items) ms)) c.deref-11.ensures.value c.in_ok-renew_references.ensures.references) imports (are_imports c.are_read.ensures.0 c.are_read.ensures.1)
+returns-clause-link c = λ imports are_imports. parts_are_link c.args.edited.files.now c.args.edited.places.now c.args.table.now c.requires.renewed.imports_before c.args.rows.now.items c.requires.renewed.seen_before c.args.meant.now.items c.args.references.now.items c.requires.table c.requires.renewed.link c.renew_rows.new.table c.renew_rows.new.rows.items (c.in_ok-renew_rows.ensures.renewed c.if-not-branch.false) c.mark_places.new.marks.items c.grow_references.new.references.items c.grow_references.ensures.same c.in_ok-before.before.items c.in_ok-now.now.items (c.in_ok-before.ensures ∙ ap (λ (rs : List (Vec ℕ)). map (outer_rows_of c.args.table.now (map (λ v. v.items) rs)) c.args.edited.places.now) c.deref.ensures.value) (c.in_ok-now.ensures ∙ ap (λ (rs : List (Vec ℕ)). map (outer_rows_of c.renew_rows.new.table (map (λ v. v.items) rs)) c.args.edited.places.now) c.deref-2.ensures.value) (changes_stay_marked c.renew_rows.new.table c.in_ok-marks.marks.items c.mark_places.new.marks.items c.mark_places.ensures.stay (map (λ v. v.items) c.grow_references.new.references.items) (map (λ v. v.items) c.args.meant.now.items) c.args.edited.places.now (map (λ v. v.items) c.in_ok-before.before.items) (map (λ v. v.items) c.in_ok-now.now.items) (subst (λ (rs : List (Vec RefId)). AreChangesMarked c.renew_rows.new.table c.in_ok-marks.marks.items c.args.edited.places.now (map (λ v. v.items) rs) (map (λ v. v.items) c.args.meant.now.items) (map (λ v. v.items) c.in_ok-before.before.items) (map (λ v. v.items) c.in_ok-now.now.items)) c.deref-3.ensures.value (subst (λ (ms : List (Vec Meant)). AreChangesMarked c.renew_rows.new.table c.in_ok-marks.marks.items c.args.edited.places.now (map (λ v. v.items) c.deref-3.result.now) (map (λ v. v.items) ms) (map (λ v. v.items) c.in_ok-before.before.items) (map (λ v. v.items) c.in_ok-now.now.items)) c.deref-4.ensures.value (subst (λ (ps : List (Vec KindRow)). AreChangesMarked c.renew_rows.new.table c.in_ok-marks.marks.items c.args.edited.places.now (map (λ v. v.items) c.deref-3.result.now) (map (λ v. v.items) c.deref-4.result.now) (map (λ v. v.items) ps) (map (λ v. v.items) c.in_ok-now.now.items)) c.deref-5.ensures.value (subst (λ (ps : List (Vec KindRow)). AreChangesMarked c.renew_rows.new.table c.in_ok-marks.marks.items c.args.edited.places.now (map (λ v. v.items) c.deref-3.result.now) (map (λ v. v.items) c.deref-4.result.now) (map (λ v. v.items) c.deref-5.result.now) (map (λ v. v.items) ps)) c.deref-6.ensures.value c.in_ok-marks.ensures.marked))))) c.renew_rows.ensures.table c.args.edited.others.now c.args.edited.seen.now c.requires.renewed.sight c.requires.renewed.kept c.mark_places.ensures.marked c.mean_again.new.meant.items (λ reads are. subst (λ (ms : List Bool). AreMeantAgain ms c.renew_rows.new.table c.args.edited.files.now reads (map (λ v. v.items) c.args.meant.now.items) (map (λ v. v.items) c.mean_again.new.meant.items)) c.deref-7.ensures.value (c.in_ok-mean_again.ensures.meant c.if-not-branch-2.false reads are)) c.are_read.ensures.0 c.are_read.ensures.1 c.renew_references.new.references.items (c.renew_references.ensures.len ∙ paired_now (c.added_are_cut.ensures) c.args.references.now.items c.grow_references.new.references.items c.grow_references.ensures.grown c.len.result (length c.renew_rows.new.table.rows.items) c.len.ensures (sym c.renew_rows.new.table.rows.ok.0) (length c.args.table.now.rows.items) c.requires.paired (c.in_ok-renew_rows.ensures.renewed c.if-not-branch.false).names.size c.in_ok-grow_references.ensures.len) (subst (λ (ms : List (Vec Meant)). AreReferencesOf (map (λ v. v.items) c.renew_references.new.references.items) (map (λ v. v.items) ms)) c.deref-11.ensures.value c.in_ok-renew_references.ensures.references) imports (are_imports c.are_read.ensures.0 c.are_read.ensures.1)
+
+pub returns-clause-told : goal.returns-clause-told
+returns-clause-told c = λ imports seen stay before link same.
+    record {
+      count = omega (arith, c.mark_places.ensures.stay.count, c.in_ok-marks.ensures.len, ap length c.deref-4.ensures.value, meant_count c.args.edited.files.now c.args.edited.places.now c.args.table.now c.requires.renewed.imports_before c.args.rows.now.items c.requires.renewed.seen_before c.args.meant.now.items c.args.references.now.items c.requires.table c.requires.renewed.link);
+      look = λ was reads are_was are. parts_have_to_look c.args.edited.files.now c.args.edited.places.now c.args.table.now imports c.args.rows.now.items seen c.args.meant.now.items c.args.references.now.items c.requires.table (before, record { link = link.link; clean = link.clean; reads = was; read = are_was }, same) c.renew_rows.new.table c.renew_rows.new.rows.items (c.in_ok-renew_rows.ensures.renewed c.if-not-branch.false) c.mark_places.new.marks.items c.grow_references.new.references.items c.grow_references.ensures.same c.in_ok-before.before.items c.in_ok-now.now.items (c.in_ok-before.ensures ∙ ap (λ (rs : List (Vec ℕ)). map (outer_rows_of c.args.table.now (map (λ v. v.items) rs)) c.args.edited.places.now) c.deref.ensures.value) (c.in_ok-now.ensures ∙ ap (λ (rs : List (Vec ℕ)). map (outer_rows_of c.renew_rows.new.table (map (λ v. v.items) rs)) c.args.edited.places.now) c.deref-2.ensures.value) (changes_stay_marked c.renew_rows.new.table c.in_ok-marks.marks.items c.mark_places.new.marks.items c.mark_places.ensures.stay (map (λ v. v.items) c.grow_references.new.references.items) (map (λ v. v.items) c.args.meant.now.items) c.args.edited.places.now (map (λ v. v.items) c.in_ok-before.before.items) (map (λ v. v.items) c.in_ok-now.now.items) (subst (λ (rs : List (Vec RefId)). AreChangesMarked c.renew_rows.new.table c.in_ok-marks.marks.items c.args.edited.places.now (map (λ v. v.items) rs) (map (λ v. v.items) c.args.meant.now.items) (map (λ v. v.items) c.in_ok-before.before.items) (map (λ v. v.items) c.in_ok-now.now.items)) c.deref-3.ensures.value (subst (λ (ms : List (Vec Meant)). AreChangesMarked c.renew_rows.new.table c.in_ok-marks.marks.items c.args.edited.places.now (map (λ v. v.items) c.deref-3.result.now) (map (λ v. v.items) ms) (map (λ v. v.items) c.in_ok-before.before.items) (map (λ v. v.items) c.in_ok-now.now.items)) c.deref-4.ensures.value (subst (λ (ps : List (Vec KindRow)). AreChangesMarked c.renew_rows.new.table c.in_ok-marks.marks.items c.args.edited.places.now (map (λ v. v.items) c.deref-3.result.now) (map (λ v. v.items) c.deref-4.result.now) (map (λ v. v.items) ps) (map (λ v. v.items) c.in_ok-now.now.items)) c.deref-5.ensures.value (subst (λ (ps : List (Vec KindRow)). AreChangesMarked c.renew_rows.new.table c.in_ok-marks.marks.items c.args.edited.places.now (map (λ v. v.items) c.deref-3.result.now) (map (λ v. v.items) c.deref-4.result.now) (map (λ v. v.items) c.deref-5.result.now) (map (λ v. v.items) ps)) c.deref-6.ensures.value c.in_ok-marks.ensures.marked))))) c.renew_rows.ensures.table c.args.edited.others.now c.args.edited.seen.now c.requires.renewed.sight stay c.mark_places.ensures.marked reads are;
+    }
 
 pub mark_places-requires : goal.mark_places-requires
 mark_places-requires c = λ k d l. omega (arith, c.requires.others k d l, c.in_ok-marks.ensures.len, ap length c.deref-4.ensures.value, meant_count c.args.edited.files.now c.args.edited.places.now c.args.table.now c.requires.renewed.imports_before c.args.rows.now.items c.requires.renewed.seen_before c.args.meant.now.items c.args.references.now.items c.requires.table c.requires.renewed.link)

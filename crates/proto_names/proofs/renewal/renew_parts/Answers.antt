@@ -1,4 +1,5 @@
 use Rattle.std.proofs.Common.{ℕ, Bool, List, map, sym, subst, IfSome}
+use Rattle.std.proofs.lemmas.Option.{IfSome_then}
 use Rattle.std.proofs.lemmas.Result.{IfOk-weaker}
 use Rattle.proto_faults.proofs.Common.{Vec}
 use Rattle.proto_files.specs.FilesRead.{AreRead, ReadOf}
@@ -32,5 +33,15 @@ returns-in-Some-clause-link c =
     let imports = c.renew_imports.new.imports.items in
     let are = subst (λ o. IfSome o (λ (os : Vec ℕ). (reads : List ReadOf) → AreRead files reads → AreLinkImports files reads (map (λ v. v.items) imports))) c.in-Some.is c.in_ok-renewed.ensures.imports in
     IfOk-weaker c.renew_names_and_references.result _ _
-    (λ done link yes. subst (λ (vs : List (Vec Bool)). IsLinkOf files (link_of_parts last.table imports last.rows.items vs last.meant.items last.references.items)) c.deref.ensures.value (link yes imports are))
+    (λ o told. IfSome_then o told (λ marks link. subst (λ (vs : List (Vec Bool)). IsLinkOf files (link_of_parts last.table imports last.rows.items vs last.meant.items last.references.items)) c.deref.ensures.value (link imports are)))
     c.renew_names_and_references.ensures.link
+
+pub returns-in-Some-clause-told : goal.returns-in-Some-clause-told
+returns-in-Some-clause-told c =
+    let before = map (λ (v : Vec Bool). v.items) c.args.seen.now.items in
+    let now = map (λ (v : Vec Bool). v.items) c.renew_imports.new.seen.items in
+    let kept = subst (λ o. IfSome o (λ (os : Vec ℕ). StayBut os.items before now)) c.in-Some.is c.in_ok-renewed.ensures.kept in
+    let stay = subst (λ (vs : List (Vec Bool)). StayBut c.deref-in-Some.result.now before (map (λ v. v.items) vs)) (sym c.deref.ensures.value) (subst (λ (os : List ℕ). StayBut os before now) (sym c.deref-in-Some.ensures.value) kept) in
+    IfOk-weaker c.renew_names_and_references.result _ _
+    (λ o told. IfSome_then o told (λ marks tell. tell c.args.imports.now.items c.args.seen.now.items stay))
+    c.renew_names_and_references.ensures.told

@@ -1,10 +1,9 @@
-use Rattle.std.proofs.Common.{List, Bool, Option, IfSome, sym, subst, ◌∙◌}
+use Rattle.std.proofs.Common.{List, Bool, Option, option_map, IfSome, sym, subst, ◌∙◌}
 use Rattle.proto_faults.proofs.Common.{Vec}
 use Rattle.proto_files.proofs.Common.{HasNoFault}
 use Rattle.proto_scenes.specs.Enums.{IsEnumTableOf}
-use Rattle.proto_spared_files.specs.Common.{AreEnumsMarked, AreOthersKept, HasNoMarkedExtends, kept_files_of}
+use Rattle.proto_spared_files.specs.Common.{AreEnumsMarked, HasNoMarkedExtends, kept_files_of}
 use Rattle.proto_spared_files.specs.declared.kept_file.KeptFile.{KeptFile}
-use Rattle.proto_spared_files.proofs.WantedEnums.{wanted_enums_are_there}
 use Rattle.proto_desc.specs.Checked.{CheckFaults}
 use Rattle.proto_desc.specs.Edited.{AreDescriptorsOf}
 use Rattle.proto_desc.specs.Renewing.{AreMade}
@@ -17,18 +16,18 @@ pub check_marked-requires-clause-table : goal.check_marked-requires-clause-table
 check_marked-requires-clause-table c =
     let files = c.args.files.now in
     let link = c.args.link.now in
-    let marks = c.deref-7.result.now in
-    let wanted = c.deref-5.result.now in
+    let marks = c.deref-6.result.now in
+    let wanted = c.deref-4.result.now in
     let marked =
-    subst (λ (ms : List Bool). AreEnumsMarked files link ms wanted) (c.deref-4.ensures.value ∙ sym c.deref-7.ensures.value)
-    (subst (λ (ws : List Bool). AreEnumsMarked files link c.deref-4.result.now ws) (sym c.deref-5.ensures.value) c.in_ok-wanted.ensures) in
-    wanted_enums_are_there c.links_have_what_is_kept.ensures.enums files link c.requires.link marks wanted marked c.deref-6.result.now
-    (subst (IsEnumTableOf files wanted) (sym c.deref-6.ensures.value) c.in_ok-table.ensures)
+    subst (λ (ms : List Bool). AreEnumsMarked files link ms wanted) (c.deref-3.ensures.value ∙ sym c.deref-6.ensures.value)
+    (subst (λ (ws : List Bool). AreEnumsMarked files link c.deref-3.result.now ws) (sym c.deref-4.ensures.value) c.in_ok-wanted.ensures) in
+    c.wanted_enums_are_there.ensures files link c.requires.link marks wanted marked c.deref-5.result.now
+    (subst (IsEnumTableOf files wanted) (sym c.deref-5.ensures.value) c.in_ok-table.ensures)
 
 pub put-requires-clause-file : goal.put-requires-clause-file
 put-requires-clause-file c =
-    let made = subst (λ (o : Option (Vec (Option Made))). IfSome o (λ all. AreMade c.args.files.now c.deref-7.result.now all.items)) c.in-Some.is c.in_ok-all.ensures in
-    made.len ∙ sym (counts c.args.files.now c.args.places.now c.args.self.now c.requires.were).0
+    let made = subst (λ (o : Option (Vec (Option Made))). IfSome o (λ all. AreMade c.args.files.now c.deref-6.result.now all.items)) c.in-Some.is c.in_ok-all.ensures in
+    made.len ∙ sym (counts c.args.files.now c.args.places.now (option_map (λ marks. marks.now) c.args.told) c.args.self.now c.requires.were).0
 
 both : (c : goal.After-drop-marks-2) → HasNoFault (CheckFaults c.args.files.now) × AreDescriptorsOf c.args.files.now c.put.new.self
 both c =
@@ -37,17 +36,17 @@ both c =
     let link = c.args.link.now in
     let old = c.args.self.now in
     let marks = c.in_ok-marks.marks.items in
-    let others = subst (λ (ks : List KeptFile). AreOthersKept places files link (kept_files_of ks) marks) c.deref.ensures.value c.in_ok-marks.ensures.others in
+    let others = c.in_ok-marks.ensures.others in
     let asked = c.has_no_marked_extends.ensures.0 c.if-not-has_no_marked_extends.false in
     let none =
-    subst (λ (ms : List Bool). HasNoMarkedExtends files (files_kept old) ms) c.deref-2.ensures.value
-    (subst (λ (ks : List KeptFile). HasNoMarkedExtends files (kept_files_of ks) c.deref-2.result.now) c.deref-3.ensures.value asked) in
+    subst (λ (ms : List Bool). HasNoMarkedExtends files (files_kept old) ms) c.deref.ensures.value
+    (subst (λ (ks : List KeptFile). HasNoMarkedExtends files (kept_files_of ks) c.deref.result.now) c.deref-2.ensures.value asked) in
     let made =
-    subst (λ (ms : List Bool). AreMade files ms c.in-Some.all.items) c.deref-7.ensures.value
-    (subst (λ (o : Option (Vec (Option Made))). IfSome o (λ all. AreMade files c.deref-7.result.now all.items)) c.in-Some.is c.in_ok-all.ensures) in
+    subst (λ (ms : List Bool). AreMade files ms c.in-Some.all.items) c.deref-6.ensures.value
+    (subst (λ (o : Option (Vec (Option Made))). IfSome o (λ all. AreMade files c.deref-6.result.now all.items)) c.in-Some.is c.in_ok-all.ensures) in
     renewed
     (record { sound = c.clean_edits_are_sound.ensures; tells = c.kept_files_tell_spared.ensures; described = c.spared_files_stay.ensures.descriptors; flawless = c.spared_files_stay.ensures.flawless })
-    places files c.requires.clean old c.put.new.self c.requires.were link marks (record { link = c.requires.link; others = others; none = none }) c.in-Some.all.items made c.put.ensures
+    places files c.requires.clean (option_map (λ marks. marks.now) c.args.told) old c.put.new.self c.requires.were link marks (record { link = c.requires.link; others = others; none = none }) c.in-Some.all.items made c.put.ensures
 
 pub returns-clause-clean : goal.returns-clause-clean
 returns-clause-clean c = λ _. (both c).0

@@ -1,12 +1,5 @@
-use Rattle.std.proofs.Common.{sym, subst}
-use Rattle.proto_desc.specs.Edited.{AreDescriptorsOf}
+use Rattle.proto_desc.proofs.Renewed.{was_made}
 use Rattle.proto_desc.proofs.descriptors.Descriptors.replace.Goals as goal
-use Rattle.proto_desc.proofs.descriptors.Descriptors.replace.Goals.{then-not-branch+in_ok-self, else-not-branch}
 
-pub returns-clause-descriptors : goal.returns-clause-descriptors
-returns-clause-descriptors c =
-    let are = AreDescriptorsOf c.args.files.now in
-    elim c.if-not-branch.branch [
-      | then-not-branch+in_ok-self w ↦ subst are (sym w.self-is) (record { described = w.in_ok-self.ensures.descriptors; kept = w.in_ok-self.ensures.kept })
-      | else-not-branch w ↦ subst are (sym w.self-is) (c.in_ok-renew.ensures.descriptors w.if-not-branch.false)
-    ]
+pub renew_or_check-requires-clause-were : goal.renew_or_check-requires-clause-were
+renew_or_check-requires-clause-were c = was_made c.args.files.now c.args.places.now c.args.self.now c.requires.were

@@ -1,7 +1,7 @@
 use Rattle.std.proofs.Common.{length, map, refl, ap, arith, inl, inr}
 use Rattle.proto_entries.specs.Putting.{with_texts}
 use Rattle.proto_desc.specs.NewTexts.{read_text}
-use Rattle.proto_desc.specs.Whole.FileFaults.{of_link}
+use Rattle.proto_desc.specs.Whole.FileFaults.{of_check, of_link}
 use Rattle.proto_desc.proofs.Opened.{checking_error, linking_error, none_of_files}
 use Rattle.proto_desc.proofs.ReplacedTexts.{put_clean, put_error, put_files}
 use Rattle.proto_desc.proofs.SameBut.{length_stands, same_but}
@@ -13,25 +13,17 @@ replace_with-replaced-requires-clause-places c = λ k d l.
     let is = put_files c.self.inside.files c.args.self.now c.put_texts.new.files c.args.places.now ts (map read_text c.in_ok-read.read.items) c.self.view_is c.in_ok-read.ensures.same c.in_ok-old.ensures.files in
     omega (arith, c.requires.places k d l, ap length is, length_stands c.args.self.now c.args.places.now ts))
 
-pub replace_with-replaced-requires-clause-link : goal.replace_with-replaced-requires-clause-link
-replace_with-replaced-requires-clause-link c =
+pub replace_with-replaced-requires-clause-were : goal.replace_with-replaced-requires-clause-were
+replace_with-replaced-requires-clause-were c =
     let ts = map (λ t. t.items) c.args.texts.items in
     let files = c.self.inside.files in
-    let is = put_files files files c.put_texts.new.files c.args.places.now ts (map read_text c.in_ok-read.read.items) refl c.in_ok-read.ensures.same c.in_ok-old.ensures.files in (
-      files,
-      record { link = c.self.invariant.1.0; clean = λ y h. c.self.invariant.0 y (of_link y h); reads = c.are_read.ensures.0; read = c.are_read.ensures.1 },
-      same_but files c.args.places.now ts c.put_texts.new.files is,
-    )
-
-pub replace_with-replaced-requires-clause-made : goal.replace_with-replaced-requires-clause-made
-replace_with-replaced-requires-clause-made c =
-    let ts = map (λ t. t.items) c.args.texts.items in
-    let files = c.self.inside.files in
-    let is = put_files files files c.put_texts.new.files c.args.places.now ts (map read_text c.in_ok-read.read.items) refl c.in_ok-read.ensures.same c.in_ok-old.ensures.files in (
-      files,
-      record { descriptors = c.self.invariant.1.1; clean = c.self.invariant.0; reads = c.are_read.ensures.0; read = c.are_read.ensures.1 },
-      same_but files c.args.places.now ts c.put_texts.new.files is,
-    )
+    let is = put_files files files c.put_texts.new.files c.args.places.now ts (map read_text c.in_ok-read.read.items) refl c.in_ok-read.ensures.same c.in_ok-old.ensures.files in
+    record {
+      before = files;
+      link = record { link = c.self.invariant.1.0; clean = λ y h. c.self.invariant.0 y (of_link y h); reads = c.are_read.ensures.0; read = c.are_read.ensures.1 };
+      made = (c.self.invariant.1.1, λ y h. c.self.invariant.0 y (of_check y h));
+      same = same_but files c.args.places.now ts c.put_texts.new.files is;
+    }
 
 pub returns-in-Ok-clause-files : goal.returns-in-Ok-clause-files
 returns-in-Ok-clause-files c =

@@ -1,32 +1,66 @@
-use Rattle.std.proofs.Common.{◌≡◌, ◌<◌, Bool, true, false, length, map, refl, sym, ◌∙◌, ap, subst, arith, inl, inr, All, AllPairs}
+use Rattle.std.proofs.Common.{◌≡◌, ◌<◌, Bool, true, false, List, length, map, refl, sym, ◌∙◌, ap, subst, arith, inl, inr, All, AllPairs, IfSome}
 use Rattle.proto_faults.proofs.Common.{Vec, both_ways}
 use Rattle.proto_faults.specs.declared.fault.SchemaFault.{SchemaFault}
 use Rattle.proto_faults.specs.declared.fault.SchemaFault.TheVariants.{NoMemory}
 use Rattle.proto_names.specs.declared.whole_link.Renewal.{Renewal}
 use Rattle.proto_names.specs.declared.whole_link.Renewal.TheVariants.{Done, GivenUp, Refused}
+use Rattle.proto_files.proofs.Common.{AreRead, HasNoFault, ReadOf}
+use Rattle.proto_imports.proofs.Common.{LinkFaults}
 use Rattle.proto_imports.specs.LinkErrors.{IsLinkError}
 use Rattle.proto_names.specs.Common.{Meant}
+use Rattle.proto_names.specs.Following.{HaveToLook, TellWhatToLook}
+use Rattle.proto_names.specs.LinkOfFiles.{IsLinkOf}
+use Rattle.proto_names.specs.Renewal.{link_of_parts}
+use Rattle.proto_relink.specs.Relinked.{IsCleanLink, WasLink}
 use Rattle.proto_names.proofs.WaysBack.{lists_rise, meant_back, names_unchanged, references_back, rows_back, size_unchanged, table_back}
-use Rattle.proto_names.proofs.link.Link.renew.Goals.{in-Ok-true+in-Err-follow, in-Ok-false, in-Err}
+use Rattle.proto_names.proofs.link.Link.renew.Goals.{in-Ok-Some+in-Err-follow, in-Ok-None, in-Err}
 use Rattle.proto_names.proofs.link.Link.renew.Goals as goal
 
 pub invariant_of-self : goal.invariant_of-self
 invariant_of-self g c =
-    let done = c.in-Ok-true.field-0-test in
-    let read = c.in-Ok-true.ensures.read done in (
+    let is = c.in-Ok-Some.field-0-is in
+    let last = c.renew_parts-renewed.new in
+    let read = subst (λ o. IfSome o (λ (marks : Vec Bool). (reads : List ReadOf) × AreRead c.args.files.now reads)) is c.in-Ok-Some.ensures.read in
+    let paired = subst (λ o. IfSome o (λ (marks : Vec Bool). length last.references.items ≡ length last.table.rows.items)) is c.in-Ok-Some.ensures.paired in
+    let link = subst (λ o. IfSome o (λ (marks : Vec Bool). IsLinkOf c.args.files.now (link_of_parts last.table last.imports.items last.rows.items last.seen.items last.meant.items last.references.items))) is c.in-Ok-Some.ensures.link in (
       c.renew_parts-renewed.ensures.table,
-      c.in-Ok-true.ensures.paired done,
-      lists_rise c.args.files.now read.0 _ read.1 (c.in-Ok-true.ensures.link done) c.renew_parts-renewed.new.meant.items (λ i. map (λ v. v.items) c.renew_parts-renewed.new.meant.items),
+      paired,
+      lists_rise c.args.files.now read.0 _ read.1 link last.meant.items (λ i. map (λ v. v.items) last.meant.items),
     )
 
 pub invariant_of-self-in-Ok : goal.invariant_of-self-in-Ok
 invariant_of-self-in-Ok g c =
-    let done = c.in-Ok-true.field-0-test in
-    let read = c.in-Ok-true.ensures.read done in (
+    let is = c.in-Ok-Some.field-0-is in
+    let last = c.renew_parts-renewed.new in
+    let read = subst (λ o. IfSome o (λ (marks : Vec Bool). (reads : List ReadOf) × AreRead c.args.files.now reads)) is c.in-Ok-Some.ensures.read in
+    let paired = subst (λ o. IfSome o (λ (marks : Vec Bool). length last.references.items ≡ length last.table.rows.items)) is c.in-Ok-Some.ensures.paired in
+    let link = subst (λ o. IfSome o (λ (marks : Vec Bool). IsLinkOf c.args.files.now (link_of_parts last.table last.imports.items last.rows.items last.seen.items last.meant.items last.references.items))) is c.in-Ok-Some.ensures.link in (
       c.renew_parts-renewed.ensures.table,
-      c.in-Ok-true.ensures.paired done,
-      lists_rise c.args.files.now read.0 _ read.1 (c.in-Ok-true.ensures.link done) c.renew_parts-renewed.new.meant.items (λ i. map (λ v. v.items) c.renew_parts-renewed.new.meant.items),
+      paired,
+      lists_rise c.args.files.now read.0 _ read.1 link last.meant.items (λ i. map (λ v. v.items) last.meant.items),
     )
+
+pub renew_parts-renewed-requires-clause-link : goal.renew_parts-renewed-requires-clause-link
+renew_parts-renewed-requires-clause-link g c =
+    let were = c.requires.were in
+    subst (WasLink IsLinkOf c.args.files.now c.args.places.now) (sym c.self.view_is) (were.before, were.link, were.same)
+
+pub follow-requires-clause-was : goal.follow-requires-clause-was
+follow-requires-clause-was g c =
+    let were = c.requires.were in
+    let was = c.self.inside in
+    let files = c.args.files.now in
+    let places = c.args.places.now in
+    let tell = subst (λ o. IfSome o (λ (marks : Vec Bool). TellWhatToLook places files (link_of_parts was.table was.imports.items was.rows.items was.seen.items was.meant.items was.references.items) marks.items)) c.in-Ok-Some.field-0-is c.in-Ok-Some.ensures.told in
+    record {
+      before = were.before;
+      clean = were.link.clean;
+      reads = were.link.reads;
+      read = were.link.read;
+      made = were.made;
+      same = were.same;
+      look = subst (HaveToLook places were.before files) (sym c.deref.ensures.value) (tell were.before (subst (IsCleanLink IsLinkOf were.before) (sym c.self.view_is) were.link) were.same);
+    }
 
 pub invariant_of-self-2 : goal.invariant_of-self-2
 invariant_of-self-2 g c =
@@ -61,8 +95,8 @@ returns-clause-kept g c = λ other.
     let names = names_unchanged was.table c.take_back.new.table (c.take_back.ensures.unchanged was.table table) in (
       (λ i. record { names = names i; imports = imports i; rows = rows i; seen = seen i; meant = meant i; references = references i }) ∙ c.self.view_is,
       elim c.match-renewed.branch [
-        | in-Ok-true+in-Err-follow w ↦ w.made-is ∙ w.in-Err-follow.ensures.kept
-        | in-Ok-false w ↦ w.made-is
+        | in-Ok-Some+in-Err-follow w ↦ w.made-is ∙ w.in-Err-follow.ensures.kept
+        | in-Ok-None w ↦ w.made-is
         | in-Err w ↦ w.made-is
       ],
     ))
@@ -81,11 +115,10 @@ is_refused GivenUp = false
 pub returns-clause-refused : goal.returns-clause-refused
 returns-clause-refused g c = λ fault is.
     elim c.match-renewed.branch [
-      | in-Ok-true+in-Err-follow w ↦
-          let done = w.in-Ok-true.field-0-test in
+      | in-Ok-Some+in-Err-follow w ↦
           let same : w.in-Err-follow.fault ≡ fault = ap (fault_of fault) (sym w.answer-is ∙ is) in
-          inr (w.in-Ok-true.ensures.clean done, subst (g.M.MadeOfLink.IsRefused c.args.files.now) same w.in-Err-follow.ensures.fault)
-      | in-Ok-false w ↦ absurd (both_ways false refl (ap is_refused (sym w.answer-is ∙ is)))
+          inr (subst (λ o. IfSome o (λ (marks : Vec Bool). HasNoFault (LinkFaults c.args.files.now))) w.in-Ok-Some.field-0-is w.in-Ok-Some.ensures.clean, subst (g.M.MadeOfLink.IsRefused c.args.files.now) same w.in-Err-follow.ensures.fault)
+      | in-Ok-None w ↦ absurd (both_ways false refl (ap is_refused (sym w.answer-is ∙ is)))
       | in-Err w ↦
           let same : NoMemory ≡ fault = ap (fault_of fault) (sym w.answer-is ∙ is) in
           inl (subst (IsLinkError c.args.files.now) same tt)
