@@ -1,5 +1,5 @@
 -- A kept reference means what it meant, and has no fault if it had none.
-use Rattle.std.proofs.Common.{◌≡◌, ℕ, ◌<◌, Bool, true, ◌&&◌, List, [], ◌∷◌, ◌++◌, length, take, Some, refl, sym, ◌∙◌, ap, subst, inl, inr, arith, append_assoc, Contains, AllPairs, true≢false, append-nil}
+use Rattle.std.proofs.Common.{◌≡◌, ℕ, ◌<◌, Bool, true, ◌&&◌, List, [], ◌∷◌, ◌++◌, length, take, drop, Some, refl, sym, ◌∙◌, ap, subst, inl, inr, arith, append_assoc, Contains, AllPairs, true≢false, append-nil, take-append-drop}
 use Rattle.proto_faults.proofs.Common.{and_from, any_from, none-some, same_Some}
 use Rattle.proto_meaning.proofs.Common.{AreApart, IsNested, Symbol, Reference, Workspace, same_name, is_type, is_outer, fits_at_first, sees, shows, hit, hits_at, meaning, meaning_at, same_from_name, first_and_rest, hit_relative, typed_is, meant, one_symbol, shown}
 use Rattle.proto_meaning.proofs.Symbols.{fronts}
@@ -48,7 +48,7 @@ module _ (w v : Workspace) (nested : IsNested v.symbols) (r : Reference) (m : Li
   hit_before : (j : ℕ) → hits_at v r j ≡ true → hits_at w r j ≡ true
   hit_before j q =
       let s = shown v r.file (fits_at_first r.words) (At j) q in
-      shows_by w r.file (fits_at_first r.words) (At j) s.0 (is.none_new s.0 (take j r.scope) s.1 s.2 s.3) s.2 s.3 (sym (is.sight s.0.file) ∙ s.4)
+      shows_by w r.file (fits_at_first r.words) (At j) s.0 (is.none_new s.0 (take j r.scope) (drop j r.scope) s.1 (take-append-drop j r.scope) s.2 s.3) s.2 s.3 (sym (is.sight s.0.file) ∙ s.4)
 
   means : meaning v r ≡ Some m
   means =

@@ -1,18 +1,28 @@
 -- Where some files are looked at again, the references of all others mean what they meant (for the crates above).
-use Rattle.std.proofs.Common.{◌≡◌, ℕ, Bool, true, false, List, Some, sym, ◌∙◌, ap, inl, inr, get_or, Contains, AllPairs}
+use Rattle.std.proofs.Common.{◌≡◌, ℕ, Bool, true, false, List, ◌++◌, length, Some, sym, ◌∙◌, ap, inl, inr, arith, get_or, Contains, AllPairs, append-nil, length-append}
 use Rattle.proto_faults.proofs.Common.{both_ways, cases_Bool}
-use Rattle.proto_meaning.proofs.Common.{AreApart, IsLinked, IsNested, Reference, Workspace, has_meaning, meaning}
+use Rattle.proto_meaning.proofs.Common.{AreApart, IsLinked, IsNested, Reference, Workspace, front_or_same, has_meaning, meaning}
 use Rattle.proto_kept.proofs.Kept.{flawless_stay, meanings_are_kept}
 use Rattle.proto_kept.proofs.Spared.{keys_tell, spared_are_kept}
 use Rattle.proto_kept.specs.Kept.{DifferAt, IsFlawless, IsKeptReference}
-use Rattle.proto_kept.specs.Marked.{AreMarked, IsUnmarked, UnmarkedMeanTheSame, MarkedDecide}
+use Rattle.proto_kept.specs.Marked.{AreMarked, IsScopeOf, IsUnmarked, MarkedDecide, ScopesAreOwn, UnmarkedMeanTheSame}
 
-module _ (key : List ℕ → ℕ) (places : List ℕ) (w v : Workspace) (marks : List Bool) (ok : IsLinked w) (nested : IsNested v.symbols) (differ : DifferAt places w v) (are : AreMarked key places w v marks) where
-  kept : (r : Reference) (m : List (List ℕ)) → Contains w.references r → IsUnmarked marks r.file → meaning w r ≡ Some m → IsKeptReference w v r m
-  kept r m c left h = spared_are_kept places w v differ r m (keys_tell key places w v r m (record {
+-- the fronts of what a file declares are declared by it
+front_of_scope : (w : Workspace) → IsNested w.symbols → (file : ℕ) (front back scope : List (List ℕ)) → front ++ back ≡ scope → IsScopeOf w file scope → IsScopeOf w file front
+front_of_scope w nested file front back scope whole own long =
+    let u = own (omega (arith, long, ap length whole, length-append front back)) in
+    elim (front_or_same w.symbols nested front back u.0 u.1 (u.2 ∙ sym whole) long) [
+      | inl none ↦ (u.0, u.1, u.2 ∙ sym whole ∙ ap (λ b. front ++ b) none ∙ append-nil front, u.3)
+      | inr f ↦ (f.it, f.within, f.name, f.file ∙ u.3)
+    ]
+
+module _ (key : List ℕ → ℕ) (places : List ℕ) (w v : Workspace) (marks : List Bool) (ok : IsLinked w) (nested : IsNested v.symbols) (own : ScopesAreOwn v) (differ : DifferAt places w v) (are : AreMarked key places w v marks) where
+  kept : (r : Reference) (m : List (List ℕ)) → Contains w.references r → Contains v.references r → IsUnmarked marks r.file → meaning w r ≡ Some m → IsKeptReference w v r m
+  kept r m c now left h = spared_are_kept places w v differ r m (keys_tell key places w v r m (record {
     sight = λ g. are.sight r.file g left;
     not_gone = λ s cs there n ty. are.none_gone r s c left (h ∙ some_name n) cs there ty;
-    none_came = λ s front last first rest cs there outer n words same. are.none_came r first rest c left words s front last cs there outer n same;
+    none_came = λ s front back last first rest cs there outer whole n words same.
+        are.none_came r first rest c left words s front last cs there outer n same (front_of_scope v nested r.file front back r.scope whole (own r now));
   }))
     where
       some_name : {x : List (List ℕ)} → x ≡ m → Some m ≡ Some x
@@ -26,7 +36,7 @@ module _ (key : List ℕ → ℕ) (places : List ℕ) (w v : Workspace) (marks :
   same_meaning r c left =
       let was = same r c left in
       let m = has_meaning (meaning w r) (ok.resolved r was) in
-      meanings_are_kept w v nested r m.0 m.1 (kept r m.0 was left m.1) ∙ sym m.1
+      meanings_are_kept w v nested r m.0 m.1 (kept r m.0 was c left m.1) ∙ sym m.1
 
   flawless : AllPairs AreApart v.symbols → ((r : Reference) → Contains v.references r → get_or marks r.file false ≡ true → IsFlawless v r) → (r : Reference) → Contains v.references r → IsFlawless v r
   flawless apart again r c = elim (cases_Bool (get_or marks r.file false)) [
@@ -34,14 +44,14 @@ module _ (key : List ℕ → ℕ) (places : List ℕ) (w v : Workspace) (marks :
     | inr left ↦
         let was = same r c left in
         let m = has_meaning (meaning w r) (ok.resolved r was) in
-        flawless_stay w v nested apart r m.0 m.1 (kept r m.0 was left m.1) (record { resolved = ok.resolved r was; no_entry = ok.no_entry r was; right_kind = ok.right_kind r was })
+        flawless_stay w v nested apart r m.0 m.1 (kept r m.0 was c left m.1) (record { resolved = ok.resolved r was; no_entry = ok.no_entry r was; right_kind = ok.right_kind r was })
   ]
 
 pub unmarked_mean_the_same : UnmarkedMeanTheSame
-unmarked_mean_the_same key places w v marks ok nested differ are r c left = same_meaning key places w v marks ok nested differ are r c left
+unmarked_mean_the_same key places w v marks ok nested own differ are r c left = same_meaning key places w v marks ok nested own differ are r c left
 
 pub marked_decide : MarkedDecide
-marked_decide key places w v marks ok nested apart differ are again = record {
+marked_decide key places w v marks ok nested own apart differ are again = record {
   nested = nested;
   unique = apart;
   resolved = λ r c. (each r c).resolved;
@@ -50,4 +60,4 @@ marked_decide key places w v marks ok nested apart differ are again = record {
 }
   where
     each : (r : Reference) → Contains v.references r → IsFlawless v r
-    each = flawless key places w v marks ok nested differ are apart again
+    each = flawless key places w v marks ok nested own differ are apart again

@@ -30,8 +30,8 @@ spared_are_kept places w v differ r m spared = record {
     | inl there ↦ spared.not_gone s c there n ty
     | inr elsewhere ↦ differ.stay s c elsewhere
   ];
-  none_new = λ s front c n f. elim (is_place places s.file) [
-    | inl there ↦ spared.none_came s front c there n f
+  none_new = λ s front back c whole n f. elim (is_place places s.file) [
+    | inl there ↦ spared.none_came s front back c there whole n f
     | inr elsewhere ↦ differ.none_new s c elsewhere
   ];
 }
@@ -40,16 +40,16 @@ pub keys_tell : KeysTell
 keys_tell key places w v r m is = record {
   sight = is.sight;
   not_gone = is.not_gone;
-  none_came = λ s front c there n f. came r.words refl s front c there n f;
+  none_came = λ s front back c there whole n f. came r.words refl s front back c there whole n f;
 }
   where
-    came : (words : List (List ℕ)) → r.words ≡ words → (s : Symbol) (front : List (List ℕ)) → Contains v.symbols s → Contains places s.file → s.name ≡ front ++ take 1 words → fits_at_first words s.kind ≡ true → Contains w.symbols s
-    came [] e s front c there n f = absurd (true≢false (sym f))
-    came (first ∷ rest) e s front c there n f = is.none_came s front first first rest c there (fits_outer (first ∷ rest) s.kind f) n e refl
+    came : (words : List (List ℕ)) → r.words ≡ words → (s : Symbol) (front back : List (List ℕ)) → Contains v.symbols s → Contains places s.file → front ++ back ≡ r.scope → s.name ≡ front ++ take 1 words → fits_at_first words s.kind ≡ true → Contains w.symbols s
+    came [] e s front back c there whole n f = absurd (true≢false (sym f))
+    came (first ∷ rest) e s front back c there whole n f = is.none_came s front back first first rest c there (fits_outer (first ∷ rest) s.kind f) whole n e refl
 
 pub leaves_spare_all : LeavesSpareAll
 leaves_spare_all places w v differ r m sight = record {
   sight = sight;
   not_gone = λ s c there n ty. differ.stay s c there (type_is_outer s.kind ty);
-  none_came = λ s front c there n f. differ.none_new s c there (fits_outer r.words s.kind f);
+  none_came = λ s front back c there whole n f. differ.none_new s c there (fits_outer r.words s.kind f);
 }

@@ -8,14 +8,14 @@ use Rattle.proto_meaning.specs.declared.kind.Kind.TheVariants.{Entry, Enum}
 
 -- in the second workspace the reference's file sees what it sees in the first; the type with this
 -- name, which it means there, is declared by the same file with the same kind; and no symbol that
--- its first word might stand for is new
+-- its first word might stand for is new, below a front of its scope
 pub record IsKeptReference (w v : Workspace) (r : Reference) (m : Name) : Type 0 where
   pub sight : (g : ℕ) → sees v r.file g ≡ sees w r.file g
   pub declared : (s : Symbol) → Contains w.symbols s → s.name ≡ m → is_type s.kind ≡ true
       → Contains v.symbols s
-  pub none_new : (s : Symbol) (front : Name) → Contains v.symbols s
-      → s.name ≡ front ++ take 1 r.words → fits_at_first r.words s.kind ≡ true
-      → Contains w.symbols s
+  pub none_new : (s : Symbol) (front back : Name) → Contains v.symbols s
+      → front ++ back ≡ r.scope → s.name ≡ front ++ take 1 r.words
+      → fits_at_first r.words s.kind ≡ true → Contains w.symbols s
 
 -- then it means the same
 abbrev pub MeaningsAreKept : Type 0
@@ -52,15 +52,15 @@ pub record DifferAt (places : List ℕ) (w v : Workspace) : Type 0 where
 
 -- the reference's file sees what it saw; if the type that it meant is of a file at these places,
 -- it is declared there still; and of these files no symbol is new that its first word might stand
--- for
+-- for, below a front of its scope
 pub record IsSpared (places : List ℕ) (w v : Workspace) (r : Reference) (m : Name)
     : Type 0 where
   pub sight : (g : ℕ) → sees v r.file g ≡ sees w r.file g
   pub not_gone : (s : Symbol) → Contains w.symbols s → Contains places s.file → s.name ≡ m
       → is_type s.kind ≡ true → Contains v.symbols s
-  pub none_came : (s : Symbol) (front : Name) → Contains v.symbols s → Contains places s.file
-      → s.name ≡ front ++ take 1 r.words → fits_at_first r.words s.kind ≡ true
-      → Contains w.symbols s
+  pub none_came : (s : Symbol) (front back : Name) → Contains v.symbols s
+      → Contains places s.file → front ++ back ≡ r.scope → s.name ≡ front ++ take 1 r.words
+      → fits_at_first r.words s.kind ≡ true → Contains w.symbols s
 
 -- a spared reference is kept
 abbrev pub SparedAreKept : Type 0
@@ -69,17 +69,17 @@ SparedAreKept =
     → IsSpared places w v r m → IsKeptReference w v r m
 
 -- the same by a key of each word, which is one number for one word: of files at these places no
--- symbol that may hold names or be meant is new whose last word has the key of the reference's
--- first word
+-- symbol that may hold names or be meant is new, below a front of its scope, whose last word has
+-- the key of the reference's first word
 pub record IsSparedByKeys (key : Word → ℕ) (places : List ℕ) (w v : Workspace) (r : Reference)
     (m : Name) : Type 0 where
   pub sight : (g : ℕ) → sees v r.file g ≡ sees w r.file g
   pub not_gone : (s : Symbol) → Contains w.symbols s → Contains places s.file → s.name ≡ m
       → is_type s.kind ≡ true → Contains v.symbols s
-  pub none_came : (s : Symbol) (front : Name) (last first : Word) (rest : List Word)
+  pub none_came : (s : Symbol) (front back : Name) (last first : Word) (rest : List Word)
       → Contains v.symbols s → Contains places s.file → is_outer s.kind ≡ true
-      → s.name ≡ front ++ last ∷ [] → r.words ≡ first ∷ rest → key last ≡ key first
-      → Contains w.symbols s
+      → front ++ back ≡ r.scope → s.name ≡ front ++ last ∷ [] → r.words ≡ first ∷ rest
+      → key last ≡ key first → Contains w.symbols s
 
 -- keys tell which references are spared
 abbrev pub KeysTell : Type 0

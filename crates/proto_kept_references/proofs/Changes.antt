@@ -1,14 +1,14 @@
 -- What is marked for what a file declared and declares.
-use Rattle.std.proofs.Common.{◌≡◌, ℕ, ◌<◌, Bool, List, [], ◌∷◌, get_or, map, subst, inl, inr, All}
+use Rattle.std.proofs.Common.{◌≡◌, ℕ, ◌<◌, Bool, not, List, [], ◌∷◌, get_or, map, ap, subst, inl, inr, All, filter}
 use Rattle.std.specs.List.{Contains}
 use Rattle.std.proofs.lemmas.List.Elements.{All-contains, All-map, All-weaker, Contains-get_or}
-use Rattle.proto_faults.proofs.Common.{contains_cases}
+use Rattle.proto_faults.proofs.Common.{contains_cases, contains_filter}
 use Rattle.proto_kept_lists.specs.Words.{word_key}
 use Rattle.proto_kept_lists.specs.declared.backlinks.Meant.{Meant}
 use Rattle.proto_kept_lists.specs.declared.backlinks.RefId.{RefId}
 use Rattle.proto_kept_references.specs.ChangedFiles.{IsChangeMarked, StaysOrIsMarked, WasOrIsMarked}
 use Rattle.proto_kept_references.specs.Marking.{AreBeginnersMarked, AreReferencesMarked, AreUsersMarked, IsMarked, MarksStay}
-use Rattle.proto_kept_references.specs.OuterRows.{AreAmongOr, HasLastWords}
+use Rattle.proto_kept_references.specs.OuterRows.{AreAmongOr, HasLastWords, is_below_type}
 use Rattle.proto_kept_references.specs.declared.outer_rows.KindRow.{KindRow}
 use Rattle.proto_kept_references.proofs.Marks.{nothing_there}
 use Rattle.proto_table.specs.declared.table.Table.{Table}
@@ -33,7 +33,7 @@ change_stays t a b references meant before now stay h = record {
   ]) before h.gone;
   came = All-weaker (WasOrIsMarked t a meant before) (WasOrIsMarked t b meant before) (λ p it. elim it [
     | inl there ↦ inl there
-    | inr marked ↦ inr (λ front word plain named. beginners_stay a b meant (word_key word ∷ []) stay (marked front word plain named))
+    | inr marked ↦ inr (λ top front word plain named. beginners_stay a b meant (word_key word ∷ []) stay (marked top front word plain named))
   ]) now h.came;
 }
 
@@ -57,9 +57,11 @@ the_one x y there = elim (contains_cases x y [] there) [
   | inr none ↦ absurd (nothing_there y none)
 ]
 
--- of those that came the files are marked in which a reference begins with the last word
-pub beginners_marked : (t : Table) (marks : List Bool) (meant : List (List Meant)) (before now : List KindRow) (rows keys : List ℕ) → AreAmongOr now before rows → HasLastWords t rows keys → AreBeginnersMarked marks meant keys → All (WasOrIsMarked t marks meant before) now
+-- of those that came below no type the files are marked in which a reference begins with the last word
+pub beginners_marked : (t : Table) (marks : List Bool) (meant : List (List Meant)) (before now : List KindRow) (rows keys : List ℕ) → AreAmongOr now before rows → HasLastWords t (filter (λ row. not (is_below_type t row)) rows) keys → AreBeginnersMarked marks meant keys → All (WasOrIsMarked t marks meant before) now
 beginners_marked t marks meant before now rows keys among last marked k d l = elim (among.each (get_or now k d) (Contains-get_or now k d l)) [
   | inl there ↦ inl there
-  | inr came ↦ inr (λ front word plain named file m there key. marked file m there (subst (Contains keys) (the_one (word_key word) m.first key) (last (get_or now k d).row front word came plain named)))
+  | inr came ↦ inr (λ top front word plain named file m there key.
+      (let asked = contains_filter (λ row. not (is_below_type t row)) rows (get_or now k d).row came (ap not top) in
+      marked file m there (subst (Contains keys) (the_one (word_key word) m.first key) (last (get_or now k d).row front word asked plain named))))
 ]

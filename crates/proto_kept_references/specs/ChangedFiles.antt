@@ -1,11 +1,11 @@
 -- The files that have to be looked at again, by the rows of what edited files declared and declare.
-use Rattle.std.specs.Prelude.{◌≡◌, ◌⊎◌, ℕ, ◌<◌, List, [], ◌∷◌, ◌++◌, Bool, length, get_or}
+use Rattle.std.specs.Prelude.{◌≡◌, ◌⊎◌, ℕ, ◌<◌, List, [], ◌∷◌, ◌++◌, Bool, false, length, get_or}
 use Rattle.std.specs.List.{All, Contains, filter_map}
 use Rattle.proto_kept_lists.specs.Words.{word_key}
 use Rattle.proto_kept_lists.specs.declared.backlinks.Meant.{Meant}
 use Rattle.proto_kept_lists.specs.declared.backlinks.RefId.{RefId}
 use Rattle.proto_kept_references.specs.Marking.{AreBeginnersMarked, ArePlacesMarked, AreReferencesMarked}
-use Rattle.proto_kept_references.specs.OuterRows.{outer_row}
+use Rattle.proto_kept_references.specs.OuterRows.{is_below_type, outer_row}
 use Rattle.proto_kept_references.specs.declared.outer_rows.KindRow.{KindRow}
 use Rattle.proto_meaning.specs.Joined.{joined, ArePlain}
 use Rattle.proto_meaning.specs.Names.{Name, Word}
@@ -21,12 +21,12 @@ abbrev pub StaysOrIsMarked : List Bool → List (List RefId) → List KindRow �
 StaysOrIsMarked marks references now p =
     Contains now p ⊎ AreReferencesMarked marks (get_or references p.row [])
 
--- the pair was one of these, or the files are marked in which a reference begins with a word that
--- has the key of the last word of the row's name
+-- the pair was one of these, or the row's name stands right below a type's, or the files are marked
+-- in which a reference begins with a word that has the key of the last word of the row's name
 abbrev pub WasOrIsMarked : Table → List Bool → List (List Meant) → List KindRow → KindRow → Type 0
 WasOrIsMarked t marks meant before p =
     Contains before p
-    ⊎ ((front : Name) (word : Word) → ArePlain (front ++ word ∷ [])
+    ⊎ (is_below_type t p.row ≡ false → (front : Name) (word : Word) → ArePlain (front ++ word ∷ [])
     → get_or (names_of t) p.row [] ≡ joined (front ++ word ∷ [])
     → AreBeginnersMarked marks meant (word_key word ∷ []))
 

@@ -1,6 +1,6 @@
 -- The names of a file that may hold others or be meant: their rows, their kinds, and the keys of
 -- their last words.
-use Rattle.std.specs.Prelude.{◌≡◌, ◌⊎◌, ℕ, if◌then◌else◌, List, [], ◌∷◌, ◌++◌, get_or, map, nat_eq, slice_get, Option, Some, None}
+use Rattle.std.specs.Prelude.{◌≡◌, ◌⊎◌, ℕ, zero, suc, Bool, false, if◌then◌else◌, List, [], ◌∷◌, ◌++◌, get_or, map, nat_eq, slice_get, Option, Some, None}
 use Rattle.std.specs.List.{All, Contains}
 use Rattle.std.specs.Option.{option_and_then}
 use Rattle.indexmap.specs.IndexMap.{IndexMap, get}
@@ -8,7 +8,7 @@ use Rattle.proto_kept_lists.specs.Words.{word_key}
 use Rattle.proto_kept_references.specs.declared.outer_rows.KindRow.{KindRow}
 use Rattle.proto_meaning.specs.declared.kind.Kind.{Kind}
 use Rattle.proto_meaning.specs.Joined.{joined, ArePlain}
-use Rattle.proto_meaning.specs.Names.{Name, Word, is_outer}
+use Rattle.proto_meaning.specs.Names.{Name, Word, is_outer, is_type}
 use Rattle.proto_table.specs.Tables.{names_of}
 use Rattle.proto_table.specs.declared.table.Row.{Row}
 use Rattle.proto_table.specs.declared.table.Table.{Table}
@@ -31,6 +31,25 @@ abbrev pub AreKindsOf : {S : Type 0} → List KindRow → IndexMap ℕ Kind S �
 AreKindsOf pairs kinds =
     (row : ℕ) (kind : Kind) → get nat_eq kinds row ≡ Some kind
     → Contains pairs (record { row = row; kind = kind })
+
+-- the name of a row is a type's
+abbrev pub is_type_row : Option Row → Bool
+is_type_row None = false
+is_type_row (Some r) = is_type r.symbol.kind
+
+-- the name with this number is a type's; 0 stands for the empty name
+abbrev pub is_type_number : Table → ℕ → Bool
+is_type_number t zero = false
+is_type_number t (suc row) = is_type_row (slice_get t.rows.items row)
+
+-- the name of a row stands right below a type's
+abbrev pub is_row_below_type : Table → Option Row → Bool
+is_row_below_type t None = false
+is_row_below_type t (Some r) = is_type_number t r.above
+
+-- so does the name of the row with this index
+abbrev pub is_below_type : Table → ℕ → Bool
+is_below_type t row = is_row_below_type t (slice_get t.rows.items row)
 
 -- the key of the last word of the name of each of these rows is among the keys
 abbrev pub HasLastWords : Table → List ℕ → List ℕ → Type 0

@@ -7,7 +7,7 @@ ghost use Rattle.proto_kept_references.specs.Marking.{MarksStay};
 ghost use Rattle.proto_table.specs.Tables.{IsTable};
 
 use crate::marking::{mark_beginners, mark_places, mark_users};
-use crate::outer_rows::{KindRow, last_word_keys, outer_rows, rows_not_among};
+use crate::outer_rows::{KindRow, last_word_keys, outer_rows, rows_below_no_type, rows_not_among};
 use proto_faults::NoMemory;
 use proto_kept_lists::{Meant, RefId};
 use proto_table::table::Table;
@@ -46,8 +46,9 @@ pub struct Linked<'a> {
 /// Marks of the files that have to be looked at again, one for each file: those at these places;
 /// those with a reference to a name that one of these declares no more, or with another kind; and
 /// those in which a reference begins with a word that has the key of the last word of a name that
-/// one of these did not declare, or with another kind. What each of these declared and declares is
-/// given by rows and kinds. Refused for want of memory alone.
+/// one of these did not declare, or with another kind, unless the name stands right below a type's:
+/// no reference of another file begins there. What each of these declared and declares is given by
+/// rows and kinds. Refused for want of memory alone.
 pub fn marks_of_changes(
     alloc: Global,
     linked: Linked,
@@ -99,7 +100,8 @@ fn mark_change(
     let gone = rows_not_among(alloc, before, now)?;
     mark_users(marks, linked.references, &gone);
     let came = rows_not_among(alloc, now, before)?;
-    let keys = last_word_keys(alloc, linked.table, &came)?;
+    let asked = rows_below_no_type(alloc, linked.table, &came)?;
+    let keys = last_word_keys(alloc, linked.table, &asked)?;
     mark_beginners(marks, linked.meant, &keys);
     Ok(())
 }

@@ -1,11 +1,11 @@
 //! The names of a file that may hold others or be meant: their rows, their kinds, and the keys of
 //! their last words.
 
-ghost use Rattle.std.specs.Prelude.{◌≡◌, ◌⊎◌, ℕ, ◌<◌, ◌++◌, ◌∷◌, true, List, [], length, get_or, nat_eq, Some, IfOk, OnOk};
-ghost use Rattle.std.specs.List.{All, Contains, filter_map};
+ghost use Rattle.std.specs.Prelude.{◌≡◌, ◌⊎◌, ℕ, ◌<◌, ◌++◌, ◌∷◌, true, not, List, [], length, get_or, nat_eq, Some, IfOk, OnOk};
+ghost use Rattle.std.specs.List.{All, Contains, filter, filter_map};
 ghost use Rattle.std.specs.Option.{option_to_list};
 ghost use Rattle.indexmap.specs.IndexMap.{get};
-ghost use Rattle.proto_kept_references.specs.OuterRows.{AreAmongOr, AreKindsOf, HasLastWords, outer_row};
+ghost use Rattle.proto_kept_references.specs.OuterRows.{AreAmongOr, AreKindsOf, HasLastWords, is_below_type, is_type_number, outer_row};
 ghost use Rattle.proto_meaning.specs.Joined.{joined, ArePlain};
 ghost use Rattle.proto_table.specs.Tables.{names_of, IsTable};
 
@@ -114,6 +114,48 @@ fn has_kind(kinds: &IndexMap<usize, Kind>, pair: KindRow) -> bool
 {
     match kinds.get(&pair.row) {
         Some(kind) => *kind == pair.kind,
+        None => false,
+    }
+}
+
+/// Those of the rows whose names do not stand right below a type's, in order. Refused for want of
+/// memory alone.
+pub fn rows_below_no_type(
+    alloc: Global,
+    table: &Table,
+    rows: &[usize],
+) -> Result<Vec<usize>, NoMemory>
+    ensures { IfOk result (λ found. found.items
+        ≡ filter (λ row. not (is_below_type table.now row)) rows.now) }
+{
+    let mut found = Vec::new(alloc);
+    for row in rows {
+        if !is_below_type(table, *row) {
+            found.push(*row)?;
+        }
+    }
+    Ok(found)
+}
+
+/// Whether the name of a row stands right below a type's.
+fn is_below_type(table: &Table, row: usize) -> bool
+    ensures { result ≡ is_below_type table.now row }
+{
+    match table.rows.get(row) {
+        Some(own) => is_type_number(table, own.above),
+        None => false,
+    }
+}
+
+/// Whether the name with a number is a type's.
+fn is_type_number(table: &Table, number: usize) -> bool
+    ensures { result ≡ is_type_number table.now number }
+{
+    if number == 0 {
+        return false;
+    }
+    match table.rows.get(number - 1) {
+        Some(own) => own.symbol.kind.is_type(),
         None => false,
     }
 }

@@ -1,5 +1,5 @@
 -- Lists of references that were grown by empty ones.
-use Rattle.std.proofs.Common.{◌≡◌, ℕ, ◌+◌, ◌≤◌, List, ◌++◌, length, take, max, ◌∙◌, sym, ap, arith, length-append}
+use Rattle.std.proofs.Common.{◌≡◌, ℕ, ◌≤◌, List, length, take, max, ◌∙◌, sym, ap, arith, length-append}
 use Rattle.proto_faults.proofs.Common.{Vec}
 use Rattle.proto_kept_lists.specs.Undone.{AddedAreCut, undone}
 use Rattle.proto_kept_lists.specs.declared.changes.Change.{Change}

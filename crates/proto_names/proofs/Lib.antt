@@ -1,3 +1,4 @@
+mod BelowTypes
 pub mod Common
 mod Copies
 mod DeclaredRows

@@ -18,7 +18,7 @@ module _ (t : Table) (marks more : List Bool) (stay : MarksStay marks more) (ref
 
   was : (before : List KindRow) (p : KindRow) → WasOrIsMarked t marks meant before p → WasOrIsMarked t more meant before p
   was before p (inl c) = inl c
-  was before p (inr begin) = inr (λ front word plain name file m there key. stay.set file (begin front word plain name file m there key))
+  was before p (inr begin) = inr (λ top front word plain name file m there key. stay.set file (begin top front word plain name file m there key))
 
   change : (before now : List KindRow) → IsChangeMarked t marks references meant before now → IsChangeMarked t more references meant before now
   change before now is = record {

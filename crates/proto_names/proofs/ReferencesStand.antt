@@ -31,7 +31,7 @@ module _ (files : List FileOf) (reads : List ReadOf) (are : AreRead files reads)
     edited = λ file c. absurd (omega (arith, c.1));
     sight = λ file g left. refl;
     none_gone = λ r s c left h cs there ty. cs;
-    none_came = λ r first rest c left words s front last cs there outer name key. cs;
+    none_came = λ r first rest c left words s front last cs there outer name key own. cs;
   }
 
   same_numbers : NumbersStay t t

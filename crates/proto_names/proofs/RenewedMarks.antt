@@ -1,12 +1,14 @@
 -- The marks of what changed are those of the files that have to be looked at again.
 use Rattle.std.proofs.Common.{◌≡◌, ℕ, ◌+◌, ◌<◌, Bool, true, false, List, [], ◌∷◌, ◌++◌, length, get_or, map, Some, sym, ◌∙◌, ap, subst, inl, inr, arith, All, Contains}
-use Rattle.proto_faults.proofs.Common.{All-contains, Vec, both_ways, contains_filter, contains_map, from_map, same_from_word}
+use Rattle.proto_faults.proofs.Common.{All-contains, Vec, both_ways, contains_filter, contains_map, false_from_ne_true, from_map, same_from_word}
 use Rattle.proto_case.specs.Camel.{entry_name}
 use Rattle.proto_files.proofs.Common.{FileOf, ReadOf}
 use Rattle.proto_imports.proofs.Common.{link_skeleton, names_are_plain, names_in, names_of_files, text_of, use_from}
 use Rattle.proto_kept.proofs.Still.{type_is_outer}
-use Rattle.proto_kept.specs.Marked.{IsUnmarked}
+use Rattle.proto_kept.specs.Marked.{IsScopeOf, IsUnmarked}
+use Rattle.proto_kept_references.specs.OuterRows.{is_below_type}
 use Rattle.proto_meaning.proofs.Common.{ArePlain, At, Reference, Symbol, Used, Workspace, all_used, is_outer, is_type, joined, meaning, reference_of}
+use Rattle.proto_names.proofs.BelowTypes.{declares_alone}
 use Rattle.proto_names.proofs.DeclaredRows.{row_of_symbol, symbol_by_row, symbol_listed}
 use Rattle.proto_names.proofs.LinkParts.{one_row}
 use Rattle.proto_names.proofs.LinkTable.{rows_bounded, rows_listed, table_names}
@@ -89,8 +91,8 @@ module _ (places : List ℕ) (marks : List Bool) (before : List FileOf) (was : L
       begin r.file m.0 m.1 (m.2 ∙ ap first_key x.is ∙ e)
 
   was_declared : (r : Reference) (first : List ℕ) (rest : List (List ℕ)) → Contains w.references r → IsUnmarked marks r.file → r.words ≡ first ∷ rest
-      → (s : Symbol) (front : List (List ℕ)) (last : List ℕ) → Contains v.symbols s → Contains places s.file → is_outer s.kind ≡ true → s.name ≡ front ++ last ∷ [] → word_key last ≡ word_key first → Contains w.symbols s
-  was_declared r first rest c left words s front last cs there outer name key =
+      → (s : Symbol) (front : List (List ℕ)) (last : List ℕ) → Contains v.symbols s → Contains places s.file → is_outer s.kind ≡ true → s.name ≡ front ++ last ∷ [] → word_key last ≡ word_key first → IsScopeOf v r.file front → Contains w.symbols s
+  was_declared r first rest c left words s front last cs there outer name key scope =
       let x = row_of_symbol files reads renewed.edited.are_read t renewed.table now renewed.names renewed.listed renewed.within s cs in
       let f = symbol_listed files reads renewed.edited.are_read s cs in
       let plain = names_are_plain files reads renewed.edited.are_read s cs in
@@ -101,8 +103,10 @@ module _ (places : List ℕ) (marks : List Bool) (before : List FileOf) (was : L
             (λ b. sym (renewed.numbers.names x.0 b) ∙ x.1.name) stood.kind_is
         | inr begin ↦
             let ends : EndsIn t x.0 last = record { scope = front; plain = subst ArePlain name plain; name = x.1.name ∙ ap joined name } in
+            let alone = declares_alone files reads renewed.edited.are_read t renewed.table now renewed.names renewed.listed renewed.within renewed.apart s cs x.0 x.1 front last name r.file scope in
+            let top : is_below_type t x.0 ≡ false = false_from_ne_true (is_below_type t x.0) (λ below. both_ways (get_or marks r.file false) left (ap (λ (f : ℕ). get_or marks f false) (alone below) ∙ marked.edited s.file there)) in
             let same : first_key r ≡ word_key last = ap (λ (ws : List (List ℕ)). word_key (get_or ws 0 [])) words ∙ sym key in
-            absurd (both_ways (get_or marks r.file false) left (begins_so r c (word_key last) same (begin last ends)))
+            absurd (both_ways (get_or marks r.file false) left (begins_so r c (word_key last) same (begin top last ends)))
       ]
 
   -- ---- all

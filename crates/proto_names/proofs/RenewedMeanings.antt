@@ -1,8 +1,8 @@
 -- Of files that are edited at some places, what the references of a file mean that has not to be looked at again.
-use Rattle.std.proofs.Common.{◌≡◌, ℕ, suc, ◌+◌, ◌<◌, true, false, List, [], ◌∷◌, length, get_or, map, option_map, Some, refl, sym, ◌∙◌, ap, ap₂, subst, arith, Bool, All, Contains}
-use Rattle.proto_faults.proofs.Common.{All-contains, All-map, Contains-get_or, both_ways, contains_head, contains_later, contains_map, from_map}
+use Rattle.std.proofs.Common.{◌≡◌, ℕ, suc, ◌+◌, ◌<◌, false, List, [], ◌∷◌, length, get_or, map, option_map, Some, refl, sym, ◌∙◌, ap, ap₂, subst, arith, Bool, All, Contains}
+use Rattle.proto_faults.proofs.Common.{All-map, Contains-get_or, both_ways, contains_head, contains_later, contains_map, from_map}
 use Rattle.proto_case.specs.Camel.{entry_name}
-use Rattle.proto_files.proofs.Common.{FileOf, HasNoFault, ReadOf, read_at}
+use Rattle.proto_files.proofs.Common.{FileOf, HasNoFault, ReadOf}
 use Rattle.proto_imports.proofs.Common.{LinkFaults, names_in, names_of_files, text_of, use_from, use_in}
 use Rattle.proto_kept.specs.Kept.{IsFlawless}
 use Rattle.proto_kept.specs.Marked.{IsUnmarked}
@@ -13,7 +13,7 @@ use Rattle.proto_names.specs.LinkOfFiles.{IsMeantIn, TextMeant}
 use Rattle.proto_names.specs.Linking.{name_text}
 use Rattle.proto_names.specs.Renewed.{NumbersStay}
 use Rattle.proto_relink.proofs.Clean.{unmarked_files_mean_the_same}
-use Rattle.proto_relink.proofs.Differing.{as_many, same_reading, same_reference, same_text}
+use Rattle.proto_relink.proofs.Differing.{same_reading, same_reference, same_text}
 use Rattle.proto_relink.specs.Edited.{AreEdited}
 use Rattle.proto_relink.specs.Relinked.{HasToLook}
 use Rattle.proto_table.proofs.Common.{names_of, used_named}

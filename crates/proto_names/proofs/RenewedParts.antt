@@ -9,6 +9,7 @@ use Rattle.proto_kept_names.specs.NamesOfFiles.{AreNamesOf as AreListedNames}
 use Rattle.proto_kept_references.specs.ChangedFiles.{IsChangeMarked, StaysOrIsMarked, WasOrIsMarked, outer_rows_of}
 use Rattle.proto_kept_references.specs.ChangedFiles.{AreChangesMarked as AreRowsMarked}
 use Rattle.proto_kept_references.specs.Marking.{ArePlacesMarked}
+use Rattle.proto_kept_references.specs.OuterRows.{is_below_type}
 use Rattle.proto_kept_references.specs.Renewed.{AreReferencesOf}
 use Rattle.proto_kept_references.specs.declared.outer_rows.KindRow.{KindRow}
 use Rattle.proto_meaning.specs.Names.{Word}
@@ -140,13 +141,13 @@ module _ (files : List FileOf) (places : List ℕ) (old : Table) (imports : List
           | inr users ↦ inr (subst (AreUsersMarked marks) (same row) users)
         ]
 
-    came : (file row : ℕ) (kind : Kind) → Contains places file → DeclaresOuter t now file row kind → DeclaresOuter old rows file row kind ⊎ ((last : Word) → EndsIn t row last → AreBeginnersMarked marks l.meant (word_key last))
+    came : (file row : ℕ) (kind : Kind) → Contains places file → DeclaresOuter t now file row kind → DeclaresOuter old rows file row kind ⊎ (is_below_type t row ≡ false → (last : Word) → EndsIn t row last → AreBeginnersMarked marks l.meant (word_key last))
     came file row kind c d =
         let p : KindRow = record { row = row; kind = kind } in
         elim (All-contains (WasOrIsMarked t marks l.meant (outer_rows_of old (map (λ v. v.items) rows) file)) (outer_rows_of t (map (λ v. v.items) now) file) p (change file c).came (declares t now now_below file row kind d)) [
           | inl stood ↦ inl (declared old rows file row kind stood)
-          | inr begin ↦ inr (λ last ends other m there first.
-              begin ends.scope last ends.plain ends.name other m there (subst (λ key. Contains (word_key last ∷ []) key) (sym first) (contains_head (word_key last) [])))
+          | inr begin ↦ inr (λ top last ends other m there first.
+              begin top ends.scope last ends.plain ends.name other m there (subst (λ key. Contains (word_key last ∷ []) key) (sym first) (contains_head (word_key last) [])))
         ]
 
     pub changes_marked : AreChangesMarked places marks old rows l t now

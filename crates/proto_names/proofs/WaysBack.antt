@@ -1,5 +1,5 @@
 -- A link whose parts are as they were again, and one that was changed in place.
-use Rattle.std.proofs.Common.{◌≡◌, ◌≢◌, ℕ, ◌<◌, ◌≤◌, List, [], ◌∷◌, length, get_or, map, sym, ◌∙◌, ap, subst, arith, cond, take, All, AllPairs}
+use Rattle.std.proofs.Common.{◌≡◌, ℕ, ◌<◌, List, [], ◌∷◌, length, get_or, map, sym, ◌∙◌, ap, subst, arith, cond, take, All, AllPairs}
 use Rattle.std.proofs.lemmas.List.{take_all}
 use Rattle.proto_faults.proofs.Common.{Vec, get_or-map, length-map}
 use Rattle.proto_files.specs.FilesRead.{AreRead, ReadOf}

@@ -7,6 +7,7 @@ use Rattle.proto_files.specs.FilesRead.{ReadOf}
 use Rattle.proto_files.specs.GivenFiles.{FileOf}
 use Rattle.proto_imports.specs.Links.{LinkFaults}
 use Rattle.proto_kept.specs.Marked.{IsUnmarked}
+use Rattle.proto_kept_references.specs.OuterRows.{is_below_type}
 use Rattle.proto_meaning.specs.Joined.{ArePlain, joined}
 use Rattle.proto_meaning.specs.Names.{Name, Word, is_outer}
 use Rattle.proto_meaning.specs.declared.kind.Kind.{Kind}
@@ -80,7 +81,8 @@ pub record EndsIn (t : Table) (row : ℕ) (last : Word) : Type 0 where
 
 -- the marks have the edited files; where one declares a name no more, or with another kind, those
 -- with a reference to it; and where one declares a name that it did not, or with another kind, those
--- with a reference whose first word has the key of the name's last word
+-- with a reference whose first word has the key of the name's last word, unless the name stands
+-- right below a type's
 pub record AreChangesMarked (places : List ℕ) (marks : List Bool) (old : Table)
     (before : List (Vec ℕ)) (l : LinkOf) (t : Table) (now : List (Vec ℕ)) : Type 0 where
   pub edited : (file : ℕ) → Contains places file → get_or marks file false ≡ true
@@ -90,7 +92,8 @@ pub record AreChangesMarked (places : List ℕ) (marks : List Bool) (old : Table
   pub came : (file row : ℕ) (kind : Kind) → Contains places file
       → DeclaresOuter t now file row kind
       → DeclaresOuter old before file row kind
-      ⊎ ((last : Word) → EndsIn t row last → AreBeginnersMarked marks l.meant (word_key last))
+      ⊎ (is_below_type t row ≡ false → (last : Word) → EndsIn t row last
+      → AreBeginnersMarked marks l.meant (word_key last))
 
 -- each file is marked whose marks of what it sees are others
 abbrev pub IsSightMarked : List Bool → List (List Bool) → List (List Bool) → Type 0

@@ -11,6 +11,7 @@ use Rattle.proto_imports.proofs.Common.{LinkFaults, FaultStandsAt, all_wanted, l
 use Rattle.proto_kept.proofs.Marked.{unmarked_mean_the_same, marked_decide}
 use Rattle.proto_kept.specs.Kept.{IsFlawless}
 use Rattle.proto_relink.proofs.Differing.{edited_files_differ}
+use Rattle.proto_relink.proofs.OwnScopes.{scopes_are_own}
 use Rattle.proto_relink.specs.Edited.{AreEdited}
 use Rattle.proto_relink.specs.Relinked.{NoImportIsFaulty, NoNameClashes, HasToLook, UnmarkedFilesMeanTheSame, RelinkedAreClean}
 
@@ -65,13 +66,13 @@ names_apart files reads names =
 pub unmarked_files_mean_the_same : UnmarkedFilesMeanTheSame
 unmarked_files_mean_the_same key places before was files reads marks is clean marked r c left =
     unmarked_mean_the_same key places (names_of_files before was) (names_of_files files reads) marks
-    (linked before was is.were_read clean) (nested files reads) (edited_files_differ places before was files reads is) marked r c left
+    (linked before was is.were_read clean) (nested files reads) (scopes_are_own files reads is.are_read) (edited_files_differ places before was files reads is) marked r c left
 
 module _ (key : List ℕ → ℕ) (places : List ℕ) (before : List FileOf) (was : List ReadOf) (files : List FileOf) (reads : List ReadOf) (marks : List Bool) (is : AreEdited places before was files reads) (clean : HasNoFault (LinkFaults before)) (marked : HasToLook key places before was files reads marks)
     (imports : NoImportIsFaulty files reads) (names : NoNameClashes files reads) (again : (r : Reference) → Contains (names_of_files files reads).references r → get_or marks r.file false ≡ true → IsFlawless (names_of_files files reads) r) where
   linked_now : IsLinked (names_of_files files reads)
   linked_now = marked_decide key places (names_of_files before was) (names_of_files files reads) marks
-      (linked before was is.were_read clean) (nested files reads) (names_apart files reads names) (edited_files_differ places before was files reads is) marked again
+      (linked before was is.were_read clean) (nested files reads) (scopes_are_own files reads is.are_read) (names_apart files reads names) (edited_files_differ places before was files reads is) marked again
 
   no_fault : HasNoFault (LinkFaults files)
   no_fault x (of_import others f y are stand h) =

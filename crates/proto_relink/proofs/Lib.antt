@@ -1,2 +1,3 @@
 pub mod Clean
 pub mod Differing
+mod OwnScopes

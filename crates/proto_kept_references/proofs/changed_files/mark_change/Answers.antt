@@ -1,15 +1,19 @@
-use Rattle.std.proofs.Common.{◌<◌, All, List, length, map, sym, subst}
+use Rattle.std.proofs.Common.{ℕ, ◌<◌, All, List, filter, length, map, not, sym, ◌∙◌, ap, subst}
+use Rattle.std.proofs.lemmas.List.Elements.{All-filter}
 use Rattle.proto_kept_lists.specs.declared.backlinks.Meant.{Meant}
 use Rattle.proto_kept_lists.specs.declared.backlinks.RefId.{RefId}
 use Rattle.proto_kept_references.specs.Marking.{AreUsersMarked}
-use Rattle.proto_kept_references.specs.OuterRows.{HasLastWords}
+use Rattle.proto_kept_references.specs.OuterRows.{HasLastWords, is_below_type}
 use Rattle.proto_kept_references.proofs.Changes.{beginners_marked, rows_within, users_marked, users_stay}
 use Rattle.proto_kept_references.proofs.changed_files.mark_change.Goals as goal
 
 pub last_word_keys-requires-clause-within : goal.last_word_keys-requires-clause-within
 last_word_keys-requires-clause-within c =
     let n = length c.args.linked.table.now.rows.items in
-    subst (All (λ row. row < n)) (sym c.deref-2.ensures.value) (rows_within n c.args.now.now c.args.before.now c.in_ok-came.came.items c.in_ok-came.ensures c.requires.within)
+    let test = λ (row : ℕ). not (is_below_type c.args.linked.table.now row) in
+    let came = c.in_ok-came.came.items in
+    let asked_are = c.deref-3.ensures.value ∙ c.in_ok-asked.ensures ∙ ap (filter test) c.deref-2.ensures.value in
+    subst (All (λ row. row < n)) (sym asked_are) (All-filter test (λ row. row < n) came (rows_within n c.args.now.now c.args.before.now came c.in_ok-came.ensures c.requires.within))
 
 pub returns-clause-marked : goal.returns-clause-marked
 returns-clause-marked c =
@@ -20,10 +24,11 @@ returns-clause-marked c =
     let marks = c.mark_beginners.new.marks.items in
     let gone = c.in_ok-gone.gone.items in
     let came = c.in_ok-came.came.items in
+    let asked_are = c.deref-3.ensures.value ∙ c.in_ok-asked.ensures ∙ ap (filter (λ (row : ℕ). not (is_below_type table row))) c.deref-2.ensures.value in
     let keys = c.in_ok-keys.keys.keys in
     record {
       gone = users_marked marks references c.args.before.now c.args.now.now gone c.in_ok-gone.ensures
           (users_stay first marks references gone c.mark_beginners.ensures.stay (subst (AreUsersMarked first references) c.deref.ensures.value c.mark_users.ensures.marked));
       came = beginners_marked table marks meant c.args.before.now c.args.now.now came keys c.in_ok-came.ensures
-          (subst (λ rows. HasLastWords table rows keys) c.deref-2.ensures.value c.in_ok-keys.ensures) c.mark_beginners.ensures.marked;
+          (subst (λ rows. HasLastWords table rows keys) asked_are c.in_ok-keys.ensures) c.mark_beginners.ensures.marked;
     }
