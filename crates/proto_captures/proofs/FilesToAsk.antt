@@ -1,15 +1,15 @@
 -- A file that need not be asked has no reference that a rename captures.
-use Rattle.std.proofs.Common.{◌≡◌, ℕ, ◌<◌, Bool, true, false, ◌||◌, ◌==◌, List, [], ◌∷◌, length, get_or, map, take, Option, Some, None, refl, sym, ap, subst, ◌∙◌, arith, Contains, eq-eqb}
+use Rattle.std.proofs.Common.{◌≡◌, ℕ, ◌<◌, true, false, ◌||◌, ◌==◌, List, [], ◌∷◌, length, get_or, map, take, None, refl, sym, ap, subst, ◌∙◌, arith, Contains, eq-eqb}
 use Rattle.proto_faults.proofs.Common.{any_from, both_ways, contains_map, from_map, or_left, or_right}
 use Rattle.proto_case.proofs.Common.{entry_name}
 use Rattle.proto_files.proofs.Common.{ReadOf, FileOf}
 use Rattle.proto_imports.proofs.Common.{link_skeleton, names_of_files, text_of, uses_of, used_named}
 use Rattle.proto_kept.specs.Beginnings.{BeginsSo, CapturesBeginSo, IsDeclaredScope, by_entry, by_new, by_old}
-use Rattle.proto_meaning.proofs.Common.{Renaming, At, used_in, Reference, Workspace, Used}
+use Rattle.proto_meaning.proofs.Common.{Renaming, used_in, Reference, Workspace, Used}
 use Rattle.proto_names.proofs.Common.{IsLinkOf, LinkOf}
 use Rattle.proto_names.specs.Referring.{first_key, word_key}
 use Rattle.proto_names.specs.Linking.{Meant}
-use Rattle.proto_rename_laws.proofs.Common.{HasScope, Target, name_map, files_are_woven}
+use Rattle.proto_rename_laws.proofs.Common.{Target, name_map, files_are_woven}
 use Rattle.proto_captures.specs.Common.{AreNewNames, IsFirstIn, IsRenameOf, NewTexts, begins_with_key, entry_or_new, first_keys_of, has_first_key}
 use Rattle.proto_captures.proofs.ByTexts.{texts_for}
 use Rattle.proto_captures.proofs.FileCaptures.{is_renaming, linked, texts_are, there}

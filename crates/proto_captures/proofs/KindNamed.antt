@@ -1,7 +1,7 @@
 -- A link's name by its text.
-use Rattle.std.proofs.Common.{◌≡◌, ◌≢◌, ◌⊎◌, ℕ, zero, suc, Bool, true, false, ◌&&◌, not, cond, List, [], ◌∷◌, Option, Some, None, option_map, option_and_then, refl, sym, ap, ◌∙◌, inl, inr, arith, slice_get, find, bytes_eq}
+use Rattle.std.proofs.Common.{◌≡◌, ◌≢◌, ℕ, zero, suc, Bool, true, false, not, cond, List, [], ◌∷◌, Some, None, option_map, option_and_then, refl, sym, ap, ◌∙◌, inl, inr, arith, slice_get, find, bytes_eq}
 use Rattle.proto_faults.proofs.Common.{and_from, and_parts, cases_Bool, cond-false, cond-true, none-some, same_Some, same_from_word, word_from_same}
-use Rattle.proto_names.proofs.Common.{LinkOf, NameOf, has_name, if_declared, is_empty, name_at, name_with, name_text}
+use Rattle.proto_names.proofs.Common.{LinkOf, NameOf, has_name, if_declared, is_empty, name_at, name_text}
 use Rattle.proto_captures.specs.ShownTexts.{kind_named}
 
 -- a name that is there with this text

@@ -1,6 +1,6 @@
 -- What is seen by texts is seen by names, and so a reference that is overtaken by texts is overtaken by names.
-use Rattle.std.proofs.Common.{◌≡◌, ◌↔◌, ℕ, zero, suc, ◌-◌, ◌<◌, ◌≤◌, Bool, true, false, ◌&&◌, List, [], ◌∷◌, ◌++◌, length, get_or, take, Option, Some, None, option_map, refl, sym, ap, subst, ◌∙◌, inl, inr, arith, slice_get, AllPairs, Contains, find, bytes_eq}
-use Rattle.proto_faults.proofs.Common.{and_from, and_parts, both_ways, cases_Bool, cond-false, cond-true, get_or_default, none-some, same_Some, any_from, word_from_same}
+use Rattle.std.proofs.Common.{◌≡◌, ◌↔◌, ℕ, zero, suc, ◌-◌, ◌<◌, ◌≤◌, Bool, true, false, ◌&&◌, List, [], ◌∷◌, ◌++◌, length, get_or, take, Option, Some, None, option_map, refl, sym, ap, subst, ◌∙◌, inl, inr, arith, AllPairs, Contains}
+use Rattle.proto_faults.proofs.Common.{and_from, and_parts, both_ways, cases_Bool, cond-false, cond-true, get_or_default, none-some, any_from}
 use Rattle.proto_meaning.specs.declared.kind.Kind.{Kind}
 use Rattle.proto_meaning.specs.declared.kind.Kind.TheVariants.{Package}
 use Rattle.proto_meaning.proofs.Common.{IsOvertaken, ArePlain, IsPlain, below, joined, AreApart, is_package, MarksSeen, Reference, Symbol, Workspace, fits_at_first, front_at, hit, hits_at, meaning, meaning_at, same_name, sees, shows, typed, same_from_name, joined_apart, hit_relative, package_from, one_symbol, shown}

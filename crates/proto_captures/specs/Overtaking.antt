@@ -2,7 +2,6 @@
 -- names of the workspace, and by texts.
 use Rattle.std.specs.Prelude.{◌≡◌, ◌↔◌, ℕ, ◌-◌, ◌<◌, length, Bool, true, false, not, ◌&&◌, if◌then◌else◌, List, [], ◌∷◌, map, get_or, Option, Some, None, is_some, slice_index_or}
 use Rattle.std.specs.List.{Contains}
-use Rattle.std.specs.Str.{bytes_eq}
 use Rattle.proto_faults.specs.Texts.{Text, or_nothing}
 use Rattle.proto_case.specs.Camel.{entry_name}
 use Rattle.proto_files.specs.FilesRead.{ReadOf, AreRead, read_at}

@@ -12,10 +12,10 @@ use Rattle.proto_scenes.specs.LinkOfFiles.{IsLinkOf}
 use Rattle.proto_names.specs.Following.{WasMadeOf}
 use Rattle.proto_names.specs.Linking.{LinkOf}
 use Rattle.proto_extensions.proofs.NoExtensions.{no_flaw}
-use Rattle.proto_kept_checks.specs.Checked.{AreKeptOf, IsKeptStill, KeptFileOf, KeptFilesTellSpared, StaysKept, kept_file}
+use Rattle.proto_kept_checks.specs.Checked.{AreKeptOf, KeptFileOf, KeptFilesTellSpared, StaysKept, kept_file, nothing_kept}
 use Rattle.proto_kept_checks.specs.Extended.{ExtendsAreSpared, HasNoExtend, SparedFilesStayFlawless}
 use Rattle.proto_kept_checks.specs.Spared.{AreSoundlyEdited, CleanEditsAreSound, SparedDescriptorsStay}
-use Rattle.proto_spared_files.specs.Common.{AreOthersKept, AreOthersKeptAsTold, HasNoMarkedExtends, kept_file_of, kept_files_of, nothing_kept}
+use Rattle.proto_spared_files.specs.Common.{AreOthersKept, AreOthersKeptAsTold, HasNoMarkedExtends, kept_file_of, kept_files_of}
 use Rattle.proto_spared_files.specs.declared.kept_file.KeptFile.{KeptFile}
 use Rattle.proto_desc.specs.Checked.{AreDescribed}
 use Rattle.proto_desc.specs.Common.{CheckFaults, described_from, fault_of_flaw, flaws_of, of_flaw}
@@ -134,9 +134,7 @@ module _ (tells : KeptFilesTellSpared) (places : List ℕ) (before : List FileOf
   kept_before file within = kept.each file nothing_kept (omega (arith, was_within file within, kept.len)) was were
 
   stays : (file : ℕ) → file < length files → get_or marks file false ≡ false → StaysKept places before was files reads file
-  stays file within unmarked =
-      tells places before was files reads sound clean l are.link file
-      (subst (λ (k : KeptFileOf). IsKeptStill places files l k file) (kept_before file within) (are.others file within unmarked))
+  stays file within unmarked = tells places before was files reads sound clean (files_kept old) kept l are.link file (are.others file within unmarked)
 
   has_none : (file : ℕ) → file < length files → get_or marks file false ≡ true → HasNoExtend was reads file
   has_none file within marked =

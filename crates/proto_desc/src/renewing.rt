@@ -119,9 +119,9 @@ impl Descriptors {
         }
     }
 
-    /// Marks of the files that the edit does not spare: by the marks of those that have to be
-    /// looked at again, where these are told, else by each reference of all files. Refused for want
-    /// of memory alone.
+    /// Marks of the files that the edit does not spare. Where it is told which have to be looked at
+    /// again, these are asked, and those that refer to an enum of an edited file or have an `extend`
+    /// block; else all files. Refused for want of memory alone.
     fn unspared(
         &self,
         alloc: Global,

@@ -49,7 +49,7 @@ declared_by n (r ∷ rs) d c = elim (Contains-append_cases (file_declared n (nam
       (suc p.0, omega (arith, p.1), (p.2.0, p.2.1, ap (λ m. declares m p.2.0) {x = n + suc p.0} {y = suc n + p.0} (omega arith) ∙ p.2.2))
 ]
 
-declared_in : (n k : ℕ) (rs : List ReadOf) (p : Placed) → k < length rs → Contains (file_placed (names_in (read_at rs k)).items) p → Contains (all_declared n (map names_in rs)) (declares (n + k) p)
+pub declared_in : (n k : ℕ) (rs : List ReadOf) (p : Placed) → k < length rs → Contains (file_placed (names_in (read_at rs k)).items) p → Contains (all_declared n (map names_in rs)) (declares (n + k) p)
 declared_in n k [] p l c = absurd (omega (arith, l))
 declared_in n zero (r ∷ rs) p l c =
     let z : n ≡ n + 0 = omega arith in

@@ -17,6 +17,7 @@ use Rattle.proto_parts.specs.declared.ranges.RangeAt.{RangeAt}
 use Rattle.proto_numbers.proofs.Common.{end_of, flaw_if, is_inside, most_field, number_of_field}
 use Rattle.proto_numbers.specs.declared.flaw.Flaw.{Flaw}
 use Rattle.proto_checks.specs.FileFlaws.{file_flaws}
+use Rattle.proto_checks.proofs.KnownNames.{flat_map_same}
 use Rattle.proto_scenes.specs.SceneOf.{meaning_of, scene_of}
 use Rattle.proto_extensions.specs.Common.{ExtensionOf, all_flaws, block_extensions, extendee_in, extension_ranges_at, extensions_before, extensions_in, extensions_of, has_extend, is_extend, is_extendable, is_message_at, name_meant, not_extendable, ranges_at_place, ranges_within, repeated_extensions}
 use Rattle.proto_extensions.proofs.NoExtensions.{no_flaw}
@@ -24,6 +25,7 @@ use Rattle.proto_extensions.proofs.WrittenExtensions.{from_flat}
 use Rattle.proto_kept_checks.specs.Extended.{ExtendsAreSpared, HasNoExtend, SparedFilesStayFlawless, SparedFlawsOfFilesStay, SparedFlawsStay}
 use Rattle.proto_kept_checks.specs.Spared.{AreSoundlyEdited, IsSparedFile, StoodElsewhere}
 use Rattle.proto_kept_checks.proofs.Declared.{found_passes}
+use Rattle.proto_kept_checks.proofs.SameScenes.{extensions_same, flaws_same}
 use Rattle.proto_kept_checks.proofs.Scenes.{name_left, reading, scene_stays}
 use Rattle.proto_kept_checks.proofs.Unedited.{same_lexemes, same_reading}
 
@@ -111,10 +113,16 @@ module _ (places : List ℕ) (before : List FileOf) (was : List ReadOf) (files :
         ∙ ap (λ (x : ReadOf). option_and_then (meaning_of before was file) (find (λ (u : Used ℕ). u.first == first_of r.dot r.words) (names_in x).used)) (reading places before was files reads are file spared)
 
     extensions_stay : (cap : Option ℕ) → extensions_in cap files reads file ≡ extensions_in cap before was file
-    extensions_stay cap = λ i. flat_map (λ (b : BlockOf). extensions_of (scene_stays places before was files reads are file spared cap i) (option_and_then (λ r. name_stays r i) (extendee_in b.header)) b.within) (blocks_in (reading places before was files reads are file spared i).tree)
+    extensions_stay cap =
+        let named : BlockOf → Option (List (List ℕ)) = λ b. option_and_then (name_meant files reads file) (extendee_in b.header) in
+        flat_map_same (block_extensions cap files reads file) (λ (b : BlockOf). extensions_of (scene_of cap before was file) (named b) b.within)
+        (λ b. extensions_same (scene_of cap files reads file) (scene_of cap before was file) (scene_stays places before was files reads are file spared cap) (named b) b.within) (blocks_in (read_at reads file).tree)
+        ∙ (λ i. flat_map (λ (b : BlockOf). extensions_of (scene_of cap before was file) (option_and_then (λ r. name_stays r i) (extendee_in b.header)) b.within) (blocks_in (reading places before was files reads are file spared i).tree))
 
     file_flaws_stay : (cap : Option ℕ) → file_flaws (scene_of cap files reads file) (read_at reads file).tree ≡ file_flaws (scene_of cap before was file) (read_at was file).tree
-    file_flaws_stay cap = λ i. file_flaws (scene_stays places before was files reads are file spared cap i) (reading places before was files reads are file spared i).tree
+    file_flaws_stay cap =
+        flaws_same (scene_of cap files reads file) (scene_of cap before was file) (scene_stays places before was files reads are file spared cap) (read_at reads file).tree
+        ∙ ap (λ (r : ReadOf). file_flaws (scene_of cap before was file) r.tree) (reading places before was files reads are file spared)
 
     without_extend : has_extend (read_at reads file).tree ≡ false → (cap : Option ℕ) → all_flaws cap files reads file ≡ all_flaws cap before was file
     without_extend none cap =

@@ -60,7 +60,7 @@ message_kind _ e = absurd (true≢false (sym e))
 
 module _ (files : List FileOf) (reads : List ReadOf) (l : LinkOf) (link : IsLinkRead files reads l) where
   -- the name of a declaration has its kind
-  one_kind : (row : ℕ) (n : NameOf) → name_at l row ≡ Some n → (d : Declared At) → Contains (link_skeleton files reads).declared d → n.text ≡ joined (name_of (text_of files reads) entry_name d.path) → n.kind ≡ d.kind
+  pub one_kind : (row : ℕ) (n : NameOf) → name_at l row ≡ Some n → (d : Declared At) → Contains (link_skeleton files reads).declared d → n.text ≡ joined (name_of (text_of files reads) entry_name d.path) → n.kind ≡ d.kind
   one_kind row n h d c e =
       let declared = (link_skeleton files reads).declared in
       let x = link.by.names.there (symbol_of (text_of files reads) entry_name d) (contains_map (symbol_of (text_of files reads) entry_name) declared d c) in

@@ -2,7 +2,7 @@
 use Rattle.std.proofs.Common.{◌≡◌, ℕ, suc, ◌+◌, ◌<◌, Bool, false, List, [], ◌∷◌, length, get_or, map, Option, Some, None, option_map, refl, sym, ◌∙◌, ap, subst, inl, inr, ◌⊎◌, arith, All, Contains}
 use Rattle.proto_faults.proofs.Common.{cases_eq, contains_cases, contains_head, contains_later, contains_map, false≢true, from_map, same_Some}
 use Rattle.proto_case.specs.Camel.{entry_name}
-use Rattle.proto_files.proofs.Common.{FileOf, HasNoFault, ReadOf, read_at}
+use Rattle.proto_files.proofs.Common.{FileOf, HasNoFault, ReadOf}
 use Rattle.proto_meaning.specs.declared.kind.Kind.{Kind}
 use Rattle.proto_meaning.specs.declared.kind.Kind.TheVariants.{Message}
 use Rattle.proto_meaning.proofs.Common.{At, Declared, Reference, Symbol, Used, all_used, is_type, joined, meaning, reference_of, symbol_of, used_in}
@@ -14,8 +14,7 @@ use Rattle.proto_relink.specs.Edited.{EditedFilesDiffer}
 use Rattle.proto_relink.specs.Relinked.{HasToLook, UnmarkedFilesMeanTheSame}
 use Rattle.proto_relink.proofs.Differing.{same_reference}
 use Rattle.proto_scenes.specs.SceneOf.{declared_as, meaning_of}
-use Rattle.proto_extensions.specs.Extends.{has_extend}
-use Rattle.proto_kept_checks.specs.Checked.{AreMeantStill, IsMeantStill, IsSettled, MarksTellKept, is_message_kind, kept_name}
+use Rattle.proto_kept_checks.specs.Checked.{AreKeptOf, AreMeantStill, DoesMeanStill, IsMeantStill, IsSettled, KeptFileOf, MarksTellKept, is_message_kind, kept_file, kept_name, nothing_kept}
 use Rattle.proto_kept_checks.specs.Spared.{AreSoundlyEdited}
 use Rattle.proto_kept_checks.proofs.Checked.{resolved}
 use Rattle.proto_kept_checks.proofs.Declared.{IsNamed, declared_named, meant_named}
@@ -41,7 +40,7 @@ reference_there files reads file u l c =
     (subst (λ n. Contains (all_used 0 (map names_in reads)) (used_in n u)) zero_more (use_in 0 file reads u l c))
 
 module _ (differ : EditedFilesDiffer) (unmarked : UnmarkedFilesMeanTheSame) (key : List ℕ → ℕ) (places : List ℕ) (before : List FileOf) (was : List ReadOf) (files : List FileOf) (reads : List ReadOf) (marks : List Bool) (are : AreSoundlyEdited places before was files reads) (clean : HasNoFault (LinkFaults before))
-    (told : HasToLook key places before was files reads marks) (l : LinkOf) (link : IsLinkRead files reads l) (file : ℕ) (within : file < length files) (off : get_or marks file false ≡ false) where
+    (told : HasToLook key places before was files reads marks) (ks : List KeptFileOf) (kept : AreKeptOf before ks) (l : LinkOf) (link : IsLinkRead files reads l) (file : ℕ) (within : file < length files) (off : get_or marks file false ≡ false) where
   left : Contains places file → ⊥
   left c = false≢true (sym off ∙ told.edited file c)
 
@@ -81,16 +80,19 @@ module _ (differ : EditedFilesDiffer) (unmarked : UnmarkedFilesMeanTheSame) (key
       let named : IsNamed files reads name t.0 = record { there = t.1; typed = ap is_type kind ∙ is.typed; spelled = ap (λ (s : Symbol). s.name) t.2 ∙ is.spelled } in
       ap (λ (y : Declared At). y.kind) (same_Some x t.0 (sym found ∙ declared_named files reads are.apart_now name t.0 named)) ∙ kind
 
-  abbrev had_extend : Bool
-  had_extend = has_extend (read_at was file).tree
+  abbrev by_which : KeptFileOf
+  by_which = kept_file before was file
 
-  stays_meant : (u : Used ℕ) → Contains (uses_of reads file) u → (m : Meant) → meant_by_link l m ≡ meant_by_use files reads file u → (n : NameOf) × (name_at l m.row ≡ Some n) → IsSettled places l had_extend m → IsMeantStill places l had_extend (kept_name before was (meaning_of before was file u)) m
+  kept_before : get_or ks file nothing_kept ≡ by_which
+  kept_before = kept.each file nothing_kept (omega (arith, within, kept.len, as_many places before was files reads are.edited)) was are.edited.were_read
+
+  stays_meant : (u : Used ℕ) → Contains (uses_of reads file) u → (m : Meant) → meant_by_link l m ≡ meant_by_use files reads file u → (n : NameOf) × (name_at l m.row ≡ Some n) → IsSettled places files l ks by_which m → IsMeantStill places files l ks by_which (kept_name before was (meaning_of before was file u)) m
   stays_meant u c m e there settled = by (meaning_of before was file u) refl
     where
       c_before : Contains (uses_of was file) u
       c_before = subst (λ us. Contains us u) uses_were c
 
-      by : (o : Option (List (List ℕ))) → meaning_of before was file u ≡ o → IsMeantStill places l had_extend (kept_name before was o) m
+      by : (o : Option (List (List ℕ))) → meaning_of before was file u ≡ o → IsMeantStill places files l ks by_which (kept_name before was o) m
       by None none = absurd (resolved before was are.edited.were_read clean file u within_before c_before none)
       by (Some name) means =
           let h = has_meant files reads l link file u m e there in
@@ -102,16 +104,22 @@ module _ (differ : EditedFilesDiffer) (unmarked : UnmarkedFilesMeanTheSame) (key
             text = h.text ∙ ap (λ (n : List (List ℕ)). Some (joined n)) same;
             settled = elim settled [
               | inl elsewhere ↦ inl elsewhere
-              | inr message ↦ (
-                  let now : h.declared.kind ≡ Message = message_kind h.declared.kind (sym (ap is_message_kind h.kind) ∙ message.1) in
-                  let earlier : d.0.kind ≡ Message = sym (kind_stays u c_before name means d.0 d.1 h.declared found) ∙ now in
-                  inr (message.0, ap (λ (o : Option (Declared At)). is_message_kind (option_map (λ (y : Declared At). y.kind) o)) found_before ∙ ap (λ (k : Kind). is_message_kind (Some k)) earlier, message.1))
+              | inr there ↦ inr (
+                there.0,
+                elim there.1 [
+                  | inl message ↦ (
+                      let now : h.declared.kind ≡ Message = message_kind h.declared.kind (sym (ap is_message_kind h.kind) ∙ message) in
+                      let earlier : d.0.kind ≡ Message = sym (kind_stays u c_before name means d.0 d.1 h.declared found) ∙ now in
+                      inl (ap (λ (o : Option (Declared At)). is_message_kind (option_map (λ (y : Declared At). y.kind) o)) found_before ∙ ap (λ (k : Kind). is_message_kind (Some k)) earlier, message))
+                  | inr enum ↦ inr enum
+                ],
+              )
             ];
           }
 
   -- each reference, one for one
-  go : (us : List (Used ℕ)) (ms : List Meant) → map (meant_by_link l) ms ≡ map (meant_by_use files reads file) us → All (λ (m : Meant). (n : NameOf) × (name_at l m.row ≡ Some n)) ms → All (IsSettled places l had_extend) ms
-      → ((u : Used ℕ) → Contains us u → Contains (uses_of reads file) u) → AreMeantStill places l had_extend (map (λ u. kept_name before was (meaning_of before was file u)) us) ms
+  go : (us : List (Used ℕ)) (ms : List Meant) → map (meant_by_link l) ms ≡ map (meant_by_use files reads file) us → All (λ (m : Meant). (n : NameOf) × (name_at l m.row ≡ Some n)) ms → All (IsSettled places files l ks by_which) ms
+      → ((u : Used ℕ) → Contains us u → Contains (uses_of reads file) u) → AreMeantStill places files l ks by_which (map (λ u. kept_name before was (meaning_of before was file u)) us) ms
   go [] [] e rows settled whole = tt
   go [] (m ∷ ms) e rows settled whole = absurd (cc)
   go (u ∷ us) [] e rows settled whole = absurd (cc)
@@ -122,16 +130,20 @@ module _ (differ : EditedFilesDiffer) (unmarked : UnmarkedFilesMeanTheSame) (key
         go us ms on (λ k x n. rows (suc k) x (omega (arith, n))) (λ k x n. settled (suc k) x (omega (arith, n))) (λ v c. whole v (contains_later u v us c)),
       )
 
-  still : All (IsSettled places l had_extend) (get_or l.meant file []) → AreMeantStill places l had_extend (map (λ u. kept_name before was (meaning_of before was file u)) (uses_of was file)) (get_or l.meant file [])
+  still : All (IsSettled places files l ks by_which) (get_or l.meant file []) → AreMeantStill places files l ks by_which (map (λ u. kept_name before was (meaning_of before was file u)) (uses_of was file)) (get_or l.meant file [])
   still settled =
-      subst (λ (us : List (Used ℕ)). AreMeantStill places l had_extend (map (λ u. kept_name before was (meaning_of before was file u)) us) (get_or l.meant file [])) uses_were
+      subst (λ (us : List (Used ℕ)). AreMeantStill places files l ks by_which (map (λ u. kept_name before was (meaning_of before was file u)) us) (get_or l.meant file [])) uses_were
       (go (uses_of reads file) (get_or l.meant file []) (link.means file within).texts (link.means file within).within settled (λ u c. c))
 
 pub marks_tell_kept : EditedFilesDiffer → UnmarkedFilesMeanTheSame → MarksTellKept
-marks_tell_kept differ unmarked key places before was files reads marks are clean told l link file within off settled =
+marks_tell_kept differ unmarked key places before was files reads marks are clean told ks kept l link file within off settled =
     let read = link reads are.edited.are_read in
+    let same = kept_before differ unmarked key places before was files reads marks are clean told ks kept l read file within off in
     record {
       within = within;
-      left = left differ unmarked key places before was files reads marks are clean told l read file within off;
-      means = still differ unmarked key places before was files reads marks are clean told l read file within off settled;
+      left = left differ unmarked key places before was files reads marks are clean told ks kept l read file within off;
+      means =
+          subst (DoesMeanStill places files l ks file) (sym same)
+          (still differ unmarked key places before was files reads marks are clean told ks kept l read file within off
+          (subst (λ (k : KeptFileOf). All (IsSettled places files l ks k) (get_or l.meant file [])) same settled));
     }

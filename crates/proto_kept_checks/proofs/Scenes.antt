@@ -1,12 +1,15 @@
--- The scene and the descriptor of a spared file are what they were.
-use Rattle.std.proofs.Common.{◌≡◌, ℕ, ◌<◌, List, length, map, Option, Some, None, refl, sym, ◌∙◌, ap, inl, inr, ◌⊎◌, option_and_then, Contains}
+-- The descriptor of a spared file is what it was, and its scene as far as that is asked for.
+use Rattle.std.proofs.Common.{◌≡◌, ℕ, ◌<◌, Bool, true, false, List, length, map, Option, Some, None, option_map, refl, sym, ◌∙◌, ap, ap₂, subst, inl, inr, ◌⊎◌, option_and_then, Contains}
 use Rattle.proto_files.proofs.Common.{FileOf, ReadOf, file_at, read_at}
-use Rattle.proto_meaning.proofs.Common.{At, Declared, Used, joined, map_agree, place_of}
+use Rattle.proto_meaning.proofs.Common.{At, Declared, Used, joined, map_agree, map_map, place_of}
 use Rattle.proto_names.specs.Links.{names_in, uses_of}
-use Rattle.proto_scenes.specs.SceneOf.{declared_as, enum_at, enum_named, meaning_of, means_of, meant_as, scene_of}
+use Rattle.proto_parts.specs.Scenes.{EnumOf, MeantOf}
+use Rattle.proto_scenes.specs.SceneOf.{declared_as, enum_at, enum_named, is_proto3_file, lexemes_of, meaning_of, means_of, meant_as, scene_of}
 use Rattle.proto_described.specs.Described.{file_described}
-use Rattle.proto_kept_checks.specs.Spared.{AreSoundlyEdited, IsNoEnum, IsSparedFile, SparedDescriptorsStay, SparedScenesStay, StoodElsewhere}
+use Rattle.proto_kept_checks.specs.Spared.{AreSoundlyEdited, IsSparedFile, NamesSameEnum, SparedDescriptorsStay, SparedScenesStay, StoodElsewhere}
+use Rattle.proto_kept_checks.specs.Values.{IsSameScene, enum_without_names, meant_without_names}
 use Rattle.proto_kept_checks.proofs.Declared.{declared_named, meant_named, named_still}
+use Rattle.proto_kept_checks.proofs.SameScenes.{described_same, same_enum}
 use Rattle.proto_kept_checks.proofs.Unedited.{same_enums, same_file, same_lexemes, same_reading, same_version}
 
 module _ (places : List ℕ) (before : List FileOf) (was : List ReadOf) (files : List FileOf) (reads : List ReadOf) (are : AreSoundlyEdited places before was files reads) where
@@ -38,38 +41,66 @@ module _ (places : List ℕ) (before : List FileOf) (was : List ReadOf) (files :
       ∙ sym (ap (option_and_then (λ (d : Declared At). enum_at before was (place_of d))) is.found_before)
 
   module _ (file : ℕ) (spared : IsSparedFile places before was files reads file) where
-    enum_stays : (u : Used ℕ) (name : List (List ℕ)) → Contains (uses_of reads file) u → meaning_of before was file u ≡ Some name → enum_named files reads name ≡ enum_named before was name
+    abbrev version : Bool
+    version = is_proto3_file before was file
+
+    enum_stays : (u : Used ℕ) (name : List (List ℕ)) → Contains (uses_of reads file) u → meaning_of before was file u ≡ Some name → NamesSameEnum version before was files reads name
     enum_stays u name c means = by (spared.enums u name c (spared.means u c ∙ means))
       where
-        by : StoodElsewhere places before was name ⊎ IsNoEnum before was files reads name → enum_named files reads name ≡ enum_named before was name
-        by (inl elsewhere) = enum_left name (name_left file u name means elsewhere)
-        by (inr none) = none.1 ∙ sym none.0
+        by : StoodElsewhere places before was name ⊎ NamesSameEnum version before was files reads name → NamesSameEnum version before was files reads name
+        by (inl elsewhere) = same_enum version (enum_named before was name) (enum_named files reads name) (sym (enum_left name (name_left file u name means elsewhere)))
+        by (inr same) = same
 
-    one_stays : (u : Used ℕ) → Contains (uses_of reads file) u → meant_as files reads u.first (meaning_of files reads file u) ≡ meant_as before was u.first (meaning_of before was file u)
-    one_stays u c = ap (meant_as files reads u.first) (spared.means u c) ∙ by (meaning_of before was file u) refl
+    -- what a reference means, as far as it is asked for, if so is the enum of the name
+    one_stays : (asked : MeantOf → MeantOf)
+        → ((token : ℕ) (name : List (List ℕ)) → NamesSameEnum version before was files reads name → asked (meant_as files reads token (Some name)) ≡ asked (meant_as before was token (Some name)))
+        → (u : Used ℕ) → Contains (uses_of reads file) u → asked (meant_as files reads u.first (meaning_of files reads file u)) ≡ asked (meant_as before was u.first (meaning_of before was file u))
+    one_stays asked same u c = ap (λ (o : Option (List (List ℕ))). asked (meant_as files reads u.first o)) (spared.means u c) ∙ by (meaning_of before was file u) refl
       where
-        by : (o : Option (List (List ℕ))) → meaning_of before was file u ≡ o → meant_as files reads u.first o ≡ meant_as before was u.first o
+        by : (o : Option (List (List ℕ))) → meaning_of before was file u ≡ o → asked (meant_as files reads u.first o) ≡ asked (meant_as before was u.first o)
         by None e = refl
-        by (Some name) e = λ i. record { token = u.first; name = joined name; enum = enum_stays u name c e i }
+        by (Some name) e = same u.first name (enum_stays u name c e)
 
     pub reading : read_at reads file ≡ read_at was file
     reading = same_reading places before was files reads are.edited file spared.within spared.left
 
-    means_stay : means_of files reads file ≡ means_of before was file
-    means_stay =
-        map_agree (λ u. meant_as files reads u.first (meaning_of files reads file u)) (λ u. meant_as before was u.first (meaning_of before was file u)) (uses_of reads file) one_stays
-        ∙ ap (λ (r : ReadOf). map (λ u. meant_as before was u.first (meaning_of before was file u)) (names_in r).used) reading
+    each_stays : (asked : MeantOf → MeantOf)
+        → ((token : ℕ) (name : List (List ℕ)) → NamesSameEnum version before was files reads name → asked (meant_as files reads token (Some name)) ≡ asked (meant_as before was token (Some name)))
+        → map (λ (u : Used ℕ). asked (meant_as files reads u.first (meaning_of files reads file u))) (uses_of reads file) ≡ map (λ (u : Used ℕ). asked (meant_as before was u.first (meaning_of before was file u))) (uses_of was file)
+    each_stays asked same =
+        map_agree (λ u. asked (meant_as files reads u.first (meaning_of files reads file u))) (λ u. asked (meant_as before was u.first (meaning_of before was file u))) (uses_of reads file) (one_stays asked same)
+        ∙ ap (λ (r : ReadOf). map (λ u. asked (meant_as before was u.first (meaning_of before was file u))) (names_in r).used) reading
 
-    pub scene_stays : (cap : Option ℕ) → scene_of cap files reads file ≡ scene_of cap before was file
-    scene_stays cap = λ i. record {
-      lexemes = same_lexemes places before was files reads are.edited file spared.within spared.left i;
-      cap = cap;
-      is_proto3 = same_version places before was files reads are.edited file spared.within spared.left i;
-      means = means_stay i;
-    }
+    means_stay : version ≡ false → means_of files reads file ≡ means_of before was file
+    means_stay e = each_stays (λ m. m) (λ token name same.
+        (let whole : enum_named before was name ≡ enum_named files reads name = subst (λ b. NamesSameEnum b before was files reads name) e same in
+        ap (λ (o : Option EnumOf). let m : MeantOf = record { token = token; name = joined name; enum = o } in m) (sym whole)))
+
+    nameless_stay : version ≡ true → map meant_without_names (means_of files reads file) ≡ map meant_without_names (means_of before was file)
+    nameless_stay e =
+        map_map (λ (u : Used ℕ). meant_as files reads u.first (meaning_of files reads file u)) meant_without_names (uses_of reads file)
+        ∙ each_stays meant_without_names (λ token name same.
+        (let nameless : option_map enum_without_names (enum_named before was name) ≡ option_map enum_without_names (enum_named files reads name) = subst (λ b. NamesSameEnum b before was files reads name) e same in
+        ap (λ (o : Option EnumOf). let m : MeantOf = record { token = token; name = joined name; enum = o } in m) (sym nameless)))
+        ∙ sym (map_map (λ (u : Used ℕ). meant_as before was u.first (meaning_of before was file u)) meant_without_names (uses_of was file))
+
+    lexemes_stay : lexemes_of files reads file ≡ lexemes_of before was file
+    lexemes_stay = same_lexemes places before was files reads are.edited file spared.within spared.left
+
+    version_stays : is_proto3_file files reads file ≡ version
+    version_stays = same_version places before was files reads are.edited file spared.within spared.left
+
+    pub scene_stays : (cap : Option ℕ) → IsSameScene (scene_of cap files reads file) (scene_of cap before was file)
+    scene_stays cap = by version refl
+      where
+        by : (b : Bool) → version ≡ b → IsSameScene (scene_of cap files reads file) (scene_of cap before was file)
+        by false e = inl (λ i. record { lexemes = lexemes_stay i; cap = cap; is_proto3 = version_stays i; means = means_stay e i })
+        by true e = inr (version_stays ∙ e, λ i. record { lexemes = lexemes_stay i; cap = cap; is_proto3 = version_stays i; means = nameless_stay e i })
 
     descriptor_stays : (cap : Option ℕ) → file_described (scene_of cap files reads file) (file_at files file).path (read_at reads file).tree ≡ file_described (scene_of cap before was file) (file_at before file).path (read_at was file).tree
-    descriptor_stays cap = λ i. file_described (scene_stays cap i) (same_file places before was files reads are.edited file spared.within spared.left i).path (reading i).tree
+    descriptor_stays cap =
+        described_same (scene_of cap files reads file) (scene_of cap before was file) (scene_stays cap) (file_at files file).path (read_at reads file).tree
+        ∙ ap₂ (λ (f : FileOf) (r : ReadOf). file_described (scene_of cap before was file) f.path r.tree) (same_file places before was files reads are.edited file spared.within spared.left) reading
 
 pub spared_scenes_stay : SparedScenesStay
 spared_scenes_stay places before was files reads are file spared cap = scene_stays places before was files reads are file spared cap

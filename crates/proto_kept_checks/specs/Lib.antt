@@ -1,3 +1,4 @@
 pub mod Checked
 pub mod Extended
 pub mod Spared
+pub mod Values

@@ -54,6 +54,13 @@ impl<'a> ValueNames<'a> {
         Ok(ValueNames { all, sorted })
     }
 
+    /// The names, in their order.
+    pub fn all(&self) -> &[&'a str]
+        ensures { map (λ s. s.now) result.now ≡ self.now }
+    {
+        self.all.as_slice()
+    }
+
     /// Whether a value has the name.
     pub fn has(&self, name: &str) -> bool
         ensures { result ≡ is_one_of self.now name.now }

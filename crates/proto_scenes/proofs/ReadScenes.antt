@@ -13,7 +13,7 @@ module _ (files : List FileOf) (file : ℕ) (within : file < length files) (word
   words_are : words ≡ lexemes_of files reads file
   words_are = spelled (read_at reads file).tokens (are.tokens file within)
 
-  proto3_is : is_proto3 (value_in words) tree ≡ is_proto3_file files reads file
+  pub proto3_is : is_proto3 (value_in words) tree ≡ is_proto3_file files reads file
   proto3_is =
       ap (λ (ls : List Lexeme). is_proto3 (value_in ls) tree) words_are
       ∙ ap (λ (t : Tree). is_proto3 (value_in (lexemes_of files reads file)) t) (sym (same_tree files reads file tree are within of_file))

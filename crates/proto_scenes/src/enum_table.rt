@@ -9,7 +9,7 @@ ghost use Rattle.proto_parts.specs.Parts.{BlockOf, blocks_in};
 ghost use Rattle.proto_parts.specs.Views.{enum_of};
 ghost use Rattle.proto_scenes.specs.Blocks.{block_of, enum_block};
 ghost use Rattle.proto_scenes.specs.Enums.{AreEnumsOf, IsEnumTable, IsEnumTableOf, enum_in, enum_of_row, enum_row_at, marked_enum_at};
-ghost use Rattle.proto_scenes.specs.SceneOf.{enum_within, starts_past_zero};
+ghost use Rattle.proto_scenes.specs.SceneOf.{enum_at, enum_within, is_proto3_file, starts_past_zero};
 
 use crate::blocks::{BlockAt, blocks_of};
 use indexmap::IndexMap;
@@ -139,6 +139,31 @@ fn file_enums<'a>(
     Ok(rows)
 }
 
+/// Whether the file with this number is proto3.
+pub fn is_proto3_file(files: &Files, file: u32) -> bool
+    requires { file < length files.now }
+    ensures { (reads : List ReadOf) → AreRead files.now reads
+        → result ≡ is_proto3_file files.now reads file }
+{
+    is_proto3(&Words::new(files, file), files.tree(file))
+}
+
+/// The enums of the file with this number, by the tokens of their names. Refused for want of memory
+/// alone.
+pub fn enums_of_file<'a>(
+    alloc: Global,
+    files: &'a Files,
+    file: u32,
+) -> Result<IndexMap<u32, EnumRow<'a>>, NoMemory>
+    requires { file < length files.now }
+    ensures { IfOk result (λ rows. (reads : List ReadOf) → AreRead files.now reads → (token : ℕ)
+        → enum_row_at rows token ≡ enum_at files.now reads (at file token)) }
+{
+    let words = Words::new(files, file);
+    let tree = files.tree(file);
+    file_enums(alloc, &words, is_proto3(&words, tree), tree)
+}
+
 /// The enums of a file, if it is marked; else none.
 fn enums_if_marked<'a>(
     alloc: Global,
@@ -153,9 +178,7 @@ fn enums_if_marked<'a>(
     if !is_marked(marks, file) {
         return Ok(IndexMap::new(alloc));
     }
-    let words = Words::new(files, file);
-    let tree = files.tree(file);
-    file_enums(alloc, &words, is_proto3(&words, tree), tree)
+    enums_of_file(alloc, files, file)
 }
 
 /// The enums of the marked files: for each of these, in the order of their paths, what is read of

@@ -1,4 +1,6 @@
+mod EnumsByLink
 mod MeantStill
+mod StillEnums
 mod ToldMarks
 mod WantedEnums
 mod WantedMarks

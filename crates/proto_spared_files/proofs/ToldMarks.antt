@@ -1,16 +1,15 @@
 -- Marks of the files that refer to names of edited files: what is marked stays so, and then all others are spared.
-use Rattle.std.proofs.Common.{◌≡◌, ℕ, ◌<◌, Bool, true, false, not, List, [], length, get_or, refl, sym, ap, subst, ◌∙◌, inl, inr, arith, All}
+use Rattle.std.proofs.Common.{◌≡◌, ℕ, ◌<◌, Bool, true, false, not, List, [], length, get_or, refl, sym, ◌∙◌, inl, inr, arith, All}
 use Rattle.std.proofs.lemmas.List.Elements.{All-weaker}
 use Rattle.proto_faults.proofs.Common.{All-contains, false_from_ne_true, false≢true, or_parts}
 use Rattle.std.proofs.lemmas.Bool.{not-false}
 use Rattle.proto_files.proofs.Common.{AreRead, FileOf, ReadOf}
-use Rattle.proto_kept_checks.specs.Checked.{IsKeptStill, IsListed, IsSettled, KeptFileOf, LinksListReferences, MarksTellKept, kept_by_link, kept_file}
+use Rattle.proto_kept_checks.specs.Checked.{IsListed, IsSettled, KeptFileOf, LinksListReferences, MarksTellKept, kept_by_link, nothing_kept}
 use Rattle.proto_kept_references.specs.Marking.{MarksStay}
 use Rattle.proto_names.specs.LinkOfFiles.{IsLinkOf}
 use Rattle.proto_names.specs.Linking.{LinkOf, Meant, RefId}
 use Rattle.proto_names.specs.Referring.{word_key}
-use Rattle.proto_relink.proofs.Differing.{as_many}
-use Rattle.proto_spared_files.specs.Common.{AreOthersKeptAsTold, AreUnsureKept, AreUsersMarked, AreUsersOfFilesMarked, IsUserMarked, counts_to, nothing_kept}
+use Rattle.proto_spared_files.specs.Common.{AreOthersKeptAsTold, AreUnsureKept, AreUsersMarked, AreUsersOfFilesMarked, IsUserMarked, counts_to}
 
 -- ---- what is marked stays so
 
@@ -29,7 +28,7 @@ module _ (l : LinkOf) (ks : List KeptFileOf) (old new : List Bool) (stay : Marks
 
 module _ (lists : LinksListReferences) (places : List ℕ) (files : List FileOf) (l : LinkOf) (link : IsLinkOf files l) (ks : List KeptFileOf) (marks : List Bool) (len : length marks ≡ length files) (users : AreUsersOfFilesMarked places l ks marks)
     (reads : List ReadOf) (are : AreRead files reads) (file : ℕ) (within : file < length files) (off : get_or marks file false ≡ false) where
-  settled : All (IsSettled places l (get_or ks file nothing_kept).has_extend) (get_or l.meant file [])
+  settled : All (IsSettled places files l ks (get_or ks file nothing_kept)) (get_or l.meant file [])
   settled k d n = by (counts_to l ks m.row file) refl
     where
       m : Meant
@@ -38,7 +37,7 @@ module _ (lists : LinksListReferences) (places : List ℕ) (files : List FileOf)
       listed : IsListed l file m
       listed = lists files l link reads are file within k d n
 
-      by : (b : Bool) → counts_to l ks m.row file ≡ b → IsSettled places l (get_or ks file nothing_kept).has_extend m
+      by : (b : Bool) → counts_to l ks m.row file ≡ b → IsSettled places files l ks (get_or ks file nothing_kept) m
       by true counts = inl (λ own is there.
           (let users_of = All-contains (λ (g : ℕ). All (AreUsersMarked l ks marks) (get_or l.rows g [])) places own users there in
           let marked = All-contains (AreUsersMarked l ks marks) (get_or l.rows own []) m.row users_of (listed.name own is) in
@@ -46,16 +45,13 @@ module _ (lists : LinksListReferences) (places : List ℕ) (files : List FileOf)
           false≢true (sym off ∙ one counts (omega (arith, within, len)))))
       by false free =
           let parts = or_parts (not (kept_by_link l m).is_message) (get_or ks file nothing_kept).has_extend free in
-          inr (parts.1, not-false (kept_by_link l m).is_message parts.0)
+          inr (parts.1, inl (not-false (kept_by_link l m).is_message parts.0))
 
 pub told_others : MarksTellKept → LinksListReferences → (places : List ℕ) (files : List FileOf) (l : LinkOf) → IsLinkOf files l → (ks : List KeptFileOf) (told unsure marks : List Bool) → length told ≡ length files → MarksStay told unsure → AreUsersOfFilesMarked places l ks unsure → AreUnsureKept places files l ks unsure marks → AreOthersKeptAsTold places files l ks told marks
 told_others tell lists places files l link ks told unsure marks len stay users asked before was reads sound clean kept look file within off = elim (asked file within off) [
   | inr still ↦ still
   | inl sure ↦
-      (let as_kept : get_or ks file nothing_kept ≡ kept_file before was file = kept.each file nothing_kept (omega (arith, within, kept.len, as_many places before was files reads sound.edited)) was sound.edited.were_read in
-      let all = settled lists places files l link ks unsure (stay.count ∙ len) users reads sound.edited.are_read file within sure in
-      let unmarked : get_or told file false ≡ false = false_from_ne_true (get_or told file false) (λ on. false≢true (sym sure ∙ stay.set file on)) in
-      subst (λ (k : KeptFileOf). IsKeptStill places files l k file) (sym as_kept)
-      (tell word_key places before was files reads told sound clean look l link file within unmarked
-      (subst (λ (e : Bool). All (IsSettled places l e) (get_or l.meant file [])) (ap (λ (k : KeptFileOf). k.has_extend) as_kept) all)))
+      (let unmarked : get_or told file false ≡ false = false_from_ne_true (get_or told file false) (λ on. false≢true (sym sure ∙ stay.set file on)) in
+      tell word_key places before was files reads told sound clean look ks kept l link file within unmarked
+      (settled lists places files l link ks unsure (stay.count ∙ len) users reads sound.edited.are_read file within sure))
 ]

@@ -15,19 +15,15 @@ use Rattle.proto_scenes.specs.Enums.{IsEnumTableOf}
 use Rattle.proto_scenes.specs.Meanings.{HasEnumsMeant}
 use Rattle.proto_scenes.specs.declared.enum_table.EnumRow.{EnumRow}
 use Rattle.proto_extensions.specs.Extends.{has_extend}
-use Rattle.proto_kept_checks.specs.Checked.{AreKeptOf, IsKeptStill, KeptFileOf, is_message_kind, kept_by_link}
+use Rattle.proto_kept_checks.specs.Checked.{AreKeptOf, IsKeptStill, KeptFileOf, is_message_kind, kept_by_link, nothing_kept}
 use Rattle.proto_kept_checks.specs.Spared.{AreSoundlyEdited}
-
--- what is kept of a file that is not there
-abbrev pub nothing_kept : KeptFileOf
-nothing_kept = record { means = []; has_extend = false }
 
 -- each file that is not marked is not edited, and by the link its references mean what is kept
 abbrev pub AreOthersKept
     : List ℕ → List FileOf → LinkOf → List KeptFileOf → List Bool → Type 0
 AreOthersKept places files l ks marks =
     (file : ℕ) → file < length files → get_or marks file false ≡ false
-    → IsKeptStill places files l (get_or ks file nothing_kept) file
+    → IsKeptStill places files l ks file
 
 -- so it is with each file that is not marked, if it was unsure
 abbrev pub AreUnsureKept
@@ -35,7 +31,7 @@ abbrev pub AreUnsureKept
 AreUnsureKept places files l ks unsure marks =
     (file : ℕ) → file < length files → get_or marks file false ≡ false
     → (get_or unsure file false ≡ false)
-    ⊎ IsKeptStill places files l (get_or ks file nothing_kept) file
+    ⊎ IsKeptStill places files l ks file
 
 -- ---- by marks that are told
 

@@ -1,9 +1,10 @@
-//! Which files an edit of others spares, by what is kept of each: what its references meant, and
-//! whether it extends messages.
+//! Which files an edit of others spares, by what is kept of each: what its references meant, the
+//! enums that it declares, whether it is proto3, and whether it extends messages.
 #![tactic(auto)]
 
 pub mod kept_file;
 pub mod laws;
 pub mod marks;
+mod still_enums;
 
-pub use kept_file::{KeptFile, KeptName, copy_kept_files, kept_files};
+pub use kept_file::{KeptEnum, KeptFile, KeptName, copy_kept_files, kept_files};

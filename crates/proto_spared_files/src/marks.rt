@@ -1,19 +1,23 @@
 //! The files that an edit does not spare, and those whose enums they mean, as marks: one for each
 //! file.
 
-ghost use Rattle.std.specs.Prelude.{◌≡◌, ◌↔◌, ◌⊎◌, ◌||◌, ℕ, ◌<◌, List, [], true, false, length, get_or, map, slice_get, Some, IfOk, IfSome};
+ghost use Rattle.std.specs.Prelude.{◌≡◌, ◌↔◌, ◌⊎◌, ◌||◌, ℕ, ◌<◌, List, [], true, false, length, get_or, map, nat_eq, option_map, slice_get, Some, IfOk, IfSome};
 ghost use Rattle.std.specs.List.{All};
+ghost use Rattle.indexmap.specs.IndexMap.{get};
 ghost use Rattle.proto_extensions.specs.Extends.{has_extend};
 ghost use Rattle.proto_files.specs.FilesRead.{AreRead, ReadOf, read_at};
 ghost use Rattle.proto_files.specs.GivenFiles.{FileOf};
-ghost use Rattle.proto_kept_checks.specs.Checked.{AreMeantStill, IsElsewhere, IsKeptStill, IsMeantStill};
+ghost use Rattle.proto_kept_checks.specs.Checked.{AreMeantStill, IsElsewhere, IsEnumAtRow, IsKeptStill, IsMeantStill, KeptFileOf, is_message_kind, nothing_kept};
 ghost use Rattle.proto_kept_references.specs.Marking.{ArePlacesMarked, IsMarked, MarksStay};
 ghost use Rattle.proto_names.specs.LinkOfFiles.{IsLinkOf};
-ghost use Rattle.proto_names.specs.Linking.{name_text};
+ghost use Rattle.proto_names.specs.Linking.{name_at, name_text};
 ghost use Rattle.proto_spared_files.specs.Kept.{kept_file_of, kept_files_of, kept_name_of};
-ghost use Rattle.proto_spared_files.specs.Marks.{AreEnumsMarked, AreOthersKept, AreOthersKeptAsTold, AreUnsureKept, AreUsersMarked, AreUsersOfFilesMarked, HasNoMarkedExtends, IsEnumMarked, IsUserMarked, nothing_kept};
+ghost use Rattle.proto_spared_files.specs.Marks.{AreEnumsMarked, AreOthersKept, AreOthersKeptAsTold, AreUnsureKept, AreUsersMarked, AreUsersOfFilesMarked, HasNoMarkedExtends, IsEnumMarked, IsUserMarked};
+ghost use Rattle.proto_spared_files.specs.StillEnums.{AreStillEnums};
 
 use crate::kept_file::{KeptFile, KeptName, has_extend_at, is_message};
+use crate::still_enums::{is_still, still_enums};
+use indexmap::IndexMap;
 use proto_faults::NoMemory;
 use proto_files::{Files, are_read};
 use proto_kept_checks::laws::{links_have_what_is_kept, marks_tell_kept};
@@ -40,35 +44,67 @@ fn has_text(link: &Link, name: SymbolId, text: &str) -> bool
     link.name_of(name) == Some(text)
 }
 
+/// Whether a name is a message's, as the one that is kept was, or an enum's that is to the file
+/// what is kept of it.
+fn is_type_still(
+    link: &Link,
+    still: &IndexMap<usize, bool>,
+    file: &KeptFile,
+    kept: &KeptName,
+    name: SymbolId,
+) -> bool
+    ensures { result ≡ true → (files : List FileOf) (ks : List KeptFileOf)
+        → AreStillEnums files link.now ks (get nat_eq still.now)
+        → ((kept.now.is_message ≡ true)
+        × (is_message_kind (option_map (λ n. n.kind) (name_at link.now name.row)) ≡ true))
+        ⊎ IsEnumAtRow files link.now ks file.now.is_proto3 name.row }
+{
+    let is_message_still = kept.is_message && is_message(link.kind_of(name));
+    is_message_still || is_still(still, file.is_proto3, name)
+}
+
 /// Whether a reference of a file means what is kept of it, which is to stand in a file that is not
-/// edited, or, where the file extends nothing, to be a message's and have been one.
+/// edited, or, where the file extends nothing, to be a message's and have been one, or an enum's
+/// that is to the file what is kept of it.
 fn is_meant_still(
     link: &Link,
     edited: &[bool],
-    extends: bool,
+    still: &IndexMap<usize, bool>,
+    file: &KeptFile,
     kept: &KeptName,
     meant: Meant,
 ) -> bool
     ensures { result ≡ true → (places : List ℕ) → ArePlacesMarked edited.now places
-        → IsMeantStill places link.now extends (kept_name_of kept.now) meant }
+        → (files : List FileOf) (ks : List KeptFileOf)
+        → AreStillEnums files link.now ks (get nat_eq still.now)
+        → IsMeantStill places files link.now ks (kept_file_of file.now) (kept_name_of kept.now)
+        meant }
 {
     let name = meant.symbol();
     has_text(link, name, &kept.name)
         && (is_elsewhere(link, edited, name)
-            || (!extends && kept.is_message && is_message(link.kind_of(name))))
+            || (!file.has_extend && is_type_still(link, still, file, kept, name)))
 }
 
 /// Whether the references of a file mean what is kept of them.
-fn are_meant_still(link: &Link, edited: &[bool], kept: &KeptFile, meant: &[Meant]) -> bool
+fn are_meant_still(
+    link: &Link,
+    edited: &[bool],
+    still: &IndexMap<usize, bool>,
+    kept: &KeptFile,
+    meant: &[Meant],
+) -> bool
     ensures { result ≡ true → (places : List ℕ) → ArePlacesMarked edited.now places
-        → AreMeantStill places link.now kept.now.has_extend (map kept_name_of kept.now.means.items)
-        meant.now }
+        → (files : List FileOf) (ks : List KeptFileOf)
+        → AreStillEnums files link.now ks (get nat_eq still.now)
+        → AreMeantStill places files link.now ks (kept_file_of kept.now)
+        (map kept_name_of kept.now.means.items) meant.now }
 {
     if kept.means.len() != meant.len() {
         return false;
     }
     for k in 0..meant.len() {
-        if !is_meant_still(link, edited, kept.has_extend, &kept.means[k], meant[k]) {
+        if !is_meant_still(link, edited, still, kept, &kept.means[k], meant[k]) {
             return false;
         }
     }
@@ -76,29 +112,49 @@ fn are_meant_still(link: &Link, edited: &[bool], kept: &KeptFile, meant: &[Meant
 }
 
 /// Whether a file is not marked as edited, and its references mean what is kept of them.
-fn is_kept_still(link: &Link, edited: &[bool], kept: &KeptFile, file: u32) -> bool
+#[tactic(auto, using(crate::proofs::MeantStill::kept_still))]
+fn is_kept_still(
+    link: &Link,
+    edited: &[bool],
+    still: &IndexMap<usize, bool>,
+    kept: &KeptFile,
+    file: u32,
+) -> bool
     ensures { result ≡ true → (places : List ℕ) → ArePlacesMarked edited.now places
-        → (files : List FileOf) → file < length files
-        → IsKeptStill places files link.now (kept_file_of kept.now) file }
+        → (files : List FileOf) (ks : List KeptFileOf)
+        → AreStillEnums files link.now ks (get nat_eq still.now)
+        → file < length files → get_or ks file nothing_kept ≡ kept_file_of kept.now
+        → IsKeptStill places files link.now ks file }
 {
-    !is_marked(edited, file) && are_meant_still(link, edited, kept, link.meant_in(file))
+    !is_marked(edited, file) && are_meant_still(link, edited, still, kept, link.meant_in(file))
 }
 
-/// Whether a file is not marked as unsure, or its references mean what is kept of them.
-fn is_left_out(link: &Link, edited: &[bool], unsure: &[bool], kept: &KeptFile, file: u32) -> bool
+/// Whether a file is not marked as unsure, or is not edited and its references mean what is kept of
+/// them.
+fn is_left_out(
+    link: &Link,
+    edited: &[bool],
+    still: &IndexMap<usize, bool>,
+    unsure: &[bool],
+    kept: &KeptFile,
+    file: u32,
+) -> bool
     ensures { result ≡ true → (get_or unsure.now file false ≡ false) ⊎ ((places : List ℕ)
-        → ArePlacesMarked edited.now places → (files : List FileOf) → file < length files
-        → IsKeptStill places files link.now (kept_file_of kept.now) file) }
+        → ArePlacesMarked edited.now places → (files : List FileOf) (ks : List KeptFileOf)
+        → AreStillEnums files link.now ks (get nat_eq still.now)
+        → file < length files → get_or ks file nothing_kept ≡ kept_file_of kept.now
+        → IsKeptStill places files link.now ks file) }
 {
     if !is_marked(unsure, file) {
         return true;
     }
-    is_kept_still(link, edited, kept, file)
+    is_kept_still(link, edited, still, kept, file)
 }
 
 /// Marks of those of the unsure files that are edited, at these places, or of which a reference, by
-/// the link now, does not mean what is kept of it, or means what stands in an edited file (a message
-/// may stand there, if the file has no `extend` block and it was one). Refused for want of memory
+/// the link now, does not mean what is kept of it, or means what stands in an edited file. If the
+/// file has no `extend` block, a message may stand there, where it was one, and an enum, where it
+/// is to the file what is kept of it. The link is that of the files. Refused for want of memory
 /// alone.
 fn unsure_to_check(
     alloc: Global,
@@ -108,6 +164,7 @@ fn unsure_to_check(
     kept: &[KeptFile],
     unsure: &[bool],
 ) -> Result<Vec<bool>, NoMemory>
+    requires link { IsLinkOf files.now link.now }
     requires places { All (λ place. place < length files.now) places.now }
     requires paired { length kept.now ≡ length files.now }
     ensures len { IfOk result (λ marks. length marks.items ≡ length files.now) }
@@ -116,9 +173,10 @@ fn unsure_to_check(
 {
     let mut edited = vec![in alloc; false; files.len()]?;
     mark_places(&mut edited, places);
+    let still = still_enums(alloc, files, link, kept, places)?;
     let mut marks = Vec::with_capacity(alloc, files.len())?;
     for file in 0..files.len() as u32 {
-        let stays = is_left_out(link, &edited, unsure, &kept[file as usize], file);
+        let stays = is_left_out(link, &edited, &still, unsure, &kept[file as usize], file);
         marks.push(!stays)?;
     }
     Ok(marks)
@@ -126,8 +184,9 @@ fn unsure_to_check(
 
 /// Marks of the files that an edit of the files at these places does not spare: these, and each of
 /// which a reference, by the link now, does not mean what is kept of it, or means what stands in an
-/// edited file (a message may stand there, if the file has no `extend` block and it was one).
-/// Refused for want of memory alone.
+/// edited file. If the file has no `extend` block, a message may stand there, where it was one, and
+/// an enum, where it is to the file what is kept of it. The link is that of the files. Refused for
+/// want of memory alone.
 pub fn files_to_check(
     alloc: Global,
     files: &Files,
@@ -135,6 +194,7 @@ pub fn files_to_check(
     places: &[u32],
     kept: &[KeptFile],
 ) -> Result<Vec<bool>, NoMemory>
+    requires link { IsLinkOf files.now link.now }
     requires places { All (λ place. place < length files.now) places.now }
     requires paired { length kept.now ≡ length files.now }
     ensures len { IfOk result (λ marks. length marks.items ≡ length files.now) }
@@ -228,9 +288,9 @@ pub fn told_files_to_check(
     kept: &[KeptFile],
     told: &[bool],
 ) -> Result<Vec<bool>, NoMemory>
+    requires link { IsLinkOf files.now link.now }
     requires places { All (λ place. place < length files.now) places.now }
     requires paired { length kept.now ≡ length files.now }
-    requires link { IsLinkOf files.now link.now }
     requires told { length told.now ≡ length files.now }
     ensures len { IfOk result (λ marks. length marks.items ≡ length files.now) }
     ensures others { IfOk result (λ marks. AreOthersKeptAsTold places.now files.now link.now

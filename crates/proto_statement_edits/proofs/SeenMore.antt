@@ -3,7 +3,7 @@ use Rattle.std.proofs.Common.{◌≡◌, ◌↔◌, ℕ, ◌<◌, Bool, false, L
 use Rattle.std.proofs.lemmas.List.{get_or-map, map-append, set-set}
 use Rattle.proto_faults.proofs.Common.{Vec, length-map, map-set, Contains-append_cases, contains_cases}
 use Rattle.proto_files.proofs.Common.{ReadOf, AreRead, FileOf}
-use Rattle.proto_imports.proofs.Common.{all_imports, import_from, imports_within, names_in, names_of_files, targets_twice, within_map, IsMarked, Walks}
+use Rattle.proto_imports.proofs.Common.{all_imports, import_from, imports_within, names_in, targets_twice, within_map, IsMarked, Walks}
 use Rattle.proto_imports.proofs.SeenFiles.{marks_seen, own_of, public_of, public_twice, public_within, set_within, steps_from}
 use Rattle.proto_imports.specs.declared.import.FileImport.{FileImport}
 use Rattle.proto_meaning.proofs.Common.{import_of, with_imports, MarksSeen, Import, Workspace}

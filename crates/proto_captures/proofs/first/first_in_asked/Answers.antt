@@ -1,4 +1,4 @@
-use Rattle.std.proofs.Common.{◌≡◌, false, sym, ap, ap₂, ◌∙◌, get_or, []}
+use Rattle.std.proofs.Common.{◌≡◌, false, sym, ap₂, ◌∙◌, get_or, []}
 use Rattle.proto_captures.specs.Common.{begins_with_key, first_keys_of, texts_of}
 use Rattle.proto_captures.proofs.FilesToAsk.{none_to_ask}
 use Rattle.proto_captures.proofs.first.first_in_asked.Goals as goal

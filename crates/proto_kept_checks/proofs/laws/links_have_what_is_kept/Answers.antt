@@ -1,3 +1,4 @@
+use Rattle.proto_kept_checks.proofs.KeptEnums.{links_have_enums_kept}
 use Rattle.proto_kept_checks.proofs.Linked.{links_have_what_is_kept, meant_messages_are_no_enums}
 use Rattle.proto_kept_checks.proofs.Listed.{links_list_references}
 use Rattle.proto_kept_checks.proofs.laws.links_have_what_is_kept.Goals as goal
@@ -10,3 +11,6 @@ returns-clause-enums c = meant_messages_are_no_enums
 
 pub returns-clause-listed : goal.returns-clause-listed
 returns-clause-listed c = links_list_references
+
+pub returns-clause-declared : goal.returns-clause-declared
+returns-clause-declared c = links_have_enums_kept

@@ -1,12 +1,9 @@
 use Rattle.std.proofs.Common.{◌≡◌, ℕ, List, arith}
 use Rattle.proto_faults.proofs.Common.{IfOk-weaker}
-use Rattle.proto_tree.specs.File.{tree_of_file}
 use Rattle.proto_files.proofs.Common.{ReadOf, AreRead}
 use Rattle.proto_meaning.specs.Grown.{at}
-use Rattle.proto_parts.proofs.Common.{blocks_in}
-use Rattle.proto_scenes.specs.Common.{AreEnumsOf, enum_row_at, marked_enum_at}
+use Rattle.proto_scenes.specs.Common.{enum_at, enum_row_at, marked_enum_at}
 use Rattle.proto_scenes.proofs.EnumRows.{rows_marked, rows_unmarked}
-use Rattle.proto_scenes.proofs.ReadScenes.{rows_are}
 use Rattle.proto_scenes.proofs.enum_table.enums_if_marked.Goals as goal
 
 pub returns-then-not-is_marked : goal.returns-then-not-is_marked
@@ -17,13 +14,8 @@ returns c =
     let files = c.args.files.now in
     let marks = c.args.marks.now in
     let file = c.args.file in
-    let words = c.new-words.result in
-    let tree = tree_of_file c.tree-tree.result.now in
-    let proto3 = c.is_proto3.result in
-    IfOk-weaker c.file_enums.result (λ rows. AreEnumsOf words proto3 (blocks_in tree) rows)
+    IfOk-weaker c.enums_of_file.result
+    (λ rows. (reads : List ReadOf) → AreRead files reads → (token : ℕ) → enum_row_at rows token ≡ enum_at files reads (at file token))
     (λ rows. (reads : List ReadOf) → AreRead files reads → (token : ℕ) → enum_row_at rows token ≡ marked_enum_at marks files reads (at file token))
-    (λ rows h reads are token.
-    rows_marked files marks reads file token (enum_row_at rows token)
-    (rows_are files file c.requires words c.new-words.ensures.words tree c.tree-tree.ensures reads are proto3 c.is_proto3.ensures rows h token)
-    (grind (arith, c.is_marked.ensures, c.if-not-is_marked.false)))
-    c.file_enums.ensures
+    (λ rows h reads are token. rows_marked files marks reads file token (enum_row_at rows token) (h reads are token) (grind (arith, c.is_marked.ensures, c.if-not-is_marked.false)))
+    c.enums_of_file.ensures

@@ -2,9 +2,9 @@ use Rattle.std.proofs.Common.{◌≡◌, ◌<◌, false, length, get_or, refl, s
 use Rattle.proto_extensions.specs.Extends.{has_extend}
 use Rattle.proto_faults.proofs.Common.{false≢true, get_or-map, or_parts}
 use Rattle.proto_files.proofs.Common.{read_at}
-use Rattle.proto_kept_checks.specs.Checked.{KeptFileOf}
+use Rattle.proto_kept_checks.specs.Checked.{KeptFileOf, nothing_kept}
 use Rattle.proto_kept_references.specs.Marking.{IsMarked}
-use Rattle.proto_spared_files.specs.Common.{kept_file_of, kept_files_of, nothing_kept}
+use Rattle.proto_spared_files.specs.Common.{kept_file_of, kept_files_of}
 use Rattle.proto_spared_files.proofs.marks.has_no_marked_extends.Goals.{else-is_marked-via-then-is_marked+else-has_or_had_extend, else-is_marked-via-else-is_marked}
 use Rattle.proto_spared_files.proofs.marks.has_no_marked_extends.Goals as goal
 

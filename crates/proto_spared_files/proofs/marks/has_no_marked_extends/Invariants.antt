@@ -2,7 +2,8 @@ use Rattle.std.proofs.Common.{◌≡◌, ℕ, ◌<◌, false, List, get_or}
 use Rattle.proto_extensions.specs.Extends.{has_extend}
 use Rattle.proto_files.proofs.Common.{AreRead, ReadOf, read_at}
 use Rattle.proto_kept_references.specs.Marking.{IsMarked}
-use Rattle.proto_spared_files.specs.Common.{kept_files_of, nothing_kept}
+use Rattle.proto_kept_checks.specs.Checked.{nothing_kept}
+use Rattle.proto_spared_files.specs.Common.{kept_files_of}
 use Rattle.proto_spared_files.proofs.marks.has_no_marked_extends.Given as goal
 
 abbrev pub invariant-loop-file : goal.invariant-loop-file
