@@ -43,17 +43,18 @@ module _ (w v : Workspace) (nested : IsNested v.symbols) (r : Reference) (m : Li
       let y = typed_is w r.file (take k r.scope ++ r.words) m (ap (meaning_at w r) (sym q) ∙ h) in
       let first = first_and_rest r.words in
       let whole : t.0.name ≡ At k ++ first.0 = t.2 ∙ sym (append_assoc (take k r.scope) (take 1 r.words) first.0 ∙ ap (λ l. take k r.scope ++ l) first.1 ∙ y.1) in
-      at_front k t.0 (is.declared t.0 t.1 t.2 t.3) t.3 (is.sight t.0.file ∙ t.4) (has_word w r k a.1.passes) first.0 first.1 whole
+      at_front k t.0 (is.declared t.0 t.1 t.2 t.3) t.3 (is.seen t.0 t.1 t.2 t.3 t.4) (has_word w r k a.1.passes) first.0 first.1 whole
 
   hit_before : (j : ℕ) → hits_at v r j ≡ true → hits_at w r j ≡ true
   hit_before j q =
       let s = shown v r.file (fits_at_first r.words) (At j) q in
-      shows_by w r.file (fits_at_first r.words) (At j) s.0 (is.none_new s.0 (take j r.scope) (drop j r.scope) s.1 (take-append-drop j r.scope) s.2 s.3) s.2 s.3 (sym (is.sight s.0.file) ∙ s.4)
+      let u = is.none_new s.0 (take j r.scope) (drop j r.scope) s.1 s.4 (take-append-drop j r.scope) s.2 s.3 in
+      shows_by w r.file (fits_at_first r.words) (At j) u.0 u.1 (u.2 ∙ s.2) u.3 u.4
 
   means : meaning v r ≡ Some m
   means =
       let t = meant w r m h in
-      means_still w v r m h (shows_by v r.file is_type m t.0 (is.declared t.0 t.1 t.2 t.3) t.2 t.3 (is.sight t.0.file ∙ t.4)) hits_again hit_before
+      means_still w v r m h (shows_by v r.file is_type m t.0 (is.declared t.0 t.1 t.2 t.3) t.2 t.3 (is.seen t.0 t.1 t.2 t.3 t.4)) hits_again hit_before
 
   -- what it means now was there before, where names are apart
   meant_before : AllPairs AreApart v.symbols → (s : Symbol) → Contains v.symbols s → meaning v r ≡ Some s.name → Contains w.symbols s × (meaning w r ≡ Some s.name)

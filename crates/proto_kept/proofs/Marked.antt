@@ -17,9 +17,17 @@ front_of_scope w nested file front back scope whole own long =
     ]
 
 module _ (key : List ℕ → ℕ) (places : List ℕ) (w v : Workspace) (marks : List Bool) (ok : IsLinked w) (nested : IsNested v.symbols) (own : ScopesAreOwn v) (differ : DifferAt places w v) (are : AreMarked key places w v marks) where
+  -- a file that is not marked is not edited
+  not_edited : (file : ℕ) → IsUnmarked marks file → Contains places file → ⊥
+  not_edited file left there = both_ways (get_or marks file false) left (are.edited file there)
+
   kept : (r : Reference) (m : List (List ℕ)) → Contains w.references r → Contains v.references r → IsUnmarked marks r.file → meaning w r ≡ Some m → IsKeptReference w v r m
   kept r m c now left h = spared_are_kept places w v differ r m (keys_tell key places w v r m (record {
-    sight = λ g. are.sight r.file g left;
+    not_hidden = λ s cs n ty was. are.none_hidden r s c left (h ∙ some_name n) cs ty was;
+    none_shown = λ s front back last first rest cs seen before outer whole n words same. (
+      are.none_shown r first rest c left words s front last cs seen before outer n same (front_of_scope v nested r.file front back r.scope whole (own r now)),
+      not_edited r.file left,
+    );
     not_gone = λ s cs there n ty. are.none_gone r s c left (h ∙ some_name n) cs there ty;
     none_came = λ s front back last first rest cs there outer whole n words same.
         are.none_came r first rest c left words s front last cs there outer n same (front_of_scope v nested r.file front back r.scope whole (own r now));
@@ -28,9 +36,9 @@ module _ (key : List ℕ → ℕ) (places : List ℕ) (w v : Workspace) (marks :
       some_name : {x : List (List ℕ)} → x ≡ m → Some m ≡ Some x
       some_name e = ap Some (sym e)
 
-  -- a file that is not marked is not edited
+  -- its references are those that it had
   same : (r : Reference) → Contains v.references r → IsUnmarked marks r.file → Contains w.references r
-  same r c left = differ.references r c (λ there. both_ways (get_or marks r.file false) left (are.edited r.file there))
+  same r c left = differ.references r c (not_edited r.file left)
 
   same_meaning : (r : Reference) → Contains v.references r → IsUnmarked marks r.file → meaning v r ≡ meaning w r
   same_meaning r c left =

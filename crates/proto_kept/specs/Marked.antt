@@ -4,7 +4,7 @@ use Rattle.std.specs.Prelude.{◌≡◌, ℕ, ◌<◌, Bool, true, false, List, 
 use Rattle.std.specs.List.{Contains, AllPairs}
 use Rattle.proto_meaning.specs.Linked.{AreApart, IsLinked, IsNested}
 use Rattle.proto_meaning.specs.Names.{Name, Reference, Symbol, Word, Workspace, is_outer, is_type, meaning, sees}
-use Rattle.proto_kept.specs.Kept.{DifferAt, IsFlawless}
+use Rattle.proto_kept.specs.Kept.{Declares, DifferAt, IsFlawless}
 
 -- the file is not marked
 abbrev pub IsUnmarked : List Bool → ℕ → Type 0
@@ -23,19 +23,29 @@ ScopesAreOwn w = (r : Reference) → Contains w.references r → IsScopeOf w r.f
 pub record AreMarked (key : Word → ℕ) (places : List ℕ) (w v : Workspace) (marks : List Bool)
     : Type 0 where
   pub edited : (file : ℕ) → Contains places file → get_or marks file false ≡ true
-  -- sees what it saw,
-  pub sight : (file g : ℕ) → IsUnmarked marks file → sees v file g ≡ sees w file g
-  -- has no reference to a type that went,
+  -- has no reference to a type whose file it sees no more,
+  pub none_hidden : (r : Reference) (s : Symbol) → Contains w.references r
+      → IsUnmarked marks r.file → meaning w r ≡ Some s.name → Contains w.symbols s
+      → is_type s.kind ≡ true → sees w r.file s.file ≡ true → sees v r.file s.file ≡ true
+  -- none to a type that went,
   pub none_gone : (r : Reference) (s : Symbol) → Contains w.references r → IsUnmarked marks r.file
       → meaning w r ≡ Some s.name → Contains w.symbols s → Contains places s.file
       → is_type s.kind ≡ true → Contains v.symbols s
-  -- and none whose first word has the key of the last word of a name that came right below the
-  -- empty name or one that the file declares
+  -- none whose first word has the key of the last word of a name that came right below the empty
+  -- name or one that the file declares,
   pub none_came : (r : Reference) (first : Word) (rest : List Word) → Contains w.references r
       → IsUnmarked marks r.file → r.words ≡ first ∷ rest
       → (s : Symbol) (front : Name) (last : Word) → Contains v.symbols s
       → Contains places s.file → is_outer s.kind ≡ true → s.name ≡ front ++ last ∷ []
       → key last ≡ key first → IsScopeOf v r.file front → Contains w.symbols s
+  -- and none whose first word has the key of such a name in a file that it sees and did not see,
+  -- unless it declares that name itself
+  pub none_shown : (r : Reference) (first : Word) (rest : List Word) → Contains w.references r
+      → IsUnmarked marks r.file → r.words ≡ first ∷ rest
+      → (s : Symbol) (front : Name) (last : Word) → Contains v.symbols s
+      → sees v r.file s.file ≡ true → sees w r.file s.file ≡ false → is_outer s.kind ≡ true
+      → s.name ≡ front ++ last ∷ [] → key last ≡ key first → IsScopeOf v r.file front
+      → Declares v r.file s
 
 -- then what the references of these files mean is the same
 abbrev pub UnmarkedMeanTheSame : Type 0

@@ -5,25 +5,26 @@ ghost use Rattle.proto_kept.specs.Kept.{FlawlessStay, KeysTell, LeavesSpareAll, 
 ghost use Rattle.proto_kept.specs.Marked.{UnmarkedMeanTheSame, MarkedDecide};
 ghost use Rattle.proto_kept.specs.Sight.{SightIsKept, SightIsTested};
 
-/// A reference means what it meant, where its file sees what it saw, the type that it meant is
-/// declared as it was, and no symbol that its first word might stand for is new (`means`). It has
-/// no fault then, if it had none (`flawless`).
+/// A reference means what it meant, where the type that it meant is declared as it was and its file
+/// still sees that, and no symbol that its first word might stand for is new to its file (`means`).
+/// It has no fault then, if it had none (`flawless`).
 pub fn meanings_are_kept()
     ensures means { MeaningsAreKept }
     ensures flawless { FlawlessStay }
 {}
 
 /// Where some files are edited, a reference of another file is kept if what they declare passes two
-/// tests (`spared`), which rows of names and keys of words can tell (`keys`). Fields, oneofs,
-/// values, methods and extensions may come and go (`leaves`).
+/// tests, and what its file sees no more and newly sees two others (`spared`), which rows of names
+/// and keys of words can tell (`keys`). Fields, oneofs, values, methods and extensions may come and
+/// go (`leaves`).
 pub fn references_are_spared()
     ensures spared { SparedAreKept }
     ensures keys { KeysTell }
     ensures leaves { LeavesSpareAll }
 {}
 
-/// Where some files are edited, and the files are marked that these two tests or what they see tell
-/// to look at again, the references of all others mean what they meant (`unmarked`). So the
+/// Where some files are edited, and the files are marked that these four tests tell to look at
+/// again, the references of all others mean what they meant (`unmarked`). So the
 /// workspace is linked if no name clashes and the references of marked files have no fault
 /// (`linked`).
 pub fn marked_decide()

@@ -5,3 +5,4 @@ mod Marks
 pub mod References
 mod Renewing
 mod Rows
+mod Sights

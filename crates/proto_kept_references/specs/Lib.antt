@@ -3,3 +3,4 @@ pub mod Gathering
 pub mod Marking
 pub mod OuterRows
 pub mod Renewed
+pub mod Sight

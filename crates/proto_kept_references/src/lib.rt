@@ -7,3 +7,5 @@ pub mod gathering;
 pub mod marking;
 pub mod outer_rows;
 pub mod renewed_references;
+mod shown_names;
+pub mod sight;

@@ -100,7 +100,7 @@ fn mark_beginner(marks: &mut Vec<bool>, file: usize, meant: &[Meant], keys: &Ind
 }
 
 /// Whether one of the references begins with a word of one of these keys.
-fn begins_so(meant: &[Meant], keys: &IndexSet<u32>) -> bool
+pub(crate) fn begins_so(meant: &[Meant], keys: &IndexSet<u32>) -> bool
     ensures { result ≡ list_any (λ m. list_any (λ k. m.first == k) keys.now.keys) meant.now }
 {
     meant.iter().any(|m| keys.contains(&m.first))

@@ -138,7 +138,7 @@ pub fn rows_below_no_type(
 }
 
 /// Whether the name of a row stands right below a type's.
-fn is_below_type(table: &Table, row: usize) -> bool
+pub(crate) fn is_below_type(table: &Table, row: usize) -> bool
     ensures { result ≡ is_below_type table.now row }
 {
     match table.rows.get(row) {
@@ -178,7 +178,7 @@ pub fn last_word_keys(
 }
 
 /// The last word of the name of a row.
-fn last_word(table: &Table, row: usize) -> &str
+pub(crate) fn last_word(table: &Table, row: usize) -> &str
     requires table { IsTable table.now }
     requires within { row < length table.now.rows.items }
     ensures { (front : List (List ℕ)) (word : List ℕ) → ArePlain (front ++ word ∷ [])

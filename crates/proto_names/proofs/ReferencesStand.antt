@@ -1,8 +1,9 @@
 -- In a link of files without faults the references to each name are those of what it has of each file.
 use Rattle.std.proofs.Common.{◌≡◌, ℕ, ◌<◌, List, [], length, get_or, map, Option, Some, None, refl, sym, ◌∙◌, subst, arith}
-use Rattle.proto_faults.proofs.Common.{Vec}
+use Rattle.proto_faults.proofs.Common.{Vec, both_ways}
 use Rattle.proto_files.proofs.Common.{AreRead, FileOf, ReadOf}
 use Rattle.proto_imports.proofs.Common.{names_of_files, text_of}
+use Rattle.proto_meaning.proofs.Common.{sees}
 use Rattle.proto_names.proofs.LinkParts.{in_files}
 use Rattle.proto_names.proofs.Unmeant.{no_references}
 use Rattle.proto_names.proofs.NamesThere.{text_to}
@@ -29,9 +30,10 @@ module _ (files : List FileOf) (reads : List ReadOf) (are : AreRead files reads)
   nothing_to_look : HasToLook word_key [] files reads files reads []
   nothing_to_look = record {
     edited = λ file c. absurd (omega (arith, c.1));
-    sight = λ file g left. refl;
+    none_hidden = λ r s c left h cs ty seen. seen;
     none_gone = λ r s c left h cs there ty. cs;
     none_came = λ r first rest c left words s front last cs there outer name key own. cs;
+    none_shown = λ r first rest c left words s front last cs now unseen outer name key own. absurd (both_ways (sees (names_of_files files reads) r.file s.file) unseen now);
   }
 
   same_numbers : NumbersStay t t

@@ -8,9 +8,9 @@ use Rattle.proto_kept_lists.proofs.WithValues.{length-with_values}
 use Rattle.proto_kept_names.specs.NamesOfFiles.{AreNamesOf as AreListedNames}
 use Rattle.proto_kept_references.specs.ChangedFiles.{IsChangeMarked, StaysOrIsMarked, WasOrIsMarked, outer_rows_of}
 use Rattle.proto_kept_references.specs.ChangedFiles.{AreChangesMarked as AreRowsMarked}
-use Rattle.proto_kept_references.specs.Marking.{ArePlacesMarked}
 use Rattle.proto_kept_references.specs.OuterRows.{is_below_type}
 use Rattle.proto_kept_references.specs.Renewed.{AreReferencesOf}
+use Rattle.proto_kept_references.specs.Sight.{IsSightMarked}
 use Rattle.proto_kept_references.specs.declared.outer_rows.KindRow.{KindRow}
 use Rattle.proto_meaning.specs.Names.{Word}
 use Rattle.proto_meaning.specs.declared.kind.Kind.{Kind}
@@ -19,12 +19,12 @@ use Rattle.proto_names.proofs.PartsBefore.{before, from_lists, meant_below, of_b
 use Rattle.proto_names.proofs.ReferencesByRow.{references_by_row}
 use Rattle.proto_names.proofs.RenewedLink.{renewed_are_clean, renewed_link_of}
 use Rattle.proto_names.proofs.RenewedMarks.{changes_have_to_look}
-use Rattle.proto_names.proofs.RenewedSight.{file_is_linked}
+use Rattle.proto_names.proofs.RenewedSight.{file_is_linked, is_place}
 use Rattle.proto_names.proofs.ValuesAtPlaces.{all_with, rows_with_values}
 use Rattle.proto_names.specs.Common.{AreNamesOf, IsFileLinked, LinkOf, Meant, RefId, name_of_row, word_key}
 use Rattle.proto_names.specs.LinkOfFiles.{IsLinkOf}
 use Rattle.proto_names.specs.Renewal.{AreMeantBelow, AreRowsRenewed, link_of_parts}
-use Rattle.proto_names.specs.Renewed.{AreBeginnersMarked, AreChangesMarked, AreMeantAgain, AreNamesRenewed, AreUsersMarked, DeclaresOuter, EndsIn, IsMadeOf, IsSightMarked, IsTableOf}
+use Rattle.proto_names.specs.Renewed.{AreBeginnersMarked, AreChangesMarked, AreMeantAgain, AreNamesRenewed, AreSightsMarked, AreUsersMarked, DeclaresOuter, EndsIn, IsMadeOf, IsTableOf}
 use Rattle.proto_names.specs.Sight.{AreLinkImports, IsSightOf, StayBut}
 use Rattle.proto_relink.specs.Relinked.{HasToLook, WasLink}
 use Rattle.proto_table.proofs.Common.{IsTable, pick}
@@ -160,13 +160,19 @@ module _ (files : List FileOf) (places : List ℕ) (old : Table) (imports : List
     -- ---- which files have to be looked at again
 
     module _ (table : IsTable t) (others : List ℕ) (seen_now : List (Vec Bool)) (sight_is : (reads : List ReadOf) → AreRead files reads → IsSightOf files reads (map (λ v. v.items) seen_now))
-        (kept : StayBut others (map (λ v. v.items) seen) (map (λ v. v.items) seen_now)) (others_marked : ArePlacesMarked marks others) where
+        (kept : StayBut others (map (λ v. v.items) seen) (map (λ v. v.items) seen_now)) (others_marked : All (IsSightMarked marks t (map (λ v. v.items) now) (map (λ v. v.items) meant) (map (λ v. v.items) seen) (map (λ v. v.items) seen_now)) others) where
       is_of : IsTableOf files_before reads_before l old rows
       is_of = of_before files places old imports rows seen meant references table_was link_was
 
-      -- a file that sees others than before is marked
-      same_marks : IsSightMarked marks l.seen (map (λ v. v.items) seen_now)
-      same_marks file left = kept file (λ c. both_ways (get_or marks file false) left (All-contains (λ place. get_or marks place false ≡ true) others file others_marked c))
+      -- a file that sees others than before is marked, unless it is kept in sight
+      same_marks : AreSightsMarked marks t now l.meant l.seen (map (λ v. v.items) seen_now)
+      same_marks file left = elim (is_place others file) [
+        | inl there ↦ elim (All-contains (IsSightMarked marks t (map (λ v. v.items) now) l.meant l.seen (map (λ v. v.items) seen_now)) others file others_marked there) [
+          | inl marked ↦ absurd (both_ways (get_or marks file false) left marked)
+          | inr in_sight ↦ inr in_sight
+        ]
+        | inr out ↦ inl (kept file out)
+      ]
 
       names_of_now : (reads : List ReadOf) → AreRead files reads → AreNamesRenewed places files_before reads_before old files reads t now
       names_of_now reads are = names_renewed table reads are (map (λ v. v.items) seen_now) (sight_is reads are)

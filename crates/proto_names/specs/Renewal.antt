@@ -30,19 +30,18 @@ link_of_parts t imports rows seen meant references = record {
   references = map (λ v. v.items) references;
 }
 
--- the table and these lists are those of a link of files of which these are the same but at these
--- places; these are the marks of what each file sees now, and all but those of these others are as
--- they were
+-- the table and these lists, with the marks of what each file saw, are those of a link of files of
+-- which these are the same but at these places; these are the marks of what each file sees now, and
+-- all but those of these others are as they were
 pub record IsSightRenewed (places : List ℕ) (files : List FileOf) (t : Table)
     (rows : List (Vec ℕ)) (meant : List (Vec Meant)) (references : List (Vec RefId))
-    (seen : List (Vec Bool)) (others : List ℕ) : Type 0 where
+    (saw seen : List (Vec Bool)) (others : List ℕ) : Type 0 where
   pub imports_before : List (Vec FileImport)
-  pub seen_before : List (Vec Bool)
   pub link : WasLink IsLinkOf files places
-      (link_of_parts t imports_before rows seen_before meant references)
+      (link_of_parts t imports_before rows saw meant references)
   pub sight : (reads : List ReadOf) → AreRead files reads
       → IsSightOf files reads (map (λ v. v.items) seen)
-  pub kept : StayBut others (map (λ v. v.items) seen_before) (map (λ v. v.items) seen)
+  pub kept : StayBut others (map (λ v. v.items) saw) (map (λ v. v.items) seen)
 
 -- the names of the files at these places are renewed in the table, and these are the rows of each
 -- file's declarations before and now

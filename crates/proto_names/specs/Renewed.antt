@@ -8,6 +8,7 @@ use Rattle.proto_files.specs.GivenFiles.{FileOf}
 use Rattle.proto_imports.specs.Links.{LinkFaults}
 use Rattle.proto_kept.specs.Marked.{IsUnmarked}
 use Rattle.proto_kept_references.specs.OuterRows.{is_below_type}
+use Rattle.proto_kept_references.specs.Sight.{IsKeptInSight}
 use Rattle.proto_meaning.specs.Joined.{ArePlain, joined}
 use Rattle.proto_meaning.specs.Names.{Name, Word, is_outer}
 use Rattle.proto_meaning.specs.declared.kind.Kind.{Kind}
@@ -95,10 +96,16 @@ pub record AreChangesMarked (places : List ℕ) (marks : List Bool) (old : Table
       ⊎ (is_below_type t row ≡ false → (last : Word) → EndsIn t row last
       → AreBeginnersMarked marks l.meant (word_key last))
 
--- each file is marked whose marks of what it sees are others
-abbrev pub IsSightMarked : List Bool → List (List Bool) → List (List Bool) → Type 0
-IsSightMarked marks before now =
-    (file : ℕ) → IsUnmarked marks file → get_or now file [] ≡ get_or before file []
+-- each file is marked whose marks of what it sees are others, unless by this table and these rows
+-- of each file's declarations it still sees what its references mean, and none of them begins with
+-- a word of the key of a name's last word in a file that it newly sees
+abbrev pub AreSightsMarked : List Bool → Table → List (Vec ℕ) → List (List Meant)
+    → List (List Bool) → List (List Bool) → Type 0
+AreSightsMarked marks t rows meant before now =
+    (file : ℕ) → IsUnmarked marks file
+    → (get_or now file [] ≡ get_or before file [])
+    ⊎ IsKeptInSight t (map (λ v. v.items) rows) (get_or (map (λ v. v.items) rows) file [])
+    (get_or meant file []) (get_or before file []) (get_or now file [])
 
 -- ---- what references mean, and the link
 

@@ -10,12 +10,14 @@ ghost use Rattle.proto_imports.specs.declared.import.FileImport.{FileImport as F
 ghost use Rattle.proto_kept_lists.specs.Undone.{AreWithin, undone};
 ghost use Rattle.proto_kept_names.specs.NamesOfFiles.{WereNames};
 ghost use Rattle.proto_kept_names.specs.NameLogs.{Fits, undone_table};
+ghost use Rattle.proto_kept_references.specs.Marking.{MarksStay};
+ghost use Rattle.proto_kept_references.specs.Sight.{IsSightMarked};
 ghost use Rattle.proto_names.specs.FileReferences.{AreFileMeant, IsFileLinked};
 ghost use Rattle.proto_names.specs.Following.{TellWhatToLook};
 ghost use Rattle.proto_names.specs.LinkOfFiles.{IsLinkOf};
 ghost use Rattle.proto_names.specs.Renewal.{AreMeantBelow, AreOfMarked, AreRowsRenewed, IsMeantNoted, IsSightRenewed, LogFits, link_of_parts, undone_parts};
 ghost use Rattle.proto_names.specs.Renewed.{AreMeantAgain};
-ghost use Rattle.proto_names.specs.Sight.{AreLinkImports, StayBut, undone_seen};
+ghost use Rattle.proto_names.specs.Sight.{AreLinkImports, undone_seen};
 ghost use Rattle.proto_relink.specs.Relinked.{WasLink};
 ghost use Rattle.proto_table.specs.Tables.{IsTable};
 
@@ -31,8 +33,8 @@ use proto_kept_lists::{Change, Meant, RefId, change_all_at};
 use proto_kept_names::name_log::NameLog;
 use proto_kept_names::renewed_names::renew_names;
 use proto_kept_references::changed_files::{Linked, marks_of_changes, outer_rows_at};
-use proto_kept_references::marking::mark_places;
 use proto_kept_references::renewed_references::{grow_references, renew_references};
+use proto_kept_references::sight::{Sighted, mark_by_sight};
 use proto_listing::file_listing::list_file;
 use proto_table::table::Table;
 use std::alloc::Global;
@@ -222,6 +224,49 @@ fn mean_again(
     Ok(true)
 }
 
+/// Marks those of the files that see others than before which have to be looked at again for that;
+/// told what each file saw, where that was put away. Refused for want of memory alone.
+fn mark_others(
+    alloc: Global,
+    marks: &mut Vec<bool>,
+    edited: Edited,
+    saw: &Option<Vec<Vec<bool>>>,
+    table: &Table,
+    rows: &[Vec<usize>],
+    meant: &[Vec<Meant>],
+) -> Result<(), NoMemory>
+    requires table { IsTable table.now }
+    requires others { All (λ file. file < length marks.old.items) edited.others.now }
+    requires rows { length rows.now ≡ length marks.old.items }
+    requires meant { length meant.now ≡ length marks.old.items }
+    requires saw { length (undone_seen saw.now edited.seen.now) ≡ length marks.old.items }
+    requires seen { length edited.seen.now ≡ length marks.old.items }
+    ensures stay { OnOk result (MarksStay marks.old.items marks.new.items) }
+    ensures marked { OnOk result (All (IsSightMarked marks.new.items table.now
+        (map (λ v. v.items) rows.now) (map (λ v. v.items) meant.now)
+        (map (λ v. v.items) (undone_seen saw.now edited.entry.seen.now))
+        (map (λ v. v.items) edited.entry.seen.now)) edited.entry.others.now) }
+{
+    let sighted = Sighted {
+        table,
+        rows,
+        meant,
+        before: seen_before(saw, edited.seen),
+        sees: edited.seen,
+    };
+    mark_by_sight(alloc, marks, sighted, edited.others)
+}
+
+/// The marks of what each file saw: those that were put away, if they were.
+fn seen_before<'a>(saw: &'a Option<Vec<Vec<bool>>>, seen: &'a [Vec<bool>]) -> &'a [Vec<bool>]
+    ensures { result.now ≡ undone_seen saw.now seen.now }
+{
+    match saw {
+        Some(before) => before.as_slice(),
+        None => seen,
+    }
+}
+
 /// Changes the table of a link and the lists that follow it to those of the edited files, as far as
 /// they are other ones, where it is told what each file sees now. Answers the marks of the files
 /// that were looked at again; none where it gives up: where a file declares what calls for a link
@@ -241,7 +286,8 @@ fn renew_names_and_references(
     requires table { IsTable table.old }
     requires paired { length references.old.items ≡ length table.old.rows.items }
     requires renewed { IsSightRenewed edited.places.now edited.files.now table.old rows.old.items
-        meant.old.items references.old.items edited.seen.now edited.others.now }
+        meant.old.items references.old.items (undone_seen log.old.seen edited.seen.now)
+        edited.seen.now edited.others.now }
     requires fits { LogFits log.old table.old rows.old.items meant.old.items references.old.items }
     requires none { log.old.meant.items ≡ [] }
     ensures table { IsTable table.new }
@@ -261,11 +307,10 @@ fn renew_names_and_references(
     ensures clean { IfOk result
         (λ o. IfSome o (λ _. HasNoFault (LinkFaults edited.entry.files.now))) }
     ensures told { IfOk result (λ o. IfSome o (λ marks.
-        (imports : List (VecOf FileImportOf)) (seen : List (VecOf Bool))
-        → StayBut edited.entry.others.now (map (λ v. v.items) seen)
-        (map (λ v. v.items) edited.entry.seen.now)
+        (imports : List (VecOf FileImportOf))
         → TellWhatToLook edited.entry.places.now edited.entry.files.now (link_of_parts table.old
-        imports rows.old.items seen meant.old.items references.old.items) marks.items)) }
+        imports rows.old.items (undone_seen log.old.seen edited.entry.seen.now) meant.old.items
+        references.old.items) marks.items)) }
 {
     let Edited { files, places, .. } = edited;
     are_read(files);
@@ -291,7 +336,7 @@ fn renew_names_and_references(
         meant,
     };
     let mut marks = marks_of_changes(alloc, linked, places, &before, &now)?;
-    mark_places(&mut marks, edited.others);
+    mark_others(alloc, &mut marks, edited, &log.seen, table, rows, meant)?;
     if !mean_again(alloc, edited, &marks, table, rows, meant, &mut log.meant)? {
         return Ok(None);
     }

@@ -31,9 +31,10 @@ WasLink IsLink files places l =
 
 -- ---- which files have to be looked at again
 
--- the marks are of the edited files, of those that see others than before, and of those with a
--- reference to a type that went, or one whose first word has the key of the last word of a name
--- that came right below the empty name or one that their file declares
+-- the marks are of the edited files, of those with a reference to a type that went, or that their
+-- file sees no more, and of those with one whose first word has the key of the last word of a name
+-- that came, or that their file newly sees, right below the empty name or one that their file
+-- declares, unless it declares that very name
 abbrev pub HasToLook : (Word → ℕ) → List ℕ → List FileOf → List ReadOf
     → List FileOf → List ReadOf → List Bool → Type 0
 HasToLook key places before was files reads marks =
