@@ -1,5 +1,6 @@
 -- Of files something is made, file by file, and put in place of what was there.
 use Rattle.std.proofs.Common.{◌≡◌, ℕ, zero, suc, ◌+◌, ◌<◌, ◌≤◌, Bool, false, List, [], ◌∷◌, ◌++◌, length, get_or, Option, Some, None, slice_get, slice_set, refl, sym, ◌∙◌, ap, subst, arith, length-set, length-append}
+use Rattle.std.specs.Global.{Box}
 use Rattle.std.proofs.lemmas.List.{get_or-set_same}
 use Rattle.proto_faults.proofs.Common.{slice_get-get_or}
 use Rattle.proto_files.proofs.Common.{Each, FileOf, each_pushed}
@@ -9,7 +10,7 @@ use Rattle.proto_desc.specs.declared.renewing.Made.{Made}
 
 -- ---- made, file by file
 
-pub one_more_made : (files : List FileOf) (marks : List Bool) (done after : List (Option Made)) (o : Option Made) (file : ℕ) (b : Bool) → get_or marks file false ≡ b → after ≡ done ++ o ∷ [] → length done ≡ file → Each (λ k made. IsMadeIfMarked files (get_or marks k false) k made) done → IsMadeIfMarked files b file o
+pub one_more_made : (files : List FileOf) (marks : List Bool) (done after : List (Option (Box Made))) (o : Option (Box Made)) (file : ℕ) (b : Bool) → get_or marks file false ≡ b → after ≡ done ++ o ∷ [] → length done ≡ file → Each (λ k made. IsMadeIfMarked files (get_or marks k false) k made) done → IsMadeIfMarked files b file o
     → (length after ≡ file + 1) × Each (λ k made. IsMadeIfMarked files (get_or marks k false) k made) after
 one_more_made files marks done after o file b mark pushed len each made = (
   omega (arith, ap length pushed, length-append done (o ∷ []), len),
@@ -28,38 +29,38 @@ others_set (y ∷ ys) zero x (suc k) other = refl
 others_set (y ∷ ys) (suc i) x zero other = refl
 others_set (y ∷ ys) (suc i) x (suc k) other = others_set ys i x k (λ e. other (omega (arith, e)))
 
-pub put_alone : (o : Option Made) (m : Made) → o ≡ Some m → (file : ℕ) (old new : Descriptors) → file < length old.file.items → file < length old.kept.items → new.file.items ≡ slice_set old.file.items file m.descriptor → new.kept.items ≡ slice_set old.kept.items file m.kept → IsPutAlone o file old new
-put_alone o m is file old new l k files kept =
+pub put_alone : (o : Option (Box Made)) (m : Box Made) → o ≡ Some m → (v : Made) → v ≡ m.value → (file : ℕ) (old new : Descriptors) → file < length old.file.items → file < length old.kept.items → new.file.items ≡ slice_set old.file.items file v.descriptor → new.kept.items ≡ slice_set old.kept.items file v.kept → IsPutAlone o file old new
+put_alone o m is v value file old new l k files kept =
     let one : IsPutAlone (Some m) file old new = record {
-      files = ap length files ∙ length-set old.file.items file m.descriptor;
-      kept = ap length kept ∙ length-set old.kept.items file m.kept;
+      files = ap length files ∙ length-set old.file.items file v.descriptor;
+      kept = ap length kept ∙ length-set old.kept.items file v.kept;
       there = (
-        ap (λ xs. slice_get xs file) files ∙ there_set old.file.items file m.descriptor l,
-        ap (λ xs. slice_get xs file) kept ∙ there_set old.kept.items file m.kept k,
+        ap (λ xs. slice_get xs file) files ∙ there_set old.file.items file v.descriptor l ∙ ap (λ (w : Made). Some w.descriptor) value,
+        ap (λ xs. slice_get xs file) kept ∙ there_set old.kept.items file v.kept k ∙ ap (λ (w : Made). Some w.kept) value,
       );
       others = λ i other. (
-        ap (λ xs. slice_get xs i) files ∙ others_set old.file.items file m.descriptor i other,
-        ap (λ xs. slice_get xs i) kept ∙ others_set old.kept.items file m.kept i other,
+        ap (λ xs. slice_get xs i) files ∙ others_set old.file.items file v.descriptor i other,
+        ap (λ xs. slice_get xs i) kept ∙ others_set old.kept.items file v.kept i other,
       );
     } in
-    subst (λ (x : Option Made). IsPutAlone x file old new) (sym is) one
+    subst (λ (x : Option (Box Made)). IsPutAlone x file old new) (sym is) one
 
 -- ---- file by file
 
-then_left : (o : Option Made) (k : ℕ) (a b c : Descriptors) → IsPut o k a b → IsPut None k b c → IsPut o k a c
+then_left : (o : Option (Box Made)) (k : ℕ) (a b c : Descriptors) → IsPut o k a b → IsPut None k b c → IsPut o k a c
 then_left None k a b c p q = (q.0 ∙ p.0, q.1 ∙ p.1)
 then_left (Some m) k a b c p q = (q.0 ∙ p.0, q.1 ∙ p.1)
 
-left_then : (o : Option Made) (k : ℕ) (a b c : Descriptors) → IsPut None k a b → IsPut o k b c → IsPut o k a c
+left_then : (o : Option (Box Made)) (k : ℕ) (a b c : Descriptors) → IsPut None k a b → IsPut o k b c → IsPut o k a c
 left_then None k a b c p q = (q.0 ∙ p.0, q.1 ∙ p.1)
 left_then (Some m) k a b c p q = q
 
 -- some are put, and what stands behind these is left
-pub record ArePutSoFar (done : List (Option Made)) (old now : Descriptors) : Type 0 where
+pub record ArePutSoFar (done : List (Option (Box Made))) (old now : Descriptors) : Type 0 where
   pub put : ArePut done old now
   pub left : (k : ℕ) → length done ≤ k → IsPut None k old now
 
-pub one_more_put : (done : List (Option Made)) (made : Option Made) (old now next : Descriptors) → ArePutSoFar done old now → IsPutAlone made (length done) now next → ArePutSoFar (done ++ made ∷ []) old next
+pub one_more_put : (done : List (Option (Box Made))) (made : Option (Box Made)) (old now next : Descriptors) → ArePutSoFar done old now → IsPutAlone made (length done) now next → ArePutSoFar (done ++ made ∷ []) old next
 one_more_put done made old now next so_far one =
     let still : Each (λ k o. IsPut o k old next) done = λ k o l. then_left (get_or done k o) k old now next (so_far.put.each k o l) (one.others k (λ e. omega (arith, l, e))) in
     record {

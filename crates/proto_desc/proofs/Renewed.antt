@@ -1,5 +1,6 @@
 -- What is made anew of edited files, beside what was made of the files that the edit spares, is what is made of all files, and no file has a flaw.
 use Rattle.std.proofs.Common.{◌≡◌, ℕ, zero, suc, ◌+◌, ◌<◌, Bool, true, false, List, [], ◌∷◌, ◌++◌, length, get_or, map, Option, Some, None, option_map, slice_get, sym, refl, ap, ap₂, subst, ◌∙◌, inl, inr, arith, Contains, true≢false}
+use Rattle.std.specs.Global.{Box}
 use Rattle.proto_faults.proofs.Common.{cases_Bool, get_or-map, get_or_from_slice_get, length-map, slice_get-get_or}
 use Rattle.std.proofs.lemmas.Option.{slice_get-map}
 use Rattle.proto_files.proofs.Common.{AreRead, FileOf, HasNoFault, ReadOf, read_at}
@@ -69,12 +70,12 @@ clean_files files none y (of_flaw reads file f are within c) =
 
 -- ---- what was made
 
-made_of : (files : List FileOf) (b : Bool) (file : ℕ) (o : Option Made) → IsMadeIfMarked files b file o → b ≡ true → (m : Made) × (o ≡ Some m) × IsMade files file m
+made_of : (files : List FileOf) (b : Bool) (file : ℕ) (o : Option (Box Made)) → IsMadeIfMarked files b file o → b ≡ true → (m : Box Made) × (o ≡ Some m) × IsMade files file m.value
 made_of files true file None h e = absurd h
 made_of files true file (Some m) h e = (m, refl, h)
 made_of files false file o h e = absurd (true≢false (sym e))
 
-made_none : (files : List FileOf) (b : Bool) (file : ℕ) (o : Option Made) → IsMadeIfMarked files b file o → b ≡ false → o ≡ None
+made_none : (files : List FileOf) (b : Bool) (file : ℕ) (o : Option (Box Made)) → IsMadeIfMarked files b file o → b ≡ false → o ≡ None
 made_none files true file o h e = absurd (true≢false e)
 made_none files false file None h e = refl
 made_none files false file (Some m) h e = absurd h
@@ -153,9 +154,9 @@ module _ (tells : KeptFilesTellSpared) (places : List ℕ) (before : List FileOf
     ];
   }
 
-  module _ (all : List (Option Made)) (made : AreMade files marks all) where
+  module _ (all : List (Option (Box Made))) (made : AreMade files marks all) where
     -- what was made of a marked file
-    made_at : (file : ℕ) → file < length files → get_or marks file false ≡ true → (m : Made) × (get_or all file None ≡ Some m) × IsMade files file m
+    made_at : (file : ℕ) → file < length files → get_or marks file false ≡ true → (m : Box Made) × (get_or all file None ≡ Some m) × IsMade files file m.value
     made_at file within marked = made_of files (get_or marks file false) file (get_or all file None) (made.each file None (omega (arith, within, made.len))) marked
 
     flawless : SparedFilesStayFlawless → HasNoFault (CheckFaults before) → (file : ℕ) → file < length files → flaws_of files reads file ≡ []
@@ -165,8 +166,8 @@ module _ (tells : KeptFilesTellSpared) (places : List ℕ) (before : List FileOf
     ]
 
     module _ (new : Descriptors) (put : ArePut all old new) where
-      put_at : (file : ℕ) → file < length files → (o : Option Made) → get_or all file None ≡ o → IsPut o file old new
-      put_at file within o e = subst (λ (x : Option Made). IsPut x file old new) e (put.each file None (omega (arith, within, made.len)))
+      put_at : (file : ℕ) → file < length files → (o : Option (Box Made)) → get_or all file None ≡ o → IsPut o file old new
+      put_at file within o e = subst (λ (x : Option (Box Made)). IsPut x file old new) e (put.each file None (omega (arith, within, made.len)))
 
       put_none : (file : ℕ) → file < length files → get_or marks file false ≡ false → IsPut None file old new
       put_none file within unmarked = put_at file within None (made_none files (get_or marks file false) file (get_or all file None) (made.each file None (omega (arith, within, made.len))) unmarked)
@@ -202,7 +203,7 @@ pub record AreLaws : Type 0 where
   pub flawless : SparedFilesStayFlawless
 
 module _ (laws : AreLaws) (places : List ℕ) (files : List FileOf) (clean : HasNoFault (LinkFaults files)) (told : Option (List Bool)) (old : Descriptors) (was : WasMade files places told old)
-    (l : LinkOf) (marks : List Bool) (are : AreMarks places files l (files_kept old) marks) (all : List (Option Made)) (made : AreMade files marks all) where
+    (l : LinkOf) (marks : List Bool) (are : AreMarks places files l (files_kept old) marks) (all : List (Option (Box Made))) (made : AreMade files marks all) where
   is_sound : (reads : List ReadOf) → AreRead files reads → AreSoundlyEdited places was.before was.reads files reads
   is_sound reads read = laws.sound places was.before was.reads files reads (record { same = was.same; were_read = was.read; are_read = read }) was.clean clean
 
@@ -229,7 +230,7 @@ module _ (laws : AreLaws) (places : List ℕ) (files : List FileOf) (clean : Has
         (described_now laws.tells places was.before was.reads files reads (is_sound reads read) was.clean l old was.made.0.kept marks are all made new put laws.described was.made.0.described)
 
 -- what was made and put, beside what was spared, is what is made of the files, which have no flaw
-pub renewed : AreLaws → (places : List ℕ) (files : List FileOf) → HasNoFault (LinkFaults files) → (told : Option (List Bool)) (old new : Descriptors) → WasMade files places told old → (l : LinkOf) (marks : List Bool) → AreMarks places files l (files_kept old) marks → (all : List (Option Made)) → AreMade files marks all → ArePut all old new → HasNoFault (CheckFaults files) × AreDescriptorsOf files new
+pub renewed : AreLaws → (places : List ℕ) (files : List FileOf) → HasNoFault (LinkFaults files) → (told : Option (List Bool)) (old new : Descriptors) → WasMade files places told old → (l : LinkOf) (marks : List Bool) → AreMarks places files l (files_kept old) marks → (all : List (Option (Box Made))) → AreMade files marks all → ArePut all old new → HasNoFault (CheckFaults files) × AreDescriptorsOf files new
 renewed laws places files clean told old new was l marks are all made put = (
   renewed_clean laws places files clean told old was l marks are all made,
   record {

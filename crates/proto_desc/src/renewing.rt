@@ -65,14 +65,15 @@ fn check_again(
 
 /// Checks the marked files again, which have no `extend` block, and describes them: for each file in
 /// the order of their paths what was made of it, or nothing where it is not marked. Answers none
-/// where one has a flaw. Refused for want of memory alone.
+/// where one has a flaw. Refused for want of memory alone. What is made is boxed, so that a file of
+/// which nothing is made takes one word.
 fn check_marked(
     alloc: Global,
     files: &Files,
     link: &Link,
     table: &[IndexMap<u32, EnumRow>],
     marks: &[bool],
-) -> Result<Option<Vec<Option<Made>>>, NoMemory>
+) -> Result<Option<Vec<Option<Box<Made>>>>, NoMemory>
     requires link { IsLinkOf files.now link.now }
     requires marks { length marks.now ≡ length files.now }
     requires table { (file : ℕ) → file < length files.now → get_or marks.now file false ≡ true
@@ -85,7 +86,8 @@ fn check_marked(
             let Some(made) = check_again(alloc, files, link, table, file)? else {
                 return Ok(None);
             };
-            all.push(Some(made))?;
+            let boxed = Box::new(alloc, made)?;
+            all.push(Some(boxed))?;
         } else {
             all.push(None)?;
         }
@@ -95,19 +97,20 @@ fn check_marked(
 
 impl Descriptors {
     /// Puts what was made of a file, if something was, in place of what was there. Takes no memory.
-    fn put_one(&mut self, file: usize, made: Option<Made>)
+    fn put_one(&mut self, file: usize, made: Option<Box<Made>>)
         requires file { file < length self.old.file.items }
         requires kept { file < length self.old.kept.items }
         ensures { IsPutAlone made file self.old self.new }
     {
-        if let Some(Made { descriptor, kept }) = made {
+        if let Some(made) = made {
+            let Made { descriptor, kept } = Box::into_inner(made);
             self.file[file] = descriptor;
             self.kept[file] = kept;
         }
     }
 
     /// Puts what was made of files in place of what was there. Takes no memory.
-    fn put(&mut self, all: Vec<Option<Made>>)
+    fn put(&mut self, all: Vec<Option<Box<Made>>>)
         requires file { length all.items ≡ length self.old.file.items }
         requires kept { length all.items ≡ length self.old.kept.items }
         ensures { ArePut all.items self.old self.new }

@@ -1,4 +1,5 @@
 use Rattle.std.proofs.Common.{List, Bool, Option, option_map, IfSome, sym, subst, ◌∙◌}
+use Rattle.std.specs.Global.{Box}
 use Rattle.proto_faults.proofs.Common.{Vec}
 use Rattle.proto_files.proofs.Common.{HasNoFault}
 use Rattle.proto_scenes.specs.Enums.{IsEnumTableOf}
@@ -26,7 +27,7 @@ check_marked-requires-clause-table c =
 
 pub put-requires-clause-file : goal.put-requires-clause-file
 put-requires-clause-file c =
-    let made = subst (λ (o : Option (Vec (Option Made))). IfSome o (λ all. AreMade c.args.files.now c.deref-6.result.now all.items)) c.in-Some.is c.in_ok-all.ensures in
+    let made = subst (λ (o : Option (Vec (Option (Box Made)))). IfSome o (λ all. AreMade c.args.files.now c.deref-6.result.now all.items)) c.in-Some.is c.in_ok-all.ensures in
     made.len ∙ sym (counts c.args.files.now c.args.places.now (option_map (λ marks. marks.now) c.args.told) c.args.self.now c.requires.were).0
 
 both : (c : goal.After-drop-marks-2) → HasNoFault (CheckFaults c.args.files.now) × AreDescriptorsOf c.args.files.now c.put.new.self
@@ -43,7 +44,7 @@ both c =
     (subst (λ (ks : List KeptFile). HasNoMarkedExtends files (kept_files_of ks) c.deref.result.now) c.deref-2.ensures.value asked) in
     let made =
     subst (λ (ms : List Bool). AreMade files ms c.in-Some.all.items) c.deref-6.ensures.value
-    (subst (λ (o : Option (Vec (Option Made))). IfSome o (λ all. AreMade files c.deref-6.result.now all.items)) c.in-Some.is c.in_ok-all.ensures) in
+    (subst (λ (o : Option (Vec (Option (Box Made)))). IfSome o (λ all. AreMade files c.deref-6.result.now all.items)) c.in-Some.is c.in_ok-all.ensures) in
     renewed
     (record { sound = c.clean_edits_are_sound.ensures; tells = c.kept_files_tell_spared.ensures; described = c.spared_files_stay.ensures.descriptors; flawless = c.spared_files_stay.ensures.flawless })
     places files c.requires.clean (option_map (λ marks. marks.now) c.args.told) old c.put.new.self c.requires.were link marks (record { link = c.requires.link; others = others; none = none }) c.in-Some.all.items made c.put.ensures
