@@ -133,24 +133,36 @@ fn descriptors(
 }
 
 /// The same, with the enums of all files.
-fn check_with(
+fn describe_with(
     alloc: Global,
     files: &Files,
     link: &Link,
     table: &[IndexMap<u32, EnumRow>],
-) -> Result<Descriptors, SchemaFault>
+) -> Result<Vec<FileDescriptor>, SchemaFault>
     requires link { IsLinkOf files.now link.now }
     requires table { IsEnumTable files.now table.now }
     ensures clean { IfOk result (λ _. HasNoFault (CheckFaults files.now)) }
-    ensures descriptors { IfOk result (λ d. AreDescribed files.now (files_desc d)) }
-    ensures kept { IfOk result (λ d. AreKeptOf files.now (files_kept d)) }
+    ensures descriptors { IfOk result (λ ds. AreDescribed files.now (map file_desc ds.items)) }
     ensures fault { IfErr result (IsCheckError files.now) }
 {
     let scenes = scenes(alloc, files, link, table)?;
     check_files(alloc, files, link, &scenes)?;
-    let file = descriptors(alloc, files, &scenes)?;
-    let kept = kept_files(alloc, files, link)?;
-    Ok(Descriptors { file, kept })
+    Ok(descriptors(alloc, files, &scenes)?)
+}
+
+/// What `check` answers, of which nothing is kept of the files.
+pub(crate) fn describe(
+    alloc: Global,
+    files: &Files,
+    link: &Link,
+) -> Result<Vec<FileDescriptor>, SchemaFault>
+    requires { IsLinkOf files.now link.now }
+    ensures clean { IfOk result (λ _. HasNoFault (CheckFaults files.now)) }
+    ensures descriptors { IfOk result (λ ds. AreDescribed files.now (map file_desc ds.items)) }
+    ensures fault { IfErr result (IsCheckError files.now) }
+{
+    let table = enum_table(alloc, files)?;
+    describe_with(alloc, files, link, &table)
 }
 
 /// The descriptors of linked files, in the order of their paths, where their checks find no fault;
@@ -162,8 +174,9 @@ pub fn check(alloc: Global, files: &Files, link: &Link) -> Result<Descriptors, S
     ensures kept { IfOk result (λ d. AreKeptOf files.now (files_kept d)) }
     ensures fault { IfErr result (IsCheckError files.now) }
 {
-    let table = enum_table(alloc, files)?;
-    check_with(alloc, files, link, &table)
+    let file = describe(alloc, files, link)?;
+    let kept = kept_files(alloc, files, link)?;
+    Ok(Descriptors { file, kept })
 }
 
 /// The same, and no descriptors.

@@ -5,6 +5,7 @@
 mod checking;
 mod described;
 mod described_items;
+mod described_schema;
 mod descriptor_copies;
 mod descriptors;
 mod file_options;
@@ -21,8 +22,9 @@ mod texts;
 
 pub use checking::{check, pass_checks};
 pub use described::file_descriptor;
+pub use described_schema::DescribedSchema;
 pub use descriptors::Descriptors;
-pub use json_form::to_json;
+pub use json_form::{files_to_json, to_json};
 pub use proto_descriptors::{
     EnumDescriptor, EnumOptions, EnumReservedRange, EnumValueDescriptor, EnumValueOptions,
     FieldDescriptor, FieldOptions, FieldRole, FieldType, FileDescriptor, FileOptions,

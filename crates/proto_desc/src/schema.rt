@@ -92,7 +92,7 @@ pub fn link_and_descriptors(
 
 // The files given, in the order of their paths, where neither their paths nor their texts have a
 // fault.
-fn files_read(alloc: Global, given: Vec<(String, Vec<u8>)>) -> Result<Files, SchemaFault>
+pub(crate) fn files_read(alloc: Global, given: Vec<(String, Vec<u8>)>) -> Result<Files, SchemaFault>
     ensures read { IfOk result (AreReadOf (files_of given.items)) }
     ensures fault { IfErr result (IsOpenError (files_of given.items)) }
 {

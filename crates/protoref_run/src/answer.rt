@@ -1,12 +1,12 @@
 //! The answers over schemas that compile.
 
-ghost use Rattle.std.specs.Prelude.{◌≡◌, ◌++◌, IfErr, IfOk, codes};
+ghost use Rattle.std.specs.Prelude.{◌≡◌, ◌++◌, IfErr, IfOk, codes, map};
+ghost use Rattle.proto_descriptors.specs.Views.{file_desc};
 ghost use Rattle.proto_json.specs.DescriptorText.{json_text};
-ghost use Rattle.proto_desc.specs.Views.{files_desc};
 ghost use Rattle.proto_output.specs.Answers.{status_of, printed_text};
 ghost use Rattle.protoref_run.specs.Linted.{IsLintOf};
 
-use proto_desc::{CheckedSchema, Descriptors, to_json};
+use proto_desc::{CheckedSchema, FileDescriptor, files_to_json};
 use proto_lint::{RuleSet, lint};
 use proto_names::are_read;
 use proto_output::{Answer, RunFault, Status, lines_of_findings};
@@ -15,14 +15,14 @@ use std::alloc::Global;
 // The answer of their descriptors.
 pub(crate) fn descriptors_answer(
     alloc: Global,
-    descriptors: &Descriptors,
+    files: &[FileDescriptor],
 ) -> Result<Answer, RunFault>
     ensures text { IfOk result (λ answer.
-        printed_text answer ≡ json_text (files_desc descriptors.now) ++ codes "\n") }
+        printed_text answer ≡ json_text (map file_desc files.now) ++ codes "\n") }
     ensures status { IfOk result (λ answer. status_of answer ≡ Status.Done) }
     ensures err { IfErr result (λ e. e ≡ RunFault.NoMemory) }
 {
-    let mut text = to_json(alloc, descriptors)?;
+    let mut text = files_to_json(alloc, files)?;
     text.push('\n')?;
     Ok(Answer::Text(text, Status::Done))
 }

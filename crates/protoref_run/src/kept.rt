@@ -2,19 +2,19 @@
 
 ghost use Rattle.std.specs.Prelude.{◌≡◌, None};
 
-use proto_desc::{CheckedSchema, Schema};
+use proto_desc::{CheckedSchema, DescribedSchema};
 use std::mem;
 
 /// What a run still holds when it has ended. Who goes on lets it go by `release`; a program that ends
 /// can spare that.
 #[derive(Drop)]
 pub struct Kept {
-    described: Option<Schema>,
+    described: Option<DescribedSchema>,
     checked: Option<CheckedSchema>,
 }
 
 // Lets schemas with descriptors go, by the call that proves no drop.
-fn let_go(described: Option<Schema>) {
+fn let_go(described: Option<DescribedSchema>) {
     match described {
         Some(schema) => schema.release(),
         None => {}
@@ -41,7 +41,7 @@ impl Kept {
     }
 
     /// Keeps schemas with their descriptors, in the place of any kept before.
-    pub(crate) fn keep(&mut self, schema: Schema) {
+    pub(crate) fn keep(&mut self, schema: DescribedSchema) {
         let_go(mem::replace(&mut self.described, Some(schema)));
     }
 

@@ -8,7 +8,7 @@ ghost use Rattle.proto_output.specs.Ends.{CountsStore};
 ghost use Rattle.proto_records.specs.Known.{Over};
 ghost use Rattle.protoref_run.specs.Printed.{Compiles, TellsFault};
 
-use proto_desc::{CheckedSchema, Schema};
+use proto_desc::{CheckedSchema, DescribedSchema};
 use proto_faults::Fault;
 use proto_journal::{LoadFault, sound_files};
 use proto_output::{Answer, RunFault, fault_answer};
@@ -16,7 +16,10 @@ use proto_store::Store;
 use std::alloc::Global;
 
 // The schemas of a store. Where the paths alone have a fault, no file is read.
-pub(crate) fn open_schema<S: Store>(alloc: Global, store: &mut S) -> Result<Schema, LoadFault>
+pub(crate) fn open_described<S: Store>(
+    alloc: Global,
+    store: &mut S,
+) -> Result<DescribedSchema, LoadFault>
     requires { S.failure_count store.old < 2 ^ 64 - 1 }
     ensures compiles { IfOk result (Compiles (S.holds store.old)) }
     ensures fault { IfErr result (IsLoadFault (S.holds store.old)) }
@@ -24,7 +27,7 @@ pub(crate) fn open_schema<S: Store>(alloc: Global, store: &mut S) -> Result<Sche
     ensures count { CountsLoad (S.failure_count store.old) (S.failure_count store.new) result }
 {
     let files = sound_files(alloc, store)?;
-    match Schema::open(alloc, files) {
+    match DescribedSchema::open(alloc, files) {
         Ok(schema) => Ok(schema),
         Err(fault) => Err(LoadFault::from(fault)),
     }

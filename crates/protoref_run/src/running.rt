@@ -10,7 +10,7 @@ use crate::command::Command;
 use crate::kept::Kept;
 use crate::logging::log_answer;
 use crate::migrating::migrate_answer;
-use crate::opening::{faulty, open_checked, open_schema};
+use crate::opening::{faulty, open_checked, open_described};
 use crate::recovering::recover_answer;
 use proto_journal::LoadFault;
 use proto_lint::RuleSet;
@@ -91,7 +91,7 @@ fn compile_answer<S: Store>(
     ensures outcome { Answers Command.Compile (S.holds store.old) (S.holds store.new) result }
     ensures count { CountsStore (S.failure_count store.old) (S.failure_count store.new) result }
 {
-    match open_schema(alloc, store) {
+    match open_described(alloc, store) {
         Ok(schema) => {
             let answer = descriptors_answer(alloc, schema.descriptors());
             kept.keep(schema);

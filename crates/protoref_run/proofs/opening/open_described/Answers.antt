@@ -1,6 +1,6 @@
 use Rattle.proto_files.proofs.Common.{files_of}
 use Rattle.protoref_run.proofs.Printing.{compiles}
-use Rattle.protoref_run.proofs.opening.open_schema.Goals as goal
+use Rattle.protoref_run.proofs.opening.open_described.Goals as goal
 
 pub returns-in-Ok-clause-compiles : goal.returns-in-Ok-clause-compiles
 returns-in-Ok-clause-compiles g c =
