@@ -15,7 +15,7 @@ use std::time::Instant;
 
 // What is asked.
 #[derive(Clone, Copy)]
-enum Edit<'a> {
+pub(crate) enum Edit<'a> {
     Rename { name: &'a str, to: &'a str },
     DeleteField { name: &'a str },
     AddImport { file: &'a str, path: &'a str },
@@ -23,7 +23,7 @@ enum Edit<'a> {
 }
 
 // The edit that words begin with, and the words behind it.
-fn read_edit(words: &[String]) -> Option<(Edit<'_>, &[String])> {
+pub(crate) fn read_edit(words: &[String]) -> Option<(Edit<'_>, &[String])> {
     let [command, first, rest @ ..] = words else {
         return None;
     };
@@ -64,7 +64,7 @@ fn changed_count(alloc: Global, workspace: &Workspace, edit: Edit) -> Result<usi
 }
 
 // The edit as the workspace takes it.
-fn owned_edit(alloc: Global, edit: Edit) -> io::Result<proto_edit::Edit> {
+pub(crate) fn owned_edit(alloc: Global, edit: Edit) -> io::Result<proto_edit::Edit> {
     Ok(match edit {
         Edit::Rename { name, to } => proto_edit::Edit::Rename {
             name: name.to_string(alloc)?,
@@ -84,7 +84,7 @@ fn owned_edit(alloc: Global, edit: Edit) -> io::Result<proto_edit::Edit> {
     })
 }
 
-fn micros(from: Instant, to: Instant) -> u128 {
+pub(crate) fn micros(from: Instant, to: Instant) -> u128 {
     to.duration_since(from).as_micros()
 }
 

@@ -5,15 +5,18 @@
 //!     bench edit rename NAME TO FILE..
 //!     bench edit delete-field NAME FILE..
 //!     bench edit add-import|drop-import FILE PATH FILE..
+//!     bench edits EDIT.. FILE..
 #![tactic(auto)]
 
 mod counts;
 mod editing;
 mod kind;
+mod lists;
 mod report;
 mod steps;
 
 use crate::editing::time_edit;
+use crate::lists::time_edits;
 use crate::steps::{compile, count, lex_all, parse_all};
 use std::rt::{Clock, Files};
 use std::{env, fs, io};
@@ -38,6 +41,7 @@ fn answer<R: Files + Clock + Print + AllocGlobal>(rt: &R, words: &[String]) -> i
         "lint" => count(rt, words, true),
         "compile" => compile(rt, words),
         "edit" => time_edit(rt, words),
+        "edits" => time_edits(rt, words),
         _ => rt.println("no such step"),
     }
 }
