@@ -1,10 +1,10 @@
 -- What an edit asks of files, of those of a workspace that was opened.
 use Rattle.std.proofs.Common.{◌≡◌, List, sym, subst}
 use Rattle.proto_files.proofs.Common.{HasNoFault, FileOf}
-use Rattle.proto_imports.specs.Links.{LinkFaults}
+use Rattle.proto_names_imports.specs.Links.{LinkFaults}
 use Rattle.proto_desc.specs.Whole.{FileFaults, of_check, of_link}
-use Rattle.proto_statement_deleted.specs.Fields.{NumbersAreSmall}
-use Rattle.proto_statement_edits.specs.Edits.{HaveSmallNumbers}
+use Rattle.proto_edit_statement_described.specs.Fields.{NumbersAreSmall}
+use Rattle.proto_edit_statements.specs.Edits.{HaveSmallNumbers}
 
 -- They have no fault of their imports, names and references.
 pub opened_is_linked : (files schema : List FileOf) → files ≡ schema → HasNoFault (FileFaults schema) → HasNoFault (LinkFaults files)

@@ -1,7 +1,7 @@
 -- What is said of the bytes of a file.
 use Rattle.std.specs.Prelude.{◌≡◌, ◌⊎◌, ◌<◌, ℕ, List, length, count_by}
 use Rattle.std.specs.Str.{IsUtf8}
-use Rattle.proto_faults.specs.Texts.{text_limit}
+use Rattle.proto_base.specs.Texts.{text_limit}
 use Rattle.proto_text.specs.declared.lexer.Token.{Token}
 use Rattle.proto_text.specs.declared.fault.TextFault.{TextFault}
 use Rattle.proto_text.specs.FaultTable.{text_number, text_name, text_offset}

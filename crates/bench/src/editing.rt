@@ -3,11 +3,11 @@
 
 use crate::files_at;
 use proto_edit::Workspace;
-use proto_entries::{Change, Refusal};
+use proto_edit_entries::{Change, Refusal};
+use proto_edit_rename::rename;
+use proto_edit_statement_described::laws::numbers_are_read;
+use proto_edit_statements::{add_import, delete_field, drop_import};
 use proto_files::are_read;
-use proto_rename::rename;
-use proto_statement_deleted::laws::numbers_are_read;
-use proto_statement_edits::{add_import, delete_field, drop_import};
 use std::alloc::Global;
 use std::io;
 use std::rt::{Clock, Files};

@@ -2,9 +2,9 @@
 
 use crate::editing::{micros, owned_edit, read_edit};
 use crate::files_at;
+use proto_base::NoMemory;
 use proto_edit::{Edit, Workspace};
-use proto_entries::{Entry, Refusal};
-use proto_faults::NoMemory;
+use proto_edit_entries::{Entry, Refusal};
 use std::alloc::Global;
 use std::io;
 use std::rt::{Clock, Files};

@@ -2,8 +2,8 @@
 
 use crate::report::{Report, report_on};
 use crate::{Given, files_at};
+use proto_base::{NoMemory, SchemaFault};
 use proto_desc::{Schema, to_json};
-use proto_faults::{NoMemory, SchemaFault};
 use proto_files::{Files, Paths};
 use proto_lint::{RuleSet, lint};
 use proto_names::Link;

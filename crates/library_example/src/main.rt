@@ -4,7 +4,7 @@
 
 use proto_edit::{Edit, Entry, NoMemory, OpenFault, Refusal, Workspace, to_json};
 use proto_lint::{RuleSet, lint};
-use proto_output::{
+use protoref_output::{
     lines_of_findings, locations_of_references, place_of_fault, refusal_line, schema_line,
 };
 use std::alloc::Global;

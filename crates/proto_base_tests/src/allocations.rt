@@ -3,7 +3,7 @@
 
 use crate::calls::store_of;
 use crate::memory::{FILES, Step, take};
-use proto_faults::NoMemory;
+use proto_base::NoMemory;
 use proto_store::{MemoryStore, Store};
 use std::process::Abort;
 

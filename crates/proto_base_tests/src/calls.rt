@@ -2,7 +2,7 @@
 
 ghost use Rattle.std.specs.Prelude.{◌<◌, length};
 
-use proto_faults::NoMemory;
+use proto_base::NoMemory;
 use proto_store::{MemoryStore, Store, StoreFault};
 use std::alloc::Global;
 use std::process::Abort;

@@ -2,7 +2,7 @@
 
 use crate::expect::source_of;
 use crate::files::{Given, given_files, put_file, read};
-use proto_faults::SchemaFault;
+use proto_base::SchemaFault;
 use proto_files::{Files, Paths};
 use proto_text::lex;
 use proto_tree::parse;

@@ -1,7 +1,7 @@
 //! Tests of the files of a workspace, through public calls alone.
 
 use crate::expect::{expect, owned_text, repeated_text};
-use proto_faults::{FaultKind, SchemaFault};
+use proto_base::{FaultKind, SchemaFault};
 use proto_files::{
     Files, Paths, Words, all_paths, are_read, fault_at_token, file_named, is_workspace_path,
     offset_of,

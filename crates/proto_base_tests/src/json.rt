@@ -1,14 +1,14 @@
 //! Descriptors, each with its JSON text, and the names that stand in these.
 
 use crate::expect::{expect, owned_text};
+use proto_base::NoMemory;
 use proto_descriptors::{
     EnumDescriptor, EnumOptions, EnumReservedRange, EnumValueDescriptor, EnumValueOptions,
     FieldDescriptor, FieldOptions, FieldRole, FieldType, FileDescriptor, FileOptions,
     IdempotencyLevel, Label, MessageDescriptor, MessageOptions, MethodDescriptor, MethodOptions,
     NumberRange, OptimizeMode, ServiceDescriptor, ServiceOptions, Syntax, copy_files,
 };
-use proto_faults::NoMemory;
-use proto_json::text_of_files;
+use proto_descriptors_json::text_of_files;
 use std::alloc::Global;
 use std::process::Abort;
 

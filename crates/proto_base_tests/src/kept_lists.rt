@@ -2,8 +2,9 @@
 //! lists worked out by hand.
 
 use crate::expect::expect;
-use proto_faults::NoMemory;
-use proto_kept_lists::{RefId, change_at, renewed, roll_back};
+use proto_base::{NoMemory, change_at, roll_back};
+use proto_names_affected::renewed;
+use proto_names_table::RefId;
 use std::process::Abort;
 
 /// A list, two changes of it by place and letter, and the list after them.

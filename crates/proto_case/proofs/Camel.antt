@@ -1,7 +1,7 @@
 -- Camel case, byte by byte: what is left of text is text, and a raised byte is another (for the
 -- crates above).
 use Rattle.std.proofs.Common.{get_or, length, suc, ◌≡◌, ◌≢◌, ℕ, ◌-◌, ◌<◌, ◌≤◌, Bool, true, false, cond, ◌==◌, List, [], ◌∷◌, ◌++◌, IsUtf8, refl, sym, ap, subst, ◌∙◌, if◌then◌else◌, ◌⊎◌, inl, inr, arith, append-nil, nat_lt, eqb-true, le-ltb, ltb-false, ltb-true}
-use Rattle.proto_faults.proofs.Common.{to_ascii_uppercase, and_parts, cases_Bool, cases_lt, cond-false, cond-true, false_from_ne_true}
+use Rattle.proto_base.proofs.Common.{to_ascii_uppercase, and_parts, cases_Bool, cases_lt, cond-false, cond-true, false_from_ne_true}
 use Rattle.std.proofs.lemmas.Str.{IsUtf8-append, IsUtf8-encode, IsUtf8-nil, encode_ascii, inside_one, len_utf8_bounds, length-encode}
 use lib.Utf8.{encode, encodes, low_scalar, scalar, scalars}
 use Rattle.proto_case.specs.Camel.{camel_from}

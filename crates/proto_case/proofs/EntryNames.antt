@@ -1,6 +1,6 @@
 -- The entry name of a word is another word (for the crates above).
 use Rattle.std.proofs.Common.{◌≡◌, ◌≢◌, ℕ, Bool, true, false, ◌||◌, List, [], ◌∷◌, length, refl, sym, ◌∙◌, ap, inl, inr, arith, length-append, if◌then◌else◌, ◌==◌, codes}
-use Rattle.proto_faults.proofs.Common.{to_ascii_uppercase, list_any, cases_Bool, cond-true, cond-false, or_parts, list_any-append}
+use Rattle.proto_base.proofs.Common.{to_ascii_uppercase, list_any, cases_Bool, cond-true, cond-false, or_parts, list_any-append}
 use Rattle.proto_case.specs.Camel.{camel_from, entry_name}
 use Rattle.proto_case.proofs.Camel.{no_upper}
 

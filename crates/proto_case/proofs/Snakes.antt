@@ -1,6 +1,6 @@
 -- The tests of snake names, step by step.
 use Rattle.std.proofs.Common.{◌≡◌, ℕ, ◌-◌, ◌<◌, ◌≤◌, Bool, true, false, ◌&&◌, ◌||◌, ◌==◌, List, [], ◌∷◌, length, get_or, take, drop, refl, sym, ap, ◌∙◌, arith, take_all}
-use Rattle.proto_faults.proofs.Common.{is_ascii_digit, list_all}
+use Rattle.proto_base.proofs.Common.{is_ascii_digit, list_all}
 use Rattle.proto_case.specs.Cases.{are_apart, is_snake}
 
 -- of the first byte, and of those behind it

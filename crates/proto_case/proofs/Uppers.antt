@@ -1,6 +1,6 @@
 -- Names in upper snake, character by character.
 use Rattle.std.proofs.Common.{◌≡◌, ℕ, ◌+◌, ◌/◌, ◌<◌, ◌≤◌, Bool, true, false, cond, ◌&&◌, ◌==◌, nat_lt, List, [], ◌∷◌, ◌++◌, Option, Some, None, refl, sym, ap, ◌∙◌, if◌then◌else◌, inl, inr, arith, append_assoc, le-ltb}
-use Rattle.proto_faults.proofs.Common.{is_ascii_digit, is_ascii_lowercase, is_ascii_uppercase, to_ascii_uppercase, cases_lt, encode_ascii}
+use Rattle.proto_base.proofs.Common.{is_ascii_digit, is_ascii_lowercase, is_ascii_uppercase, to_ascii_uppercase, cases_lt, encode_ascii}
 use lib.Utf8.{encode, next}
 use Rattle.proto_case.specs.Cases.{begins_lower, begins_word, upper_behind}
 

@@ -1,8 +1,8 @@
 -- The name of the message that stands for a map field's pairs (a choice of this profile).
 use Rattle.std.specs.Prelude.{Bool, true, false, ◌==◌, if◌then◌else◌, [], ◌∷◌, ◌++◌, codes}
 use Rattle.std.specs.Char.{to_ascii_uppercase}
-use Rattle.proto_faults.specs.Ascii as ascii
-use Rattle.proto_faults.specs.Texts.{Text}
+use Rattle.proto_base.specs.Ascii as ascii
+use Rattle.proto_base.specs.Texts.{Text}
 
 -- each `_` is left out, and the character after it is in upper case, as is the first where the
 -- flag says so

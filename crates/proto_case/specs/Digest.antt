@@ -1,6 +1,6 @@
 -- A number that equal texts share.
 use Rattle.std.specs.Prelude.{ℕ, ◌+◌, ◌*◌, ◌%◌, ◌^◌, [], ◌∷◌}
-use Rattle.proto_faults.specs.Texts.{Text}
+use Rattle.proto_base.specs.Texts.{Text}
 
 -- one byte more
 abbrev pub digest_step : ℕ → ℕ → ℕ

@@ -2,8 +2,8 @@
 use Rattle.std.specs.Prelude.{Bool, true, false, not, ◌&&◌, ◌||◌, ◌==◌, nat_eq, [], ◌∷◌, length, drop, codes}
 use Rattle.std.specs.Char.{is_ascii_digit}
 use Rattle.std.specs.List.{list_all, prefix_len, starts_with, take_while}
-use Rattle.proto_faults.specs.Ascii as ascii
-use Rattle.proto_faults.specs.Texts.{Text}
+use Rattle.proto_base.specs.Ascii as ascii
+use Rattle.proto_base.specs.Texts.{Text}
 
 -- nothing stands in the text
 abbrev pub is_empty_text : Text → Bool

@@ -4,7 +4,7 @@ ghost use Rattle.std.specs.Prelude.{◌≡◌, ◌≤◌, ◌++◌, length, IfOk
 ghost use Rattle.std.specs.String.{string_bytes};
 ghost use Rattle.proto_case.specs.Camel.{camel_from};
 
-use proto_faults::NoMemory;
+use proto_base::NoMemory;
 use std::alloc::Global;
 
 // Writes the first byte in upper case where it is no `_`, and answers what stands behind it.

@@ -4,10 +4,10 @@ ghost use Rattle.std.specs.Prelude.{◌≡◌, ◌||◌, ◌==◌, IfOk};
 ghost use Rattle.std.specs.Char.{is_ascii_alphanumeric, is_ascii_digit, is_ascii_lowercase, is_ascii_uppercase};
 ghost use Rattle.std.specs.List.{list_all};
 ghost use Rattle.std.specs.String.{string_bytes};
-ghost use Rattle.proto_faults.specs.Ascii as ascii;
+ghost use Rattle.proto_base.specs.Ascii as ascii;
 ghost use Rattle.proto_case.specs.Cases.{are_apart, begins_lower, begins_word, is_lower_snake, is_pascal, is_upper_snake, upper};
 
-use proto_faults::NoMemory;
+use proto_base::NoMemory;
 use std::alloc::Global;
 
 // Whether there is no `_` at the end, and no two are beside each other.

@@ -5,7 +5,7 @@ ghost use Rattle.std.specs.String.{string_bytes};
 ghost use Rattle.proto_case.specs.Camel.{entry_name};
 
 use crate::camel_case::camel_from;
-use proto_faults::NoMemory;
+use proto_base::NoMemory;
 use std::alloc::Global;
 
 /// The name of the message that stands for a map field's pairs: the field's word without each `_`,

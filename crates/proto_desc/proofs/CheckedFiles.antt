@@ -1,24 +1,24 @@
 -- What holds of a file as the code reads it holds of it as it is read, with its numbers as they are.
 use Rattle.std.proofs.Common.{◌≡◌, ℕ, suc, ◌+◌, ◌<◌, List, [], ◌∷◌, ◌++◌, length, get_or, map, Option, Some, None, refl, sym, ap, subst, ◌∙◌, arith, Contains}
-use Rattle.proto_faults.proofs.Common.{Vec, contains_head}
+use Rattle.proto_base.proofs.Common.{Vec, contains_head}
 use Rattle.proto_tree.specs.Tree.{Tree}
 use Rattle.proto_files.proofs.Common.{FileOf, file_at, Each, ReadOf, AreRead, read_at, IsTreeOf, same_tree}
-use Rattle.proto_parts.proofs.Common.{past, Scene}
-use Rattle.proto_checks.specs.FileFlaws.{file_flaws}
-use Rattle.proto_checks.proofs.CappedFlaws as capped
-use Rattle.proto_numbers.specs.Flaws.{IsLeastOfFlaws}
-use Rattle.proto_numbers.specs.declared.flaw.Flaw.{Flaw}
-use Rattle.proto_extensions.specs.Extensions.{workspace_flaws}
-use Rattle.proto_extensions.specs.Listed.{AreWorkspaceFlaws}
-use Rattle.proto_extensions.proofs.CappedExtensions.{caps_keep_the_least}
-use Rattle.proto_described.proofs.CappedDescriptors.{caps_keep_the_descriptor}
+use Rattle.proto_ast.proofs.Common.{past, Scene}
+use Rattle.proto_desc_checks.specs.FileFlaws.{file_flaws}
+use Rattle.proto_desc_checks.proofs.CappedFlaws as capped
+use Rattle.proto_desc_numbers.specs.Flaws.{IsLeastOfFlaws}
+use Rattle.proto_desc_numbers.specs.declared.flaw.Flaw.{Flaw}
+use Rattle.proto_desc_extensions.specs.Extensions.{workspace_flaws}
+use Rattle.proto_desc_extensions.specs.Listed.{AreWorkspaceFlaws}
+use Rattle.proto_desc_extensions.proofs.CappedExtensions.{caps_keep_the_least}
+use Rattle.proto_desc_build.proofs.CappedDescriptors.{caps_keep_the_descriptor}
 use Rattle.proto_desc.specs.Common.{AreOfWorkspace, described_from, flaws_of, IsFaultOf, IsLeastFlawError}
-use Rattle.proto_scenes.specs.Scenes.{IsSceneOf}
-use Rattle.proto_faults.specs.declared.fault.SchemaFault.{SchemaFault}
-use Rattle.proto_faults.specs.declared.fault.SchemaFault.TheVariants.{Schema, NoMemory}
-use Rattle.proto_described.specs.Described.{file_described}
+use Rattle.proto_resolved.specs.Scenes.{IsSceneOf}
+use Rattle.proto_base.specs.declared.fault.SchemaFault.{SchemaFault}
+use Rattle.proto_base.specs.declared.fault.SchemaFault.TheVariants.{Schema, NoMemory}
+use Rattle.proto_desc_build.specs.Described.{file_described}
 use Rattle.proto_descriptors.proofs.Common.{FileDesc, file_desc}
-use Rattle.proto_scenes.specs.SceneOf.{scene_of}
+use Rattle.proto_resolved.specs.SceneOf.{scene_of}
 use Rattle.proto_descriptors.specs.declared.file.FileDescriptor.{FileDescriptor}
 
 -- the descriptor of the file with this number, by its tree

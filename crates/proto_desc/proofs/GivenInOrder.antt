@@ -1,9 +1,9 @@
 -- Files in the order of their paths have no fault of these, and are those that were given.
 use Rattle.std.proofs.Common.{ℕ, suc, List, [], ◌∷◌, subst, arith, AllPairs}
-use Rattle.proto_faults.proofs.Common.{IsPermutation-refl, from_map, length-map, length_permutation}
-use Rattle.proto_faults.specs.declared.fault.FaultKind.{FaultKind}
-use Rattle.proto_faults.specs.declared.fault.FaultKind.TheVariants.{BadPath, DoublePath, TooManyFiles}
-use Rattle.proto_faults.specs.declared.fault.SchemaFault.{SchemaFault}
+use Rattle.proto_base.proofs.Common.{IsPermutation-refl, from_map, length-map, length_permutation}
+use Rattle.proto_base.specs.declared.fault.FaultKind.{FaultKind}
+use Rattle.proto_base.specs.declared.fault.FaultKind.TheVariants.{BadPath, DoublePath, TooManyFiles}
+use Rattle.proto_base.specs.declared.fault.SchemaFault.{SchemaFault}
 use Rattle.proto_files.proofs.Common.{AreWorkspaceFiles, FileOf, HasNoFault, IsBefore, IsFilesError, IsPathFault, IsWorkspacePath, PathFaults, PathsRise, ReadFaults, count_once, paths_of}
 use Rattle.proto_files.proofs.Members.{Contains-from_member}
 use Rattle.proto_desc.proofs.Opened.{read_error}

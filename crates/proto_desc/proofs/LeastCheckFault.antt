@@ -1,15 +1,15 @@
 -- The least flaw of the first file that has one is the least fault of the checks.
 use Rattle.std.proofs.Common.{◌≡◌, ℕ, ◌<◌, ◌⊎◌, inl, inr, Bool, true, false, ◌==◌, ◌&&◌, ◌||◌, List, length, Some, None, refl, sym, ap, subst, ◌∙◌, arith, nat_lt, Contains, eq-eqb}
-use Rattle.proto_faults.proofs.Common.{nat_tests, kind_number, phase_of}
+use Rattle.proto_base.proofs.Common.{nat_tests, kind_number, phase_of}
 use Rattle.proto_text.specs.Texts.{offset_at}
 use Rattle.proto_files.proofs.Common.{FaultAt, ComesBefore, IsLeastFault, HasNoFault, FileOf, AreWorkspaceFiles, file_at, comes_before_cases, ReadOf, AreRead, read_at, read_once}
-use Rattle.proto_imports.proofs.LeastLinkFault.{file_before, one_file, one_token, token_before}
-use Rattle.proto_numbers.specs.Flaws.{IsLeastOfFlaws, comes_before}
-use Rattle.proto_numbers.specs.declared.flaw.Flaw.{Flaw}
-use Rattle.proto_extensions.proofs.WorkspaceFlaws.{all_of_checks, all_within}
+use Rattle.proto_names_imports.proofs.LeastLinkFault.{file_before, one_file, one_token, token_before}
+use Rattle.proto_desc_numbers.specs.Flaws.{IsLeastOfFlaws, comes_before}
+use Rattle.proto_desc_numbers.specs.declared.flaw.Flaw.{Flaw}
+use Rattle.proto_desc_extensions.proofs.WorkspaceFlaws.{all_of_checks, all_within}
 use Rattle.proto_desc.specs.Common.{CheckFaults, of_flaw, fault_of_flaw, flaws_of, IsCheckError, HasNoFlaw, IsLeastFlawError}
-use Rattle.proto_faults.specs.declared.fault.SchemaFault.{SchemaFault}
-use Rattle.proto_faults.specs.declared.fault.SchemaFault.TheVariants.{Schema, NoMemory}
+use Rattle.proto_base.specs.declared.fault.SchemaFault.{SchemaFault}
+use Rattle.proto_base.specs.declared.fault.SchemaFault.TheVariants.{Schema, NoMemory}
 
 less : (a b : ℕ) → a < b → nat_lt a b ≡ true
 less a b l = grind (arith, nat_tests)

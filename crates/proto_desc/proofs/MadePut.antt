@@ -2,7 +2,7 @@
 use Rattle.std.proofs.Common.{◌≡◌, ℕ, zero, suc, ◌+◌, ◌<◌, ◌≤◌, Bool, false, List, [], ◌∷◌, ◌++◌, length, get_or, Option, Some, None, slice_get, slice_set, refl, sym, ◌∙◌, ap, subst, arith, length-set, length-append}
 use Rattle.std.specs.Global.{Box}
 use Rattle.std.proofs.lemmas.List.{get_or-set_same}
-use Rattle.proto_faults.proofs.Common.{slice_get-get_or}
+use Rattle.proto_base.proofs.Common.{slice_get-get_or}
 use Rattle.proto_files.proofs.Common.{Each, FileOf, each_pushed}
 use Rattle.proto_desc.specs.Renewing.{ArePut, IsMadeIfMarked, IsPut, IsPutAlone}
 use Rattle.proto_desc.specs.declared.descriptors.Descriptors.{Descriptors}

@@ -1,9 +1,9 @@
 -- The first of the new texts with a fault has the least fault of the files with these texts.
 use Rattle.std.proofs.Common.{◌≡◌, ℕ, zero, suc, ◌<◌, List, [], ◌∷◌, length, map, get_or, refl, sym, ap, ◌∙◌, subst, inl, inr, arith, Contains}
-use Rattle.proto_faults.proofs.Common.{get_or-map, get_or_default, length-map}
-use Rattle.proto_faults.specs.declared.fault.FaultKind.{FaultKind}
-use Rattle.proto_faults.specs.declared.fault.SchemaFault.{SchemaFault}
-use Rattle.proto_faults.specs.declared.fault.SchemaFault.TheVariants.{Schema, NoMemory}
+use Rattle.proto_base.proofs.Common.{get_or-map, get_or_default, length-map}
+use Rattle.proto_base.specs.declared.fault.FaultKind.{FaultKind}
+use Rattle.proto_base.specs.declared.fault.SchemaFault.{SchemaFault}
+use Rattle.proto_base.specs.declared.fault.SchemaFault.TheVariants.{Schema, NoMemory}
 use Rattle.proto_files.proofs.Common.{FaultAt, fault_at, HasNoFault, IsFilesError, FileOf, file_at, AreWorkspaceFiles, IsTextFault, IsGrammarFault, ReadFaults}
 use Rattle.proto_files.specs.ReadFaults.{FaultsOf, TextFaults, GrammarFaults}
 use Rattle.proto_files.specs.Reading.{HasNone, IsOnlyFault, IsFirstFault, IsFirstError}

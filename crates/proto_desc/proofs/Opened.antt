@@ -1,12 +1,12 @@
 -- What opening files answers: the first step that finds a fault has the least of all.
 use Rattle.std.proofs.Common.{◌≡◌, ◌<◌, ◌⊎◌, inl, inr, ⊎_elim, List, None, Result, Ok, Err, IfOk, IfErr, sym, subst, arith, IsPermutation}
-use Rattle.proto_faults.proofs.Common.{IsPermutation-sym, IsPermutation-trans, All-permutation, length_permutation, phase_of}
+use Rattle.proto_base.proofs.Common.{IsPermutation-sym, IsPermutation-trans, All-permutation, length_permutation, phase_of}
 use Rattle.proto_files.proofs.Common.{FaultAt, fault_at, ComesBefore, IsLeastFault, HasNoFault, IsFilesError, FileOf, paths_of, AreWorkspaceFiles, PathFaults, ReadFaults, IsWorkspacePath, comes_before_cases, one_order, paths_are_phase_0, texts_are_phase_1, grammar_is_phase_2}
 use Rattle.proto_files.proofs.OneLeast.{least_is_one}
-use Rattle.proto_faults.specs.declared.fault.SchemaFault.{SchemaFault}
-use Rattle.proto_faults.specs.declared.fault.SchemaFault.TheVariants.{Schema, NoMemory}
-use Rattle.proto_imports.proofs.Common.{IsLinkError, LinkFaults, of_import, of_name, of_reference, import_found, name_found, reference_found}
-use Rattle.proto_extensions.proofs.WorkspaceFlaws.{all_of_checks}
+use Rattle.proto_base.specs.declared.fault.SchemaFault.{SchemaFault}
+use Rattle.proto_base.specs.declared.fault.SchemaFault.TheVariants.{Schema, NoMemory}
+use Rattle.proto_names_imports.proofs.Common.{IsLinkError, LinkFaults, of_import, of_name, of_reference, import_found, name_found, reference_found}
+use Rattle.proto_desc_extensions.proofs.WorkspaceFlaws.{all_of_checks}
 use Rattle.proto_desc.specs.Checked.{CheckFaults, of_flaw, IsCheckError}
 use Rattle.proto_desc.specs.Opening.{AreReadOf, IsOpenError, NoOpenFault, OneOpenFault}
 use Rattle.proto_desc.specs.Whole.{IsSortedOf, FileFaults, of_read, of_link as of_linking, of_check as of_checking, WorkspaceFaults, of_path, of_files as of_sorted}

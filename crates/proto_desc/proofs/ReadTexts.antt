@@ -1,12 +1,12 @@
 -- Texts as they are read, one after the other.
 use Rattle.std.proofs.Common.{◌≡◌, ℕ, suc, ◌<◌, ◌≤◌, List, [], ◌∷◌, ◌++◌, length, map, get_or, sym, ap, ◌∙◌, subst, inl, inr, arith, All, AllPairs}
-use Rattle.proto_faults.proofs.Common.{Text, get_or-map, length-map, map-map, map_push}
-use Rattle.proto_faults.specs.declared.fault.SchemaFault.{SchemaFault}
+use Rattle.proto_base.proofs.Common.{Text, get_or-map, length-map, map-map, map_push}
+use Rattle.proto_base.specs.declared.fault.SchemaFault.{SchemaFault}
 use Rattle.proto_files.proofs.Common.{FileOf, AreWorkspaceFiles, HasNoFault, IsFilesError, IsGrammarFault, IsTextFault, ReadFaults}
 use Rattle.proto_files.proofs.FirstErrors.{NoneOf}
 use Rattle.proto_files.proofs.Members.{Member, member_at}
 use Rattle.proto_files.specs.Reading.{HasNone, IsFirstError}
-use Rattle.proto_entries.specs.Putting.{with_texts}
+use Rattle.proto_edit_entries.specs.Putting.{with_texts}
 use Rattle.proto_desc.specs.NewTexts.{IsLexedText, IsParsedText, TextAt, file_with, lexed_text, read_text, texts_at, with_all}
 use Rattle.proto_desc.specs.declared.texts.LexedText.{LexedText}
 use Rattle.proto_desc.specs.declared.texts.ReadText.{ReadText}

@@ -1,23 +1,23 @@
 -- What is made anew of edited files, beside what was made of the files that the edit spares, is what is made of all files, and no file has a flaw.
 use Rattle.std.proofs.Common.{◌≡◌, ℕ, zero, suc, ◌+◌, ◌<◌, Bool, true, false, List, [], ◌∷◌, ◌++◌, length, get_or, map, Option, Some, None, option_map, slice_get, sym, refl, ap, ap₂, subst, ◌∙◌, inl, inr, arith, Contains, true≢false}
 use Rattle.std.specs.Global.{Box}
-use Rattle.proto_faults.proofs.Common.{cases_Bool, get_or-map, get_or_from_slice_get, length-map, slice_get-get_or}
+use Rattle.proto_base.proofs.Common.{cases_Bool, get_or-map, get_or_from_slice_get, length-map, slice_get-get_or}
 use Rattle.std.proofs.lemmas.Option.{slice_get-map}
 use Rattle.proto_files.proofs.Common.{AreRead, FileOf, HasNoFault, ReadOf, read_at}
-use Rattle.proto_numbers.specs.declared.flaw.Flaw.{Flaw}
-use Rattle.proto_imports.specs.Links.{LinkFaults}
-use Rattle.proto_relink.specs.Edited.{AreSameBut}
+use Rattle.proto_desc_numbers.specs.declared.flaw.Flaw.{Flaw}
+use Rattle.proto_names_imports.specs.Links.{LinkFaults}
+use Rattle.proto_names_update.specs.Edited.{AreSameBut}
 use Rattle.proto_descriptors.proofs.Common.{FileDesc, file_desc}
 use Rattle.proto_descriptors.specs.declared.file.FileDescriptor.{FileDescriptor}
-use Rattle.proto_scenes.specs.LinkOfFiles.{IsLinkOf}
+use Rattle.proto_resolved.specs.LinkOfFiles.{IsLinkOf}
 use Rattle.proto_names.specs.Following.{WasMadeOf}
 use Rattle.proto_names.specs.Linking.{LinkOf}
-use Rattle.proto_extensions.proofs.NoExtensions.{no_flaw}
-use Rattle.proto_kept_checks.specs.Checked.{AreKeptOf, KeptFileOf, KeptFilesTellSpared, StaysKept, kept_file, nothing_kept}
-use Rattle.proto_kept_checks.specs.Extended.{ExtendsAreSpared, HasNoExtend, SparedFilesStayFlawless}
-use Rattle.proto_kept_checks.specs.Spared.{AreSoundlyEdited, CleanEditsAreSound, SparedDescriptorsStay}
-use Rattle.proto_spared_files.specs.Common.{AreOthersKept, AreOthersKeptAsTold, HasNoMarkedExtends, kept_file_of, kept_files_of}
-use Rattle.proto_spared_files.specs.declared.kept_file.KeptFile.{KeptFile}
+use Rattle.proto_desc_extensions.proofs.NoExtensions.{no_flaw}
+use Rattle.proto_desc_affected.specs.Checked.{AreKeptOf, KeptFileOf, KeptFilesTellSpared, StaysKept, kept_file, nothing_kept}
+use Rattle.proto_desc_affected.specs.Extended.{ExtendsAreSpared, HasNoExtend, SparedFilesStayFlawless}
+use Rattle.proto_desc_affected.specs.Spared.{AreSoundlyEdited, CleanEditsAreSound, SparedDescriptorsStay}
+use Rattle.proto_desc_affected.specs.Common.{AreOthersKept, AreOthersKeptAsTold, HasNoMarkedExtends, kept_file_of, kept_files_of}
+use Rattle.proto_desc_affected.specs.declared.kept_file.KeptFile.{KeptFile}
 use Rattle.proto_desc.specs.Checked.{AreDescribed}
 use Rattle.proto_desc.specs.Common.{CheckFaults, described_from, fault_of_flaw, flaws_of, of_flaw}
 use Rattle.proto_desc.specs.Edited.{AreCheckedDescriptors, AreDescriptorsOf, WereDescribed}

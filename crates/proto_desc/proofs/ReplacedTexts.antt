@@ -1,9 +1,9 @@
 -- What is answered where files get other texts, and what stays where they do not.
 use Rattle.std.proofs.Common.{◌≡◌, ℕ, List, ap, ◌∙◌, subst}
-use Rattle.proto_faults.proofs.Common.{Text}
-use Rattle.proto_faults.specs.declared.fault.SchemaFault.{SchemaFault}
+use Rattle.proto_base.proofs.Common.{Text}
+use Rattle.proto_base.specs.declared.fault.SchemaFault.{SchemaFault}
 use Rattle.proto_files.proofs.Common.{AreWorkspaceFiles, FileOf, HasNoFault, IsFilesError, ReadFaults}
-use Rattle.proto_entries.specs.Putting.{with_texts}
+use Rattle.proto_edit_entries.specs.Putting.{with_texts}
 use Rattle.proto_desc.proofs.GivenInOrder.{read_in_order}
 use Rattle.proto_desc.proofs.Opened.{files_error, no_fault}
 use Rattle.proto_desc.proofs.WithTexts.{with_texts_at}

@@ -1,11 +1,11 @@
 -- Files with other texts at some places are those of before, but at these places.
 use Rattle.std.proofs.Common.{◌≡◌, ℕ, zero, suc, List, [], ◌∷◌, length, refl, sym, ◌∙◌, ap, subst, slice_set, length-set, Contains}
 use Rattle.std.proofs.lemmas.List.{get_or-set_other}
-use Rattle.proto_faults.proofs.Common.{Text, contains_head, contains_later}
+use Rattle.proto_base.proofs.Common.{Text, contains_head, contains_later}
 use Rattle.proto_files.proofs.Common.{FileOf}
 use Rattle.proto_files.specs.GivenFiles.{file_at, paths_of}
-use Rattle.proto_entries.specs.Putting.{with_texts}
-use Rattle.proto_relink.specs.Edited.{AreSameBut}
+use Rattle.proto_edit_entries.specs.Putting.{with_texts}
+use Rattle.proto_names_update.specs.Edited.{AreSameBut}
 
 abbrev given : List FileOf → ℕ → Text → FileOf
 given files p t = record { path = (file_at files p).path; bytes = t }

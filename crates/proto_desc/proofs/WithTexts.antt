@@ -1,10 +1,10 @@
 -- Files with other texts at some places: which file stands where, and the way back.
 use Rattle.std.proofs.Common.{◌≡◌, ℕ, suc, ◌+◌, ◌<◌, ◌≤◌, List, [], ◌∷◌, ◌++◌, length, get_or, refl, sym, ap, ◌∙◌, subst, inl, inr, ◌⊎◌, arith, All, AllPairs, slice_set, get_or-set_same, get_or-set_other}
 use Rattle.std.proofs.lemmas.List.{length-set, set-set, set-get_or}
-use Rattle.proto_faults.proofs.Common.{cases_eq, get_or_append_left, get_or_default, length_push, Text}
+use Rattle.proto_base.proofs.Common.{cases_eq, get_or_append_left, get_or_default, length_push, Text}
 use Rattle.proto_files.proofs.Common.{FileOf, file_at, AreWorkspaceFiles, IsBefore, IsWorkspacePath}
 use Rattle.proto_files.proofs.Members.{Member, All-member}
-use Rattle.proto_entries.specs.Putting.{with_texts}
+use Rattle.proto_edit_entries.specs.Putting.{with_texts}
 use Rattle.proto_desc.specs.NewTexts.{TextAt, texts_at, file_with, with_text, with_all, with_old}
 
 -- a file that is not there

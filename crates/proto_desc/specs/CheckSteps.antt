@@ -4,13 +4,13 @@ use Rattle.std.specs.List.{Contains}
 use Rattle.proto_files.specs.Faults.{fault_at}
 use Rattle.proto_files.specs.GivenFiles.{FileOf}
 use Rattle.proto_files.specs.FilesRead.{ReadOf, AreRead}
-use Rattle.proto_parts.specs.Numbers.{past}
-use Rattle.proto_numbers.specs.Flaws.{IsLeastOfFlaws}
-use Rattle.proto_numbers.specs.declared.flaw.Flaw.{Flaw}
-use Rattle.proto_extensions.specs.Extensions.{workspace_flaws}
+use Rattle.proto_ast.specs.Numbers.{past}
+use Rattle.proto_desc_numbers.specs.Flaws.{IsLeastOfFlaws}
+use Rattle.proto_desc_numbers.specs.declared.flaw.Flaw.{Flaw}
+use Rattle.proto_desc_extensions.specs.Extensions.{workspace_flaws}
 use Rattle.proto_desc.specs.Checked.{fault_of_flaw, flaws_of}
-use Rattle.proto_faults.specs.declared.fault.SchemaFault.{SchemaFault}
-use Rattle.proto_faults.specs.declared.fault.SchemaFault.TheVariants.{Schema, NoMemory}
+use Rattle.proto_base.specs.declared.fault.SchemaFault.{SchemaFault}
+use Rattle.proto_base.specs.declared.fault.SchemaFault.TheVariants.{Schema, NoMemory}
 
 -- the checks find nothing in the file at a place, counted from 0
 abbrev pub HasNoFlaw : List FileOf → ℕ → Type 0

@@ -5,13 +5,13 @@ use Rattle.proto_text.specs.Texts.{offset_at}
 use Rattle.proto_files.specs.Faults.{FaultAt, IsLeastFault, fault_at}
 use Rattle.proto_files.specs.GivenFiles.{FileOf, file_at}
 use Rattle.proto_files.specs.FilesRead.{ReadOf, AreRead, read_at}
-use Rattle.proto_extensions.specs.Extensions.{all_flaws}
-use Rattle.proto_numbers.specs.declared.flaw.Flaw.{Flaw}
-use Rattle.proto_described.specs.Described.{file_described}
+use Rattle.proto_desc_extensions.specs.Extensions.{all_flaws}
+use Rattle.proto_desc_numbers.specs.declared.flaw.Flaw.{Flaw}
+use Rattle.proto_desc_build.specs.Described.{file_described}
 use Rattle.proto_descriptors.specs.Descriptors.{FileDesc}
-use Rattle.proto_scenes.specs.SceneOf.{scene_of}
-use Rattle.proto_faults.specs.declared.fault.SchemaFault.{SchemaFault}
-use Rattle.proto_faults.specs.declared.fault.SchemaFault.TheVariants.{Schema, NoMemory}
+use Rattle.proto_resolved.specs.SceneOf.{scene_of}
+use Rattle.proto_base.specs.declared.fault.SchemaFault.{SchemaFault}
+use Rattle.proto_base.specs.declared.fault.SchemaFault.TheVariants.{Schema, NoMemory}
 
 -- what is wrong with a file of the workspace: with the file alone, and with the numbers of its
 -- extensions, which the workspace decides

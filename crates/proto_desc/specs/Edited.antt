@@ -7,8 +7,8 @@ use Rattle.proto_desc.specs.declared.descriptors.Descriptors.{Descriptors}
 use Rattle.proto_files.specs.Faults.{HasNoFault}
 use Rattle.proto_files.specs.FilesRead.{AreRead, ReadOf}
 use Rattle.proto_files.specs.GivenFiles.{FileOf}
-use Rattle.proto_kept_checks.specs.Checked.{AreKeptOf}
-use Rattle.proto_relink.specs.Edited.{AreSameBut}
+use Rattle.proto_desc_affected.specs.Checked.{AreKeptOf}
+use Rattle.proto_names_update.specs.Edited.{AreSameBut}
 
 -- these are the descriptors of the files, with what is kept of each
 pub record AreDescriptorsOf (files : List FileOf) (d : Descriptors) : Type 0 where

@@ -7,4 +7,4 @@ pub mod Opening
 pub mod Renewing
 pub mod Views
 pub mod Whole
-pub use Rattle.proto_scenes.specs.SceneOf
+pub use Rattle.proto_resolved.specs.SceneOf

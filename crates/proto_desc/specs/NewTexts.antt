@@ -4,7 +4,7 @@ use Rattle.std.specs.Prelude.{ℕ, List, [], ◌∷◌, slice_set}
 use Rattle.proto_desc.specs.declared.texts.GivenText.{GivenText}
 use Rattle.proto_desc.specs.declared.texts.LexedText.{LexedText}
 use Rattle.proto_desc.specs.declared.texts.ReadText.{ReadText}
-use Rattle.proto_faults.specs.Texts.{Text}
+use Rattle.proto_base.specs.Texts.{Text}
 use Rattle.proto_files.specs.GivenFiles.{FileOf, file_at}
 use Rattle.proto_files.specs.ReadFaults.{IsGrammarFault, IsTextFault}
 use Rattle.proto_files.specs.Reading.{HasNone}

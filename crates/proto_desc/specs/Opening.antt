@@ -4,10 +4,10 @@ use Rattle.proto_files.specs.Faults.{HasNoFault, IsLeastFault, fault_at}
 use Rattle.proto_files.specs.GivenFiles.{AreWorkspaceFiles, FileOf, paths_of}
 use Rattle.proto_files.specs.PathFaults.{PathFaults}
 use Rattle.proto_files.specs.ReadFaults.{ReadFaults}
-use Rattle.proto_faults.specs.declared.fault.Fault.{Fault}
-use Rattle.proto_faults.specs.declared.fault.SchemaFault.{SchemaFault}
+use Rattle.proto_base.specs.declared.fault.Fault.{Fault}
+use Rattle.proto_base.specs.declared.fault.SchemaFault.{SchemaFault}
 use Rattle.proto_desc.specs.Whole.{WorkspaceFaults}
-use Rattle.proto_faults.specs.declared.fault.SchemaFault.TheVariants.{Schema, NoMemory}
+use Rattle.proto_base.specs.declared.fault.SchemaFault.TheVariants.{Schema, NoMemory}
 
 -- the error is want of memory, or the least fault of the files given
 abbrev pub IsOpenError : List FileOf → SchemaFault → Type 0

@@ -1,16 +1,16 @@
 -- What is made of files that an edit does not spare, and put in place of what was there.
 use Rattle.std.specs.Prelude.{◌≡◌, ℕ, Bool, true, false, List, [], length, get_or, slice_get, Option, Some, None}
 use Rattle.std.specs.Global.{Box}
-use Rattle.proto_checks.specs.FileFlaws.{file_flaws}
+use Rattle.proto_desc_checks.specs.FileFlaws.{file_flaws}
 use Rattle.proto_desc.specs.declared.descriptors.Descriptors.{Descriptors}
 use Rattle.proto_desc.specs.declared.renewing.Made.{Made}
-use Rattle.proto_described.specs.Described.{file_described}
+use Rattle.proto_desc_build.specs.Described.{file_described}
 use Rattle.proto_descriptors.specs.Views.{file_desc}
 use Rattle.proto_files.specs.FilesRead.{AreRead, Each, ReadOf, read_at}
 use Rattle.proto_files.specs.GivenFiles.{FileOf, file_at}
-use Rattle.proto_kept_checks.specs.Checked.{IsKeptOf}
-use Rattle.proto_scenes.specs.SceneOf.{scene_of}
-use Rattle.proto_spared_files.specs.Kept.{kept_file_of}
+use Rattle.proto_desc_affected.specs.Checked.{IsKeptOf}
+use Rattle.proto_resolved.specs.SceneOf.{scene_of}
+use Rattle.proto_desc_affected.specs.Kept.{kept_file_of}
 
 -- nothing is wrong with the file alone, and this is its descriptor, with what is kept of it
 pub record IsMade (files : List FileOf) (file : ℕ) (m : Made) : Type 0 where

@@ -3,8 +3,8 @@ use Rattle.std.specs.Prelude.{List, map}
 use Rattle.proto_desc.specs.declared.descriptors.Descriptors.{Descriptors}
 use Rattle.proto_descriptors.specs.Descriptors.{FileDesc}
 use Rattle.proto_descriptors.specs.Views.{file_desc}
-use Rattle.proto_kept_checks.specs.Checked.{KeptFileOf}
-use Rattle.proto_spared_files.specs.Kept.{kept_files_of}
+use Rattle.proto_desc_affected.specs.Checked.{KeptFileOf}
+use Rattle.proto_desc_affected.specs.Kept.{kept_files_of}
 
 -- descriptors, file by file
 abbrev pub files_desc : Descriptors → List FileDesc

@@ -6,7 +6,7 @@ use Rattle.proto_files.specs.GivenFiles.{FileOf, paths_of}
 use Rattle.proto_files.specs.PathFaults.{PathFaults}
 use Rattle.proto_files.specs.ReadFaults.{ReadFaults}
 use Rattle.proto_files.specs.WorkspacePaths.{IsBefore}
-use Rattle.proto_imports.specs.Links.{LinkFaults}
+use Rattle.proto_names_imports.specs.Links.{LinkFaults}
 
 -- the files given, in the order of their paths, which are apart
 pub record IsSortedOf (given files : List FileOf) : Type 0 where

@@ -2,7 +2,7 @@
 
 ghost use Rattle.std.specs.Prelude.{◌≡◌, option_map, string_bytes, IfOk};
 ghost use Rattle.proto_tree.specs.File.{item_tree, tree_of_file, trees};
-ghost use Rattle.proto_described.specs.Described.{file_described, messages_described, package_prefix};
+ghost use Rattle.proto_desc_build.specs.Described.{file_described, messages_described, package_prefix};
 ghost use Rattle.proto_descriptors.specs.Views.{file_desc, messages_desc};
 
 use crate::described_items::{
@@ -10,9 +10,9 @@ use crate::described_items::{
 };
 use crate::file_options::{syntax, written_options};
 use crate::head::head;
+use proto_ast::Scene;
+use proto_base::NoMemory;
 use proto_descriptors::{FileDescriptor, MessageDescriptor};
-use proto_faults::NoMemory;
-use proto_parts::Scene;
 use proto_tree::{File, Item};
 use std::alloc::Global;
 

@@ -3,15 +3,15 @@
 
 ghost use Rattle.std.specs.Prelude.{◌≡◌, ◌++◌, map, option_map, option_to_list, string_bytes, IfOk, OnOk};
 ghost use Rattle.proto_tree.specs.File.{item_tree, trees};
-ghost use Rattle.proto_described.specs.Described.{enums_described, extensions_described, messages_described, package_prefix, services_described};
+ghost use Rattle.proto_desc_build.specs.Described.{enums_described, extensions_described, messages_described, package_prefix, services_described};
 ghost use Rattle.proto_descriptors.specs.Views.{enum_desc, field_desc, messages_desc, service_desc};
 
-use proto_described::{
+use proto_ast::Scene;
+use proto_base::NoMemory;
+use proto_desc_build::{
     absolute, message_descriptor, push_enum, push_extensions, service_descriptor,
 };
 use proto_descriptors::{EnumDescriptor, FieldDescriptor, MessageDescriptor, ServiceDescriptor};
-use proto_faults::NoMemory;
-use proto_parts::Scene;
 use proto_tree::Item;
 use std::alloc::Global;
 
@@ -51,7 +51,7 @@ pub(crate) fn message_descriptors(
     Ok(descriptors)
 }
 
-// One push and one loop for each kind of descriptor, here and in proto_described: the items and the
+// One push and one loop for each kind of descriptor, here and in proto_desc_build: the items and the
 // descriptors are types of their own, and a trait over both would be as long as the loops.
 
 fn push_item_enum(
@@ -70,7 +70,7 @@ fn push_item_enum(
 }
 
 /// The enums right in a file.
-// As `enum_descriptors` of proto_described, over items in place of members.
+// As `enum_descriptors` of proto_desc_build, over items in place of members.
 pub(crate) fn enum_descriptors(
     alloc: Global,
     scene: &Scene,
@@ -135,7 +135,7 @@ fn push_item_extensions(
 }
 
 /// The extensions right in a file.
-// As `extension_descriptors` of proto_described, over items in place of members.
+// As `extension_descriptors` of proto_desc_build, over items in place of members.
 pub(crate) fn extension_descriptors(
     alloc: Global,
     scene: &Scene,

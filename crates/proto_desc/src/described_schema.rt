@@ -12,10 +12,10 @@ ghost use Rattle.proto_files.specs.ReadFaults.{ReadFaults};
 
 use crate::checking::describe;
 use crate::schema::files_read;
+use proto_base::SchemaFault;
 use proto_descriptors::FileDescriptor;
-use proto_faults::SchemaFault;
 use proto_files::{Files, are_read};
-use proto_scenes::Link;
+use proto_resolved::Link;
 use std::alloc::Global;
 use std::marker::Model;
 

@@ -5,17 +5,17 @@ ghost use Rattle.proto_desc.specs.Checked.{CheckFaults, IsCheckError};
 ghost use Rattle.proto_desc.specs.Edited.{AreCheckedDescriptors, AreDescriptorsOf, WereDescribed};
 ghost use Rattle.proto_desc.specs.Views.{files_desc, files_kept};
 ghost use Rattle.proto_files.specs.Faults.{HasNoFault};
-ghost use Rattle.proto_imports.specs.Links.{LinkFaults};
+ghost use Rattle.proto_names_imports.specs.Links.{LinkFaults};
 ghost use Rattle.proto_names.specs.Following.{WasMadeOf};
-ghost use Rattle.proto_scenes.specs.LinkOfFiles.{IsLinkOf};
+ghost use Rattle.proto_resolved.specs.LinkOfFiles.{IsLinkOf};
 
 use crate::checking::check;
 use crate::descriptors::Descriptors;
+use proto_base::{NoMemory, SchemaFault};
+use proto_desc_affected::copy_kept_files;
 use proto_descriptors::copy_files;
-use proto_faults::{NoMemory, SchemaFault};
 use proto_files::Files;
-use proto_scenes::{Link, MadeOfLink};
-use proto_spared_files::copy_kept_files;
+use proto_resolved::{Link, MadeOfLink};
 use std::alloc::Global;
 
 impl Descriptors {

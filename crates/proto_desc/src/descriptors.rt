@@ -1,7 +1,7 @@
 //! The descriptors of a workspace.
 
+use proto_desc_affected::KeptFile;
 use proto_descriptors::FileDescriptor;
-use proto_spared_files::KeptFile;
 
 /// The descriptors of a workspace: one per file, in the order of the paths.
 #[derive(Drop)]

@@ -2,17 +2,17 @@
 
 ghost use Rattle.std.specs.Prelude.{◌≡◌, if◌then◌else◌, map, option_map, string_bytes, IfOk};
 ghost use Rattle.proto_tree.specs.File.{tree_of_file};
-ghost use Rattle.proto_parts.specs.Options.{text_option};
-ghost use Rattle.proto_parts.specs.Parts.{options_in};
-ghost use Rattle.proto_parts.specs.Scenes.{text, value};
-ghost use Rattle.proto_parts.specs.Views.{option_of};
+ghost use Rattle.proto_ast.specs.Options.{text_option};
+ghost use Rattle.proto_ast.specs.Parts.{options_in};
+ghost use Rattle.proto_ast.specs.Scenes.{text, value};
+ghost use Rattle.proto_ast.specs.Views.{option_of};
 ghost use Rattle.proto_descriptors.specs.declared.file.Syntax.TheVariants as syntax;
-ghost use Rattle.proto_described.specs.Described.{file_options, mode_named};
+ghost use Rattle.proto_desc_build.specs.Described.{file_options, mode_named};
 ghost use Rattle.proto_descriptors.specs.Views.{file_options_desc};
 
+use proto_ast::{OptionAt, Scene, file_options, text_option, truth_option, word_option};
+use proto_base::NoMemory;
 use proto_descriptors::{FileOptions, OptimizeMode, Syntax};
-use proto_faults::NoMemory;
-use proto_parts::{OptionAt, Scene, file_options, text_option, truth_option, word_option};
 use proto_tree::File;
 use std::alloc::Global;
 

@@ -2,16 +2,16 @@
 
 ghost use Rattle.std.specs.Prelude.{◌≡◌, ◌∷◌, map, option_map, string_bytes, IfOk};
 ghost use Rattle.proto_tree.specs.File.{tree_of_file};
-ghost use Rattle.proto_listing.specs.FromTree.{imports_in, items_in};
-ghost use Rattle.proto_listing.specs.Listing.{wanted_of};
-ghost use Rattle.proto_meaning.specs.Joined.{joined};
-ghost use Rattle.proto_meaning.specs.Tree.{package_of};
-ghost use Rattle.proto_parts.specs.Scenes.{text, value};
-ghost use Rattle.proto_described.specs.Described.{package_named, public_places};
+ghost use Rattle.proto_names_outline.specs.FromTree.{imports_in, items_in};
+ghost use Rattle.proto_names_outline.specs.Listing.{wanted_of};
+ghost use Rattle.proto_names_rules.specs.Joined.{joined};
+ghost use Rattle.proto_names_rules.specs.Tree.{package_of};
+ghost use Rattle.proto_ast.specs.Scenes.{text, value};
+ghost use Rattle.proto_desc_build.specs.Described.{package_named, public_places};
 
-use proto_faults::NoMemory;
-use proto_listing::wanted::{Wanted, imports, package};
-use proto_parts::Scene;
+use proto_ast::Scene;
+use proto_base::NoMemory;
+use proto_names_outline::wanted::{Wanted, imports, package};
 use proto_tree::File;
 use std::alloc::Global;
 

@@ -2,13 +2,13 @@
 
 ghost use Rattle.std.specs.Prelude.{◌≡◌, IfOk, map, string_bytes};
 ghost use Rattle.proto_descriptors.specs.Views.{file_desc};
-ghost use Rattle.proto_json.specs.DescriptorText.{json_text};
+ghost use Rattle.proto_descriptors_json.specs.DescriptorText.{json_text};
 ghost use Rattle.proto_desc.specs.Views.{files_desc};
 
 use crate::descriptors::Descriptors;
+use proto_base::NoMemory;
 use proto_descriptors::FileDescriptor;
-use proto_faults::NoMemory;
-use proto_json::text_of_files;
+use proto_descriptors_json::text_of_files;
 use std::alloc::Global;
 
 /// The JSON text of descriptors of files, as `to_json` makes it. Fails for want of memory alone.

@@ -2,7 +2,7 @@
 
 ghost use Rattle.proto_desc.specs.Opening.{NoOpenFault, OneOpenFault};
 
-pub use proto_described::laws::caps_keep_the_descriptor;
+pub use proto_desc_build::laws::caps_keep_the_descriptor;
 
 /// `Schema::open` and `CheckedSchema::open` answer the same fault of the same files: there is one,
 /// and none of files that compile.

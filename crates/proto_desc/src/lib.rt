@@ -25,12 +25,12 @@ pub use described::file_descriptor;
 pub use described_schema::DescribedSchema;
 pub use descriptors::Descriptors;
 pub use json_form::{files_to_json, to_json};
+pub use proto_base::{NoMemory, SchemaFault as CheckFault, SchemaFault as OpenFault};
 pub use proto_descriptors::{
     EnumDescriptor, EnumOptions, EnumReservedRange, EnumValueDescriptor, EnumValueOptions,
     FieldDescriptor, FieldOptions, FieldRole, FieldType, FileDescriptor, FileOptions,
     IdempotencyLevel, Label, MessageDescriptor, MessageOptions, MethodDescriptor, MethodOptions,
     NumberRange, OneofDescriptor, OptimizeMode, ServiceDescriptor, ServiceOptions, Syntax,
 };
-pub use proto_faults::{NoMemory, SchemaFault as CheckFault, SchemaFault as OpenFault};
 pub use proto_tree::Steps;
 pub use schema::{CheckedSchema, Schema};

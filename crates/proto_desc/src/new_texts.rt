@@ -3,13 +3,13 @@
 ghost use Rattle.std.specs.Prelude.{◌≡◌, ◌+◌, ◌<◌, ◌≤◌, ◌^◌, length, map, All, AllPairs, IfOk, IfErr, OnOk, OnErr};
 ghost use Rattle.proto_desc.specs.NewTexts.{texts_at, given_text, lexed_text, read_text, file_with, IsLexedText, IsParsedText, IsReadText};
 ghost use Rattle.proto_desc.specs.Opening.{IsOpenError};
-ghost use Rattle.proto_entries.specs.Putting.{with_texts};
+ghost use Rattle.proto_edit_entries.specs.Putting.{with_texts};
 ghost use Rattle.proto_files.specs.ReadFaults.{IsTextFault, IsGrammarFault};
 ghost use Rattle.proto_files.specs.Reading.{IsFileError, IsFirstError};
 
 use crate::text_faults::{grammar_error, text_error};
 use crate::texts::{GivenText, LexedText, ReadText};
-use proto_faults::{NoMemory, SchemaFault};
+use proto_base::{NoMemory, SchemaFault};
 use proto_files::Files;
 use proto_text::{Source, lex};
 use proto_tree::{Steps, parse_counted};

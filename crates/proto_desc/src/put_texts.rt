@@ -5,7 +5,7 @@ ghost use Rattle.proto_desc.specs.NewTexts.{read_text, with_text, with_all, with
 ghost use Rattle.proto_files.specs.GivenFiles.{file_at};
 
 use crate::texts::ReadText;
-use proto_faults::NoMemory;
+use proto_base::NoMemory;
 use proto_files::Files;
 use std::alloc::Global;
 

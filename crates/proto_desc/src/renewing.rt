@@ -6,28 +6,29 @@ ghost use Rattle.proto_desc.specs.Edited.{AreCheckedDescriptors, AreDescriptorsO
 ghost use Rattle.proto_desc.specs.Renewing.{AreMade, ArePut, IsMade, IsPutAlone};
 ghost use Rattle.proto_desc.specs.Views.{files_kept};
 ghost use Rattle.proto_files.specs.Faults.{HasNoFault};
-ghost use Rattle.proto_imports.specs.Links.{LinkFaults};
+ghost use Rattle.proto_names_imports.specs.Links.{LinkFaults};
 ghost use Rattle.proto_names.specs.Following.{WasMadeOf};
-ghost use Rattle.proto_scenes.specs.LinkOfFiles.{IsLinkOf};
-ghost use Rattle.proto_scenes.specs.Meanings.{HasEnumsMeant};
-ghost use Rattle.proto_spared_files.specs.Marks.{AreOthersKept};
+ghost use Rattle.proto_resolved.specs.LinkOfFiles.{IsLinkOf};
+ghost use Rattle.proto_resolved.specs.Meanings.{HasEnumsMeant};
+ghost use Rattle.proto_desc_affected.specs.Marks.{AreOthersKept};
 
 use crate::described::file_descriptor;
 use crate::descriptors::Descriptors;
 use indexmap::IndexMap;
-use proto_checks::file_flaws;
-use proto_descriptors::FileDescriptor;
-use proto_faults::NoMemory;
-use proto_files::{Files, are_read};
-use proto_kept_checks::laws::{clean_edits_are_sound, kept_files_tell_spared, spared_files_stay};
-use proto_scenes::Link;
-use proto_scenes::enum_table::{EnumRow, enum_table_of};
-use proto_scenes::scenes::scene;
-use proto_spared_files::KeptFile;
-use proto_spared_files::laws::wanted_enums_are_there;
-use proto_spared_files::marks::{
+use proto_base::NoMemory;
+use proto_desc_affected::KeptFile;
+use proto_desc_affected::laws::{
+    clean_edits_are_sound, kept_files_tell_spared, spared_files_stay, wanted_enums_are_there,
+};
+use proto_desc_affected::marks::{
     files_of_enums, files_to_check, has_no_marked_extends, told_files_to_check,
 };
+use proto_desc_checks::file_flaws;
+use proto_descriptors::FileDescriptor;
+use proto_files::{Files, are_read};
+use proto_resolved::Link;
+use proto_resolved::enum_table::{EnumRow, enum_table_of};
+use proto_resolved::scenes::scene;
 use std::alloc::Global;
 use std::hash::{BuildHasherDefault, FoldHasher};
 

@@ -3,13 +3,13 @@
 ghost use Rattle.std.specs.Prelude.{◌≡◌, ◌+◌, ◌<◌, ◌≤◌, ◌^◌, length, map, All, AllPairs, IfOk, IfErr, OnOk, OnErr};
 ghost use Rattle.proto_desc.specs.Opening.{IsOpenError};
 ghost use Rattle.proto_desc.specs.Whole.{WorkspaceFaults};
-ghost use Rattle.proto_entries.specs.Putting.{with_texts};
+ghost use Rattle.proto_edit_entries.specs.Putting.{with_texts};
 ghost use Rattle.proto_files.specs.Faults.{HasNoFault};
 
 use crate::new_texts::read_texts;
 use crate::put_texts::{put_back, put_texts};
 use crate::schema::Schema;
-use proto_faults::{NoMemory, SchemaFault};
+use proto_base::{NoMemory, SchemaFault};
 use proto_files::are_read;
 use proto_tree::Steps;
 use std::alloc::Global;

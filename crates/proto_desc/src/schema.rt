@@ -7,16 +7,16 @@ ghost use Rattle.proto_desc.specs.Views.{files_desc};
 ghost use Rattle.proto_files.specs.Faults.{HasNoFault, IsFilesError};
 ghost use Rattle.proto_files.specs.GivenFiles.{files_of};
 ghost use Rattle.proto_files.specs.ReadFaults.{ReadFaults};
-ghost use Rattle.proto_scenes.specs.LinkOfFiles.{IsLinkOf};
+ghost use Rattle.proto_resolved.specs.LinkOfFiles.{IsLinkOf};
 ghost use Rattle.proto_files.specs.FilesRead.{ReadOf, AreRead};
 ghost use Rattle.proto_desc.specs.Opening.{AreReadOf, IsOpenError};
 ghost use Rattle.proto_desc.specs.Whole.{FileFaults, WorkspaceFaults, IsSortedOf};
 
 use crate::checking::{check, pass_checks};
 use crate::descriptors::Descriptors;
-use proto_faults::SchemaFault;
+use proto_base::SchemaFault;
 use proto_files::{Files, Paths, are_read};
-use proto_scenes::Link;
+use proto_resolved::Link;
 use std::alloc::Global;
 use std::marker::Model;
 
@@ -35,7 +35,7 @@ impl Model for CheckedSchema {
     ghost Value = { List FileOf };
 
     ghost use Rattle.proto_files.specs.Faults.{HasNoFault};
-    ghost use Rattle.proto_scenes.specs.LinkOfFiles.{IsLinkOf};
+    ghost use Rattle.proto_resolved.specs.LinkOfFiles.{IsLinkOf};
     ghost use Rattle.proto_desc.specs.Whole.{FileFaults};
 
     ghost view = { λ s. s.files };
@@ -60,7 +60,7 @@ impl Model for Schema {
 
     ghost use Rattle.proto_desc.specs.Edited.{AreDescriptorsOf};
     ghost use Rattle.proto_files.specs.Faults.{HasNoFault};
-    ghost use Rattle.proto_scenes.specs.LinkOfFiles.{IsLinkOf};
+    ghost use Rattle.proto_resolved.specs.LinkOfFiles.{IsLinkOf};
     ghost use Rattle.proto_desc.specs.Whole.{FileFaults};
 
     ghost view = { λ s. s.files };

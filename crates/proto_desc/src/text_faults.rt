@@ -3,7 +3,7 @@
 ghost use Rattle.std.specs.Prelude.{◌≡◌};
 ghost use Rattle.proto_files.specs.Reading.{lex_kind, text_error, grammar_error};
 
-use proto_faults::{Fault, FaultKind, SchemaFault};
+use proto_base::{Fault, FaultKind, SchemaFault};
 use proto_text::{LexFault, TextFault};
 use proto_tree::ParseFault;
 

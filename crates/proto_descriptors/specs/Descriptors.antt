@@ -1,7 +1,7 @@
 -- What descriptors say, apart from where they lie in memory: the messages of descriptor.proto, with
 -- texts as bytes.
 use Rattle.std.specs.Prelude.{ℕ, ℤ, List, Option, Bool}
-use Rattle.proto_faults.specs.Texts.{Text, Path}
+use Rattle.proto_base.specs.Texts.{Text, Path}
 use Rattle.proto_descriptors.specs.declared.enumeration.EnumOptions.{EnumOptions}
 use Rattle.proto_descriptors.specs.declared.enumeration.EnumReservedRange.{EnumReservedRange}
 use Rattle.proto_descriptors.specs.declared.enumeration.EnumValueOptions.{EnumValueOptions}

@@ -1,6 +1,6 @@
 -- The names that descriptor.proto gives to labels, types, modes and levels.
 use Rattle.std.specs.Prelude.{codes}
-use Rattle.proto_faults.specs.Texts.{Text}
+use Rattle.proto_base.specs.Texts.{Text}
 use Rattle.proto_descriptors.specs.declared.field.FieldType.{FieldType}
 use Rattle.proto_descriptors.specs.declared.field.FieldType.TheVariants as field_type
 use Rattle.proto_descriptors.specs.declared.field.Label.{Label}

@@ -1,6 +1,6 @@
 -- What the declared types of descriptors say, as the plain records of `Descriptors`.
 use Rattle.std.specs.Prelude.{List, [], ◌∷◌, Option, Some, None, map, option_map, string_bytes}
-use Rattle.proto_faults.specs.Texts.{Text}
+use Rattle.proto_base.specs.Texts.{Text}
 use Rattle.proto_descriptors.specs.declared.enumeration.EnumDescriptor.{EnumDescriptor}
 use Rattle.proto_descriptors.specs.declared.enumeration.EnumValueDescriptor.{EnumValueDescriptor}
 use Rattle.proto_descriptors.specs.declared.field.FieldDescriptor.{FieldDescriptor}

@@ -2,7 +2,7 @@
 
 ghost use Rattle.std.specs.Prelude.{◌≡◌, ℕ, List, IfOk, map, option_map, string_bytes};
 
-use proto_faults::NoMemory;
+use proto_base::NoMemory;
 use std::alloc::Global;
 
 /// What has copies that say the same, with texts and lists of their own.

@@ -4,7 +4,7 @@ ghost use Rattle.proto_descriptors.specs.Descriptors.{EnumDesc, EnumValueDesc};
 ghost use Rattle.proto_descriptors.specs.Views.{enum_desc, enum_value_desc};
 
 use crate::copying::{HasCopy, copies};
-use proto_faults::NoMemory;
+use proto_base::NoMemory;
 use std::alloc::Global;
 
 /// An enum. All lists are in source order.

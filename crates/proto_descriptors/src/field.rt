@@ -6,7 +6,7 @@ ghost use Rattle.proto_descriptors.specs.Names.{label_name, type_word};
 ghost use Rattle.proto_descriptors.specs.Views.{field_desc, role_extendee, role_json_name};
 
 use crate::copying::{HasCopy, copied_text};
-use proto_faults::NoMemory;
+use proto_base::NoMemory;
 use std::alloc::Global;
 
 /// A field, or an extension: a field that an `extend` block gives another message.

@@ -10,7 +10,7 @@ use crate::enumeration::EnumDescriptor;
 use crate::field::FieldDescriptor;
 use crate::message::{MessageDescriptor, copied_messages};
 use crate::service::ServiceDescriptor;
-use proto_faults::NoMemory;
+use proto_base::NoMemory;
 use std::alloc::Global;
 
 /// The same files in the same order, with texts and lists of their own. Refused for want of memory

@@ -3,12 +3,12 @@
 ghost use Rattle.std.specs.Prelude.{◌≡◌, IfOk, map, string_bytes};
 ghost use Rattle.proto_descriptors.specs.Views.{descriptor_tree, enum_desc, field_desc, message_desc, messages_desc, oneof_desc};
 ghost use Rattle.proto_descriptors.specs.declared.message.MessageDescriptor.{out-MessageDescriptor};
-ghost use Rattle.proto_faults.specs.Texts.{Text};
+ghost use Rattle.proto_base.specs.Texts.{Text};
 
 use crate::copying::{HasCopy, copies};
 use crate::enumeration::EnumDescriptor;
 use crate::field::FieldDescriptor;
-use proto_faults::NoMemory;
+use proto_base::NoMemory;
 use std::alloc::Global;
 
 /// A message, its lists in source order; a map field's entry is in `nested_type` at its place.

@@ -6,7 +6,7 @@ ghost use Rattle.proto_descriptors.specs.Names.{idempotency_level_name};
 ghost use Rattle.proto_descriptors.specs.Views.{method_desc, service_desc};
 
 use crate::copying::{HasCopy, copies};
-use proto_faults::NoMemory;
+use proto_base::NoMemory;
 use std::alloc::Global;
 
 /// A service.

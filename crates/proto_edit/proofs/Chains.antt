@@ -3,11 +3,11 @@ use Rattle.std.proofs.Common.{◌≡◌, ◌≢◌, ℕ, ◌+◌, ◌<◌, List,
 use Rattle.std.proofs.lemmas.List.{map_more, map_push, drop_more}
 use Rattle.proto_files.specs.GivenFiles.{FileOf}
 use Rattle.proto_edit.specs.Common.{AreCompiled, asked, IsPutRefusal, IsUndoRefusal, IsUndoAllRefusal, LeadsBack, Asked, IsAdmissible, AreChanges, IsMappedStep, IsRefusal, IsUndo, Run, Undone, StatementLaws}
-use Rattle.proto_entries.specs.declared.edit.Edit.{Edit}
-use Rattle.proto_entries.specs.declared.refusal.Refusal.{Refusal}
-use Rattle.proto_entries.specs.declared.refusal.Refusal.TheVariants as refusal
-use Rattle.proto_entries.specs.Entries.{ChangeOf}
-use Rattle.proto_entries.specs.Putting.{IsPut}
+use Rattle.proto_edit_entries.specs.declared.edit.Edit.{Edit}
+use Rattle.proto_edit_entries.specs.declared.refusal.Refusal.{Refusal}
+use Rattle.proto_edit_entries.specs.declared.refusal.Refusal.TheVariants as refusal
+use Rattle.proto_edit_entries.specs.Entries.{ChangeOf}
+use Rattle.proto_edit_entries.specs.Putting.{IsPut}
 use Rattle.proto_edit.proofs.EditSteps.{cannot_fail, steps_compile, run_more, undone_append, undone_once, leads_back, leads_somewhere}
 
 abbrev pub Answer : Type 0

@@ -2,14 +2,14 @@
 use Rattle.std.proofs.Common.{◌≡◌, List, [], ◌∷◌, ◌++◌, refl, sym, subst, ◌∙◌, reverse, Result, Ok, Err}
 use Rattle.std.proofs.lemmas.List.{reverse-append}
 use Rattle.proto_files.specs.GivenFiles.{FileOf}
-use Rattle.proto_entries.specs.declared.refusal.Refusal.{Refusal}
-use Rattle.proto_entries.proofs.Common.{ChangeOf, IsEntry, inverted, IsPut, entries_lead_back, puts_are_once}
-use Rattle.proto_rename_laws.proofs.Common.{changes_of_words, renamed_words}
+use Rattle.proto_edit_entries.specs.declared.refusal.Refusal.{Refusal}
+use Rattle.proto_edit_entries.proofs.Common.{ChangeOf, IsEntry, inverted, IsPut, entries_lead_back, puts_are_once}
+use Rattle.proto_edit_rename_laws.proofs.Common.{changes_of_words, renamed_words}
 use Rattle.proto_edit.specs.Common.{AreCompiled, EditsAreMade, RunsAreUndone, StepsCompile, UndoneOnce, Asked, rename, delete_field, add_import, drop_import, IsAdmissible, AreChanges, IsStep, IsMappedStep, Run, accepted, IsUndo, Undone, StatementLaws}
 use Rattle.proto_edit.proofs.GivenAgain.{compiled_are_read}
 use Rattle.proto_edit.proofs.MappedSteps.{target_of, words_are_put}
 use Rattle.proto_edit.proofs.StatementSteps.{addition_steps, deletion_steps, drop_steps, field_of, file_of, import_of}
-use Rattle.proto_statement_changes.proofs.Common.{changes_of_deletion, changes_of_addition, changes_of_drop}
+use Rattle.proto_edit_statement_laws.proofs.ChangesCommon.{changes_of_deletion, changes_of_addition, changes_of_drop}
 
 -- ---- one edit
 

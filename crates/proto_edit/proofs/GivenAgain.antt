@@ -1,14 +1,14 @@
 -- Files that compile are read, and compile when they are given again (for the crates above).
 use Rattle.std.proofs.Common.{◌≡◌, ℕ, suc, List, [], ◌∷◌, length, refl, subst, inl, inr, arith, AllPairs}
-use Rattle.proto_faults.proofs.Common.{IsPermutation-sym, All-permutation, cases_lt, length_permutation, from_map, text_limit}
+use Rattle.proto_base.proofs.Common.{IsPermutation-sym, All-permutation, cases_lt, length_permutation, from_map, text_limit}
 use Rattle.proto_text.proofs.OneEdit.{length_map}
-use Rattle.proto_faults.specs.declared.fault.FaultKind.{FaultKind}
-use Rattle.proto_faults.specs.declared.fault.FaultKind.TheVariants.{BadPath, DoublePath, TooLarge, TooManyFiles}
+use Rattle.proto_base.specs.declared.fault.FaultKind.{FaultKind}
+use Rattle.proto_base.specs.declared.fault.FaultKind.TheVariants.{BadPath, DoublePath, TooLarge, TooManyFiles}
 use Rattle.proto_files.proofs.Common.{FaultAt, IsLeastFault, FileOf, paths_of, AreWorkspaceFiles, IsPathFault, IsWorkspacePath, IsBefore, one_order, PathsRise, count_once}
 use Rattle.proto_files.proofs.Members.{Contains-from_member}
-use Rattle.proto_entries.specs.Putting.{AreShortFiles}
+use Rattle.proto_edit_entries.specs.Putting.{AreShortFiles}
 use Rattle.proto_desc.specs.Whole.{IsSortedOf, FileFaults, WorkspaceFaults, of_path, of_files, of_read}
-use Rattle.proto_rename_described.proofs.CleanFiles.{clean_files_are_read}
+use Rattle.proto_edit_rename_described.proofs.CleanFiles.{clean_files_are_read}
 use Rattle.proto_edit.specs.Common.{AreCompiled, fault_of_kind, CompiledAreRead, WorkspacesAreClean}
 
 pub compiled_are_read : CompiledAreRead

@@ -3,16 +3,16 @@ use Rattle.std.proofs.Common.{◌≢◌, ℕ, ◌<◌, List, [], length, slice_i
 use Rattle.std.proofs.lemmas.List.Elements.{Contains-get_or}
 use Rattle.proto_files.proofs.Common.{FaultAt, ReadOf, AreRead, read_at, FileOf, file_at, IsText, IsBefore, never_before_itself}
 use Rattle.proto_desc.specs.Whole.{FileFaults, of_read, of_link, of_check}
-use Rattle.proto_entries.proofs.Common.{IsEntry, IsPut, puts_keep_paths}
-use Rattle.proto_rename_laws.proofs.Common.{RenameCase, changes_of_words, AreReworded, Target, IsNamed, renamed_words, tokens_are_inside, read_files_are_clean, files_are_reworded, targets_are_there}
-use Rattle.proto_rename_laws.specs.ChangesEntry.{IsPutIn}
-use Rattle.proto_rename_laws.proofs.ChangesEntry.{changes_are_entry, texts_after}
-use Rattle.proto_rename_laws.proofs.ChangesPut.{changes_are_put}
-use Rattle.proto_rename_described.proofs.CleanFiles.{file_is_text}
-use Rattle.proto_rename_described.specs.Allowed.{IsAllowedRename}
-use Rattle.proto_rename_described.proofs.Allowed.{words_suit}
-use Rattle.proto_rename_described.proofs.DefaultsFit.{renames_leave_no_fault}
-use Rattle.proto_rename_described.proofs.FilesTurn.{renames_are_mapped}
+use Rattle.proto_edit_entries.proofs.Common.{IsEntry, IsPut, puts_keep_paths}
+use Rattle.proto_edit_rename_laws.proofs.Common.{RenameCase, changes_of_words, AreReworded, Target, IsNamed, renamed_words, tokens_are_inside, read_files_are_clean, files_are_reworded, targets_are_there}
+use Rattle.proto_edit_rename_laws.specs.ChangesEntry.{IsPutIn}
+use Rattle.proto_edit_rename_laws.proofs.ChangesEntry.{changes_are_entry, texts_after}
+use Rattle.proto_edit_rename_laws.proofs.ChangesPut.{changes_are_put}
+use Rattle.proto_edit_rename_described.proofs.CleanFiles.{file_is_text}
+use Rattle.proto_edit_rename_described.specs.Allowed.{IsAllowedRename}
+use Rattle.proto_edit_rename_described.proofs.Allowed.{words_suit}
+use Rattle.proto_edit_rename_described.proofs.DefaultsFit.{renames_leave_no_fault}
+use Rattle.proto_edit_rename_described.proofs.FilesTurn.{renames_are_mapped}
 use Rattle.proto_edit.specs.Common.{AreCompiled, IsAdmissible, IsMappedStep, rename}
 use Rattle.proto_edit.specs.MappedSteps.{AdmissibleRenamesStep, RenamesAreSteps}
 use Rattle.proto_edit.proofs.GivenAgain.{compiled_are_read}

@@ -6,26 +6,26 @@ use Rattle.std.specs.Str.{bytes_eq}
 use Rattle.std.proofs.lemmas.Bool.{false≢true}
 use Rattle.std.proofs.lemmas.List.Elements.{All-nil, All-head, All-tail, All-push, Contains-append_cases}
 use Rattle.std.proofs.lemmas.List.Quantifiers.{position-Some}
-use Rattle.proto_faults.specs.declared.fault.FaultKind.{FaultKind}
-use Rattle.proto_faults.specs.declared.fault.FaultKind.TheVariants as kind
-use Rattle.proto_faults.proofs.Common.{kind_number, contains_cases, from_map, word_from_same}
+use Rattle.proto_base.specs.declared.fault.FaultKind.{FaultKind}
+use Rattle.proto_base.specs.declared.fault.FaultKind.TheVariants as kind
+use Rattle.proto_base.proofs.Common.{kind_number, contains_cases, from_map, word_from_same}
 use Rattle.proto_text.specs.declared.class.Class.TheVariants.{Letter}
 use Rattle.proto_text.proofs.Common.{IsRun, offset_at, is_run, is_run_again}
 use Rattle.proto_case.specs.Camel.{entry_name}
 use Rattle.proto_files.proofs.Common.{HasNoFault, AreRead, ReadOf, read_at, AreWorkspaceFiles, FileOf, file_at, paths_of, IsWorkspacePath}
 use Rattle.proto_files.specs.WorkspacePaths.{is_workspace_path}
 use Rattle.proto_files.proofs.WorkspacePathTest.{is_path_from_test, test_from_is_path}
-use Rattle.proto_meaning.specs.declared.kind.Kind.{Kind}
-use Rattle.proto_meaning.specs.declared.kind.Kind.TheVariants.{Field, Value, Method, Extension}
-use Rattle.proto_meaning.proofs.Common.{Fault, ImportFault, fault, file_with_path, unknown, At, at, all_declared, declared_of, file_declared, joined, Declared, EntryOf, Given, Source, Token, name_of, shifted_declared, spell, Items, Member, Members, Placed, all_placed, enum, extend, field, file_placed, item, items_placed, map_field, member, message, no_items, no_members, oneof, package_of, packaged, place, placed, prefixes, service, map_append, file_stands}
-use Rattle.proto_listing.proofs.Common.{items_in, last_token, whole, token_last}
-use Rattle.proto_listing.proofs.ReadWords.{placed_worded}
-use Rattle.proto_imports.proofs.Common.{LinkFaults, names_in, of_import, text_of, name_in}
-use Rattle.proto_rename_laws.proofs.Common.{not_an_identifier, IsNamed, Target, may_rename}
-use Rattle.proto_statement_names.specs.Cases.{IsImported, IsPlaceOf, asked_in, not_imported, unknown_path}
-use Rattle.proto_statement_edits.specs.Edits.{by_name}
+use Rattle.proto_names_rules.specs.declared.kind.Kind.{Kind}
+use Rattle.proto_names_rules.specs.declared.kind.Kind.TheVariants.{Field, Value, Method, Extension}
+use Rattle.proto_names_rules.proofs.Common.{Fault, ImportFault, fault, file_with_path, unknown, At, at, all_declared, declared_of, file_declared, joined, Declared, EntryOf, Given, Source, Token, name_of, shifted_declared, spell, Items, Member, Members, Placed, all_placed, enum, extend, field, file_placed, item, items_placed, map_field, member, message, no_items, no_members, oneof, package_of, packaged, place, placed, prefixes, service, map_append, file_stands}
+use Rattle.proto_names_outline.proofs.Common.{items_in, last_token, whole, token_last}
+use Rattle.proto_names_outline.proofs.ReadWords.{placed_worded}
+use Rattle.proto_names_imports.proofs.Common.{LinkFaults, names_in, of_import, text_of, name_in}
+use Rattle.proto_edit_rename_laws.proofs.Common.{not_an_identifier, IsNamed, Target, may_rename}
+use Rattle.proto_edit_statement_laws.specs.Cases.{IsImported, IsPlaceOf, asked_in, not_imported, unknown_path}
+use Rattle.proto_edit_statements.specs.Edits.{by_name}
 use Rattle.proto_desc.specs.Whole.{of_link}
-use Rattle.proto_entries.proofs.Common.{ChangeOf, IsDotted, IsNotable}
+use Rattle.proto_edit_entries.proofs.Common.{ChangeOf, IsDotted, IsNotable}
 use Rattle.proto_edit.specs.Common.{AreCompiled, Asked, ChangesOf, IsAdmissible, add_import, delete_field, drop_import, rename, AcceptedAreNotable}
 
 -- ---- paths

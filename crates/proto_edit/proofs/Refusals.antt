@@ -1,13 +1,13 @@
 -- What refuses an edit, as each kind of edit is answered.
 use Rattle.std.proofs.Common.{ℕ, List}
 use Rattle.proto_files.proofs.Common.{HasNoFault, FileOf}
-use Rattle.proto_imports.specs.Links.{LinkFaults}
-use Rattle.proto_entries.specs.Entries.{ChangeOf}
-use Rattle.proto_entries.specs.declared.refusal.Refusal.{Refusal}
-use Rattle.proto_entries.specs.declared.refusal.Refusal.TheVariants as refusal
+use Rattle.proto_names_imports.specs.Links.{LinkFaults}
+use Rattle.proto_edit_entries.specs.Entries.{ChangeOf}
+use Rattle.proto_edit_entries.specs.declared.refusal.Refusal.{Refusal}
+use Rattle.proto_edit_entries.specs.declared.refusal.Refusal.TheVariants as refusal
 use Rattle.proto_desc.specs.Whole.{of_link}
-use Rattle.proto_rename.specs.Renames.{IsLeastRenameCase, IsRenamed, IsRenameRefusal}
-use Rattle.proto_statement_edits.specs.Edits.{HasAdditionChanges, IsAdditionCase, IsAdditionRefusal, HasDeletionChanges, IsDeletionCase, IsDeletionRefusal, IsDropCase, IsDropRefusal, HasDropChanges, IsLeastOf}
+use Rattle.proto_edit_rename.specs.Renames.{IsLeastRenameCase, IsRenamed, IsRenameRefusal}
+use Rattle.proto_edit_statements.specs.Edits.{HasAdditionChanges, IsAdditionCase, IsAdditionRefusal, HasDeletionChanges, IsDeletionCase, IsDeletionRefusal, IsDropCase, IsDropRefusal, HasDropChanges, IsLeastOf}
 use Rattle.proto_edit.specs.Common.{AreCompiled, rename, delete_field, add_import, drop_import, AreChanges, IsAdmissible, IsLeastCase, IsRefusal}
 
 -- ---- a rename, as it is answered

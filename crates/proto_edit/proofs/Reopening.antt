@@ -1,13 +1,13 @@
 -- A workspace with changes: what is put compiles, or no files are put that do.
 use Rattle.std.proofs.Common.{◌≡◌, ◌≤◌, IfErr, IfOk, List, OnErr, OnOk, Ok, Err, Result, length, map, ℕ, sym, ap, subst, ◌∙◌, arith}
-use Rattle.proto_faults.proofs.Common.{IsPermutation-refl, Text, length-map}
+use Rattle.proto_base.proofs.Common.{IsPermutation-refl, Text, length-map}
 use Rattle.proto_files.proofs.Common.{FaultAt, HasNoFault, IsLeastFault, FileOf}
 use Rattle.proto_desc.specs.Whole.{WorkspaceFaults, of_files}
 use Rattle.proto_edit.specs.Common.{AreCompiled, IsPutRefusal, IsUndo, IsUndoRefusal}
-use Rattle.proto_entries.specs.declared.entry.Change.{Change}
-use Rattle.proto_entries.proofs.Common.{ChangeOf, change_of, AreChangedTexts, AreRising, ArePut, IsPut, inverted, turned_round, few_changes, puts_are_once, put_by_paths, put_in_order, still_files, with_texts}
-use Rattle.proto_entries.specs.declared.refusal.Refusal.{Refusal}
-use Rattle.proto_entries.specs.declared.refusal.Refusal.TheVariants as refusal
+use Rattle.proto_edit_entries.specs.declared.entry.Change.{Change}
+use Rattle.proto_edit_entries.proofs.Common.{ChangeOf, change_of, AreChangedTexts, AreRising, ArePut, IsPut, inverted, turned_round, few_changes, puts_are_once, put_by_paths, put_in_order, still_files, with_texts}
+use Rattle.proto_edit_entries.specs.declared.refusal.Refusal.{Refusal}
+use Rattle.proto_edit_entries.specs.declared.refusal.Refusal.TheVariants as refusal
 use Rattle.proto_edit.proofs.GivenAgain.{are_short, opens_again}
 
 module _ (w : List FileOf) (cs : List ChangeOf) (has : AreCompiled w) (rising : AreRising cs) where

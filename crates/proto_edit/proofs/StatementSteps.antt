@@ -2,19 +2,19 @@
 use Rattle.std.proofs.Common.{◌≡◌, ℕ, ◌∙◌, List, [], refl, sym, Some}
 use Rattle.std.proofs.lemmas.List.Elements.{Contains-get_or}
 use Rattle.proto_files.proofs.Common.{FaultAt, HasNoFault, AreRead, ReadOf, AreWorkspaceFiles, FileOf, file_at, ReadFaults}
-use Rattle.proto_imports.specs.Links.{LinkFaults}
+use Rattle.proto_names_imports.specs.Links.{LinkFaults}
 use Rattle.proto_descriptors.specs.Descriptors.{FileDesc}
 use Rattle.proto_desc.proofs.Common.{FileFaults, of_check, of_link, of_read, AreDescribed, CheckFaults}
-use Rattle.proto_entries.specs.Entries.{ChangeOf, IsEntry}
-use Rattle.proto_rename_laws.proofs.NoLinkFault.{read_files_are_clean}
-use Rattle.proto_rename_described.proofs.CleanFiles.{file_is_text}
+use Rattle.proto_edit_entries.specs.Entries.{ChangeOf, IsEntry}
+use Rattle.proto_edit_rename_laws.proofs.NoLinkFault.{read_files_are_clean}
+use Rattle.proto_edit_rename_described.proofs.CleanFiles.{file_is_text}
 use Rattle.proto_tree.specs.declared.tree.Import.{Import}
-use Rattle.proto_statement_changes.proofs.Common.{FieldAt, changes_of_deletion, IsImportOf, changes_of_addition, changes_of_drop}
-use Rattle.proto_statement_imports.specs.Workspaces.{AreFaultless, IsMade}
-use Rattle.proto_statement_names.specs.Cases.{IsPlaceOf}
-use Rattle.proto_statement_deleted.specs.Workspace.{IsAllowedDeletion}
+use Rattle.proto_edit_statement_laws.proofs.ChangesCommon.{FieldAt, changes_of_deletion, IsImportOf, changes_of_addition, changes_of_drop}
+use Rattle.proto_edit_statement_described.specs.Workspaces.{AreFaultless, IsMade}
+use Rattle.proto_edit_statement_laws.specs.Cases.{IsPlaceOf}
+use Rattle.proto_edit_statement_described.specs.Workspace.{IsAllowedDeletion}
 use Rattle.proto_edit.specs.Common.{AreCompiled, StatementLaws, AreMapped, Asked, ChangesOf, IsAdmissible, IsMappedStep, add_import, delete_field, drop_import}
-use Rattle.proto_statement_edits.specs.Edits.{IsFieldNamed, by_name, too_large}
+use Rattle.proto_edit_statements.specs.Edits.{IsFieldNamed, by_name, too_large}
 
 -- ---- files that compile, and files without a fault
 

@@ -1,12 +1,12 @@
 -- What the calls of a workspace answer.
 use Rattle.std.specs.Prelude.{◌≡◌, List, Result, Ok, Err}
 use Rattle.proto_files.specs.GivenFiles.{FileOf}
-use Rattle.proto_entries.specs.declared.refusal.Refusal.{Refusal}
-use Rattle.proto_entries.specs.declared.refusal.Refusal.TheVariants as refusal
+use Rattle.proto_edit_entries.specs.declared.refusal.Refusal.{Refusal}
+use Rattle.proto_edit_entries.specs.declared.refusal.Refusal.TheVariants as refusal
 use Rattle.proto_edit.specs.Compiled.{AreCompiled}
-pub use Rattle.proto_entries.specs.EditsAsked.{asked}
-use Rattle.proto_entries.specs.Entries.{ChangeOf}
-use Rattle.proto_entries.specs.Putting.{IsPut}
+pub use Rattle.proto_edit_entries.specs.EditsAsked.{asked}
+use Rattle.proto_edit_entries.specs.Entries.{ChangeOf}
+use Rattle.proto_edit_entries.specs.Putting.{IsPut}
 use Rattle.proto_edit.specs.Workspaces.{Asked, IsUndo, Run, accepted, Undone}
 
 -- an entry is stale where no files before it are there, or they don't compile

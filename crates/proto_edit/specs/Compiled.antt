@@ -1,7 +1,7 @@
 -- Files that compile.
 use Rattle.std.specs.Prelude.{ℕ, List}
-use Rattle.proto_faults.specs.Texts.{Path}
-use Rattle.proto_faults.specs.declared.fault.FaultKind.{FaultKind}
+use Rattle.proto_base.specs.Texts.{Path}
+use Rattle.proto_base.specs.declared.fault.FaultKind.{FaultKind}
 use Rattle.proto_files.specs.Faults.{FaultAt, HasNoFault}
 use Rattle.proto_files.specs.GivenFiles.{FileOf, AreWorkspaceFiles}
 use Rattle.proto_desc.specs.Whole.{FileFaults}

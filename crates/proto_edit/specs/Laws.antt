@@ -1,16 +1,16 @@
 -- The laws of edits over workspaces and over runs.
 use Rattle.std.specs.Prelude.{◌≡◌, ℕ, List, reverse, Result}
-use Rattle.proto_faults.specs.Texts.{Path}
+use Rattle.proto_base.specs.Texts.{Path}
 use Rattle.proto_files.specs.Faults.{HasNoFault}
 use Rattle.proto_files.specs.FilesRead.{ReadOf, AreRead}
 use Rattle.proto_files.specs.GivenFiles.{FileOf}
 use Rattle.proto_desc.specs.Whole.{WorkspaceFaults}
 use Rattle.proto_desc.specs.Checked.{AreDescribed}
 use Rattle.proto_descriptors.specs.Descriptors.{FileDesc}
-use Rattle.proto_entries.specs.declared.refusal.Refusal.{Refusal}
-use Rattle.proto_entries.specs.EditsAsked.{IsNotable}
-use Rattle.proto_entries.specs.Entries.{ChangeOf, IsEntry}
-use Rattle.proto_entries.specs.Putting.{IsPut}
+use Rattle.proto_edit_entries.specs.declared.refusal.Refusal.{Refusal}
+use Rattle.proto_edit_entries.specs.EditsAsked.{IsNotable}
+use Rattle.proto_edit_entries.specs.Entries.{ChangeOf, IsEntry}
+use Rattle.proto_edit_entries.specs.Putting.{IsPut}
 use Rattle.proto_edit.specs.Compiled.{AreCompiled}
 use Rattle.proto_edit.specs.Workspaces.{Asked, IsAdmissible, IsLeastCase, IsCaseAt, AreChanges, AreMapped, IsStep, IsMappedStep, IsUndo, Run, accepted, Undone}
 

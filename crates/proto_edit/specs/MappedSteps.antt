@@ -1,13 +1,13 @@
 -- An edit that no case refuses is a mapped step: it leaves files that compile, to
 -- the old descriptors under its map.
 use Rattle.std.specs.Prelude.{List}
-use Rattle.proto_faults.specs.Texts.{Path, Text}
+use Rattle.proto_base.specs.Texts.{Path, Text}
 use Rattle.proto_files.specs.FilesRead.{ReadOf, AreRead}
 use Rattle.proto_files.specs.GivenFiles.{FileOf}
-use Rattle.proto_entries.specs.Entries.{ChangeOf, IsEntry}
-use Rattle.proto_rename_laws.specs.Changes.{changes_of_words}
-use Rattle.proto_rename_laws.specs.Rewording.{AreReworded}
-use Rattle.proto_rename_laws.specs.Targets.{Target, IsNamed, renamed_words}
+use Rattle.proto_edit_entries.specs.Entries.{ChangeOf, IsEntry}
+use Rattle.proto_edit_rename_laws.specs.Changes.{changes_of_words}
+use Rattle.proto_edit_rename_laws.specs.Rewording.{AreReworded}
+use Rattle.proto_edit_rename_laws.specs.Targets.{Target, IsNamed, renamed_words}
 use Rattle.proto_edit.specs.Compiled.{AreCompiled}
 use Rattle.proto_edit.specs.Workspaces.{IsAdmissible, IsMappedStep, add_import, delete_field, drop_import, rename}
 

@@ -2,29 +2,29 @@
 -- edits. What is particular to an edit is said by cases on the edit, over the files and what is
 -- read of them; all else speaks of changes, and of no edit.
 use Rattle.std.specs.Prelude.{◌≡◌, ◌≢◌, ℕ, ◌<◌, List, [], ◌∷◌, Result, Ok, Err, string_bytes}
-use Rattle.proto_faults.specs.Texts.{Path}
+use Rattle.proto_base.specs.Texts.{Path}
 use Rattle.proto_files.specs.FilesRead.{ReadOf, AreRead}
 use Rattle.proto_files.specs.GivenFiles.{FileOf}
 use Rattle.proto_descriptors.specs.Descriptors.{FileDesc}
 use Rattle.proto_desc.specs.Checked.{AreDescribed}
-use Rattle.proto_entries.specs.declared.refusal.Refusal.{Refusal}
-pub use Rattle.proto_entries.specs.EditsAsked.{Asked, rename, delete_field, add_import, drop_import}
-use Rattle.proto_entries.specs.Entries.{ChangeOf, inverted}
-use Rattle.proto_entries.specs.Putting.{IsPut}
-use Rattle.proto_entries.specs.RefusalTable.{refusal_number}
-use Rattle.proto_entries.specs.declared.refusal.Refusal.TheVariants as refusal
-use Rattle.proto_rename_laws.specs.Cases.{Captures, IsFirstPlace, RenameCase}
-use Rattle.proto_rename_laws.specs.Changes.{changes_of_words}
-use Rattle.proto_rename_laws.specs.Targets.{Target, IsNamed, renamed_words}
-use Rattle.proto_rename_described.specs.Renamed.{AreRenamed}
-use Rattle.proto_statement_changes.specs.DeletionChanges.{FieldAt, changes_of_deletion}
-use Rattle.proto_statement_changes.specs.ImportChanges.{IsImportOf, changes_of_addition, changes_of_drop}
-use Rattle.proto_statement_deleted.specs.Files.{tree_at}
-use Rattle.proto_statement_deleted.specs.Imports.{with_dependency, without_dependency}
-use Rattle.proto_statement_deleted.specs.Lists.{changed_at}
-use Rattle.proto_statement_deleted.specs.Mapped.{mapped_deletion}
-use Rattle.proto_statement_edits.specs.Edits.{IsFieldNamed, RefusesAddition, RefusesDeletion}
-use Rattle.proto_statement_names.specs.Cases.{DropCase, IsNeededAt, IsOvertakenAt, IsPlaceOf as IsFileAt}
+use Rattle.proto_edit_entries.specs.declared.refusal.Refusal.{Refusal}
+pub use Rattle.proto_edit_entries.specs.EditsAsked.{Asked, rename, delete_field, add_import, drop_import}
+use Rattle.proto_edit_entries.specs.Entries.{ChangeOf, inverted}
+use Rattle.proto_edit_entries.specs.Putting.{IsPut}
+use Rattle.proto_edit_entries.specs.RefusalTable.{refusal_number}
+use Rattle.proto_edit_entries.specs.declared.refusal.Refusal.TheVariants as refusal
+use Rattle.proto_edit_rename_laws.specs.Cases.{Captures, IsFirstPlace, RenameCase}
+use Rattle.proto_edit_rename_laws.specs.Changes.{changes_of_words}
+use Rattle.proto_edit_rename_laws.specs.Targets.{Target, IsNamed, renamed_words}
+use Rattle.proto_edit_rename_described.specs.Renamed.{AreRenamed}
+use Rattle.proto_edit_statement_laws.specs.DeletionChanges.{FieldAt, changes_of_deletion}
+use Rattle.proto_edit_statement_laws.specs.ImportChanges.{IsImportOf, changes_of_addition, changes_of_drop}
+use Rattle.proto_edit_statement_described.specs.Files.{tree_at}
+use Rattle.proto_edit_statement_described.specs.Imports.{with_dependency, without_dependency}
+use Rattle.proto_edit_statement_described.specs.Lists.{changed_at}
+use Rattle.proto_edit_statement_described.specs.Mapped.{mapped_deletion}
+use Rattle.proto_edit_statements.specs.Edits.{IsFieldNamed, RefusesAddition, RefusesDeletion}
+use Rattle.proto_edit_statement_laws.specs.Cases.{DropCase, IsNeededAt, IsOvertakenAt, IsPlaceOf as IsFileAt}
 use Rattle.proto_tree.specs.declared.tree.Import.{Import}
 use Rattle.proto_edit.specs.Compiled.{AreCompiled}
 

@@ -3,18 +3,18 @@
 ghost use Rattle.std.specs.Prelude.{◌≡◌, ◌+◌, ◌≤◌, ◌^◌, length, map, reverse, IfOk, IfErr, OnOk, OnErr};
 ghost use Rattle.proto_edit.specs.Answers.{asked, IsPutRefusal, IsUndoRefusal, IsUndoAllRefusal, LeadsBack};
 ghost use Rattle.proto_edit.specs.Compiled.{AreCompiled};
-ghost use Rattle.proto_entries.specs.Entries.{change_of, AreRising};
-ghost use Rattle.proto_entries.specs.Putting.{IsPut};
+ghost use Rattle.proto_edit_entries.specs.Entries.{change_of, AreRising};
+ghost use Rattle.proto_edit_entries.specs.Putting.{IsPut};
 ghost use Rattle.proto_edit.specs.Workspaces.{rename as rename_asked, delete_field as delete_asked, add_import as add_asked, drop_import as drop_asked, IsAdmissible, AreChanges, IsRefusal, IsMappedStep, IsUndo, Run, Undone};
 
 use crate::laws::statements_are_known;
 use crate::workspace::Workspace;
-use proto_entries::{Change, Edit, Entry, Refusal, all_turned_round};
-use proto_faults::NoMemory;
+use proto_base::NoMemory;
+use proto_edit_entries::{Change, Edit, Entry, Refusal, all_turned_round};
+use proto_edit_rename::rename;
+use proto_edit_statement_described::laws::numbers_are_read;
+use proto_edit_statements::{add_import, delete_field, drop_import};
 use proto_files::are_read;
-use proto_rename::rename;
-use proto_statement_deleted::laws::numbers_are_read;
-use proto_statement_edits::{add_import, delete_field, drop_import};
 use proto_tree::Steps;
 use std::alloc::Global;
 

@@ -1,14 +1,15 @@
 //! What holds of the definitions, for whoever builds on them. None of these does anything.
 
-ghost use Rattle.proto_entries.specs.Laws.{PutsOnce};
+ghost use Rattle.proto_edit_entries.specs.Laws.{PutsOnce};
 ghost use Rattle.proto_edit.specs.Laws.{AcceptedAreNotable, CompiledAreRead, DescribedOnce, EditsAreMade, MappedOnce, RefusedOnce, RunsAreUndone, StepsAreUndone, StepsCompile, StepsOnce, UndoneOnce, WorkspacesAreClean};
 ghost use Rattle.proto_edit.specs.MappedSteps.{AdmissibleAdditionsStep, AdmissibleDeletionsStep, AdmissibleDropsStep, AdmissibleRenamesStep, RenamesAreSteps};
 ghost use Rattle.proto_edit.specs.StatementLaws.{StatementLaws};
 
-use proto_statement_changes::laws::fields_are_one as statements_are_one;
-use proto_statement_deleted::laws::{deletions_are_made, fields_may_be_deleted};
-use proto_statement_imports::laws::{additions_are_made, drops_are_made, statements_are_found};
-use proto_statement_names::laws::{fields_are_one, places_are_one};
+use proto_edit_statement_described::laws::{
+    additions_are_made, deletions_are_made, drops_are_made, fields_may_be_deleted,
+    statements_are_found,
+};
+use proto_edit_statement_laws::laws::{fields_are_one, places_are_one, statements_are_one};
 
 /// Files that compile have no fault, as a workspace that is given; and they have tokens and trees.
 pub fn compiled_is_clean()

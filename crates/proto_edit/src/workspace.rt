@@ -9,14 +9,14 @@ ghost use Rattle.proto_files.specs.FilesRead.{ReadOf, AreRead};
 ghost use Rattle.proto_desc.specs.Opening.{IsOpenError};
 ghost use Rattle.proto_desc.specs.Whole.{WorkspaceFaults, IsSortedOf};
 ghost use Rattle.proto_names.specs.LinkOfFiles.{IsLinkOf};
-ghost use Rattle.proto_entries.specs.Entries.{AreRising, change_of};
-ghost use Rattle.proto_entries.specs.Putting.{IsPut};
+ghost use Rattle.proto_edit_entries.specs.Entries.{AreRising, change_of};
+ghost use Rattle.proto_edit_entries.specs.Putting.{IsPut};
 ghost use Rattle.proto_edit.specs.Answers.{IsPutRefusal};
 ghost use Rattle.proto_edit.specs.Compiled.{AreCompiled};
 
+use proto_base::{NoMemory, SchemaFault};
 use proto_desc::{Descriptors, Schema};
-use proto_entries::{Change, ChangedTexts, Refusal, changed_texts};
-use proto_faults::{NoMemory, SchemaFault};
+use proto_edit_entries::{Change, ChangedTexts, Refusal, changed_texts};
 use proto_files::Files;
 use proto_names::Link;
 use proto_tree::Steps;

@@ -1,6 +1,6 @@
 -- The order of faults, and least faults of sets joined (for the crates above).
 use Rattle.std.proofs.Common.{◌≡◌, ℕ, ◌<◌, refl, sym, inl, inr, ⊎_elim, arith, ◌⊎◌, nat_cmp}
-use Rattle.proto_faults.proofs.Common.{Ordering, Less, Equal, Greater, ordering_then, ranked, kind_number, phase_of}
+use Rattle.proto_base.proofs.Common.{Ordering, Less, Equal, Greater, ordering_then, ranked, kind_number, phase_of}
 use Rattle.proto_files.specs.Common.{path_cmp, IsBefore, FaultAt, ComesBefore, IsLeastFault, HasNoFault}
 use Rattle.proto_files.proofs.PathOrder.{same_from_equal}
 

@@ -9,8 +9,8 @@ use Rattle.proto_text.proofs.Common.{AreTokens, IsFaultAt, IsLexError, one_token
 use Rattle.proto_tree.specs.declared.parsing.ParseFault.{ParseFault}
 use Rattle.proto_tree.specs.declared.parsing.ParseFault.TheVariants as grammar
 use Rattle.proto_tree.specs.Reads.{IsParseFault, is_fault_or_memory, IsSyntaxAt, IsTooDeepAt}
-use Rattle.proto_faults.specs.declared.fault.FaultKind.{FaultKind}
-use Rattle.proto_faults.specs.declared.fault.FaultKind.TheVariants as kind
+use Rattle.proto_base.specs.declared.fault.FaultKind.{FaultKind}
+use Rattle.proto_base.specs.declared.fault.FaultKind.TheVariants as kind
 use Rattle.proto_files.specs.Common.{FileOf, IsText, IsTextFault, IsGrammarFault, lex_kind, text_error, grammar_error, HasNone, IsFileError}
 
 -- the lexer's fault, if the text has one at an offset

@@ -1,8 +1,8 @@
 -- The first file that has a fault, in a loop over files.
 use Rattle.std.proofs.Common.{◌≡◌, ℕ, zero, suc, ◌<◌, ◌≤◌, List, [], ◌∷◌, ◌++◌, length, map, take, get_or, refl, sym, ap, ◌∙◌, subst, inl, inr, arith, All}
-use Rattle.proto_faults.specs.declared.fault.FaultKind.{FaultKind}
-use Rattle.proto_faults.specs.declared.fault.SchemaFault.{SchemaFault}
-use Rattle.proto_faults.specs.declared.fault.SchemaFault.TheVariants.{Schema, NoMemory}
+use Rattle.proto_base.specs.declared.fault.FaultKind.{FaultKind}
+use Rattle.proto_base.specs.declared.fault.SchemaFault.{SchemaFault}
+use Rattle.proto_base.specs.declared.fault.SchemaFault.TheVariants.{Schema, NoMemory}
 use Rattle.proto_files.specs.Common.{LexedFile, ReadFile, fault_at, FileOf, file_at, IsTextFault, IsGrammarFault, HasNone, IsOnlyFault, IsFileError, IsFirstError, IsLexedFile, IsReadFile, lexed_files, read_files}
 use Rattle.std.proofs.lemmas.List.Elements.{All-push}
 use Rattle.proto_files.proofs.Members.{Member, member_at}

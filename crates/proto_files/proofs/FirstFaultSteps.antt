@@ -1,7 +1,7 @@
 -- Steps of the walk over named files, and what its answer says of the files that were given.
 use Rattle.std.proofs.Common.{◌≡◌, ℕ, ◌+◌, ◌<◌, ◌≤◌, List, [], ◌∷◌, length, get_or, sym, ap, ◌∙◌, subst, arith, Option, Some, None, IsPermutation, String, Global, string_bytes}
-use Rattle.proto_faults.proofs.Common.{Vec, IsPermutation-map}
-use Rattle.proto_faults.specs.declared.fault.FaultKind.{FaultKind}
+use Rattle.proto_base.proofs.Common.{Vec, IsPermutation-map}
+use Rattle.proto_base.specs.declared.fault.FaultKind.{FaultKind}
 use Rattle.proto_files.specs.Common.{NamedFile, IsInPathOrder, IsLeastFault, HasNoFault, FileOf, paths_of, files_of, AreWorkspaceFiles, named_files, named_paths, PathFaults, fault_before, fault_or, first_fault}
 use Rattle.proto_files.proofs.PathWalk.{Passed, Outcome, walked}
 use Rattle.proto_files.proofs.NamedLists.{paths_of-named_files, length-named_paths, get_or-named_paths, workspace_files}

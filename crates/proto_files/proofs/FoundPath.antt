@@ -1,6 +1,6 @@
 -- What a binary search finds among files in the order of their paths.
 use Rattle.std.proofs.Common.{◌≡◌, ℕ, ◌+◌, ◌<◌, ◌≤◌, inl, inr, true, false, cond, nat_lt, List, [], ◌∷◌, length, get_or, Some, None, Result, Ok, Err, MatchResult, position, bytes_eq, sym, ap, ◌∙◌, subst, arith, string_bytes, is_lt}
-use Rattle.proto_faults.proofs.Common.{cases_lt, Equal, Greater, ordering_index, ordering_reverse, nat_list_cmp_total, nat_tests, bytes_eq-Decides, cond-true, cond-false, get_or-map, length-map, position_or_len, position_or_len_is, searchable_from_sorted, tied_itself, IsNonDecreasingBy, IsSearchInRange, IsBinarySearchResult}
+use Rattle.proto_base.proofs.Common.{cases_lt, Equal, Greater, ordering_index, ordering_reverse, nat_list_cmp_total, nat_tests, bytes_eq-Decides, cond-true, cond-false, get_or-map, length-map, position_or_len, position_or_len_is, searchable_from_sorted, tied_itself, IsNonDecreasingBy, IsSearchInRange, IsBinarySearchResult}
 use Rattle.proto_files.specs.Common.{ReadFile, FileOf, paths_of, AreWorkspaceFiles, IsBefore, path_cmp, read_file, read_files}
 use Rattle.proto_files.proofs.LeastOfFiles.{length-read_files}
 use Rattle.proto_files.proofs.PathOrder.{bytes_apart, never_before_itself, same_from_equal}

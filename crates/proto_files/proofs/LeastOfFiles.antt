@@ -3,12 +3,12 @@ use Rattle.std.proofs.Common.{◌≡◌, ℕ, zero, suc, ◌<◌, List, [], ◌�
 use Rattle.proto_text.specs.declared.lexer.Token.{Token}
 use Rattle.proto_text.proofs.Common.{AreTokens, one_token_list}
 use Rattle.proto_tree.proofs.Common.{tree_of_file, Reads}
-use Rattle.proto_faults.specs.declared.fault.FaultKind.{FaultKind}
-use Rattle.proto_faults.specs.declared.fault.FaultKind.TheVariants as kind
-use Rattle.proto_faults.specs.declared.fault.SchemaFault.{SchemaFault}
-use Rattle.proto_faults.specs.declared.fault.SchemaFault.TheVariants.{Schema, NoMemory}
+use Rattle.proto_base.specs.declared.fault.FaultKind.{FaultKind}
+use Rattle.proto_base.specs.declared.fault.FaultKind.TheVariants as kind
+use Rattle.proto_base.specs.declared.fault.SchemaFault.{SchemaFault}
+use Rattle.proto_base.specs.declared.fault.SchemaFault.TheVariants.{Schema, NoMemory}
 use Rattle.proto_files.specs.Common.{LexedFile, ReadFile, IsBefore, FaultAt, fault_at, ComesBefore, IsLeastFault, HasNoFault, IsFilesError, FileOf, file_at, AreWorkspaceFiles, IsTextFault, IsGrammarFault, FaultsOf, TextFaults, GrammarFaults, ReadFaults, IsFirstFault, IsFirstError, IsLexedFile, IsReadFile, lexed_files, read_file, read_files}
-use Rattle.proto_faults.specs.FaultTable.{kind_number, phase_of}
+use Rattle.proto_base.specs.FaultTable.{kind_number, phase_of}
 use Rattle.proto_files.proofs.Members.{member_from_Contains}
 use Rattle.proto_files.proofs.PathOrder.{never_before_itself, before_trans}
 use Rattle.proto_files.proofs.FaultOrder.{comes_before_cases, least_of_first, least_of_second, none_of_both}

@@ -1,6 +1,6 @@
 -- Named files as files of a workspace.
 use Rattle.std.proofs.Common.{◌≡◌, ℕ, zero, suc, ◌<◌, ◌≤◌, Bool, List, [], ◌∷◌, length, map, get_or, refl, sym, ap, ◌∙◌, subst, inl, inr, arith, AllPairs, String, Global, string_bytes, is_lt, IsSortedBy}
-use Rattle.proto_faults.proofs.Common.{Vec, IsStrictWeakOrder, false≢true, nat_list_cmp_total, sorted_far, ranks_by}
+use Rattle.proto_base.proofs.Common.{Vec, IsStrictWeakOrder, false≢true, nat_list_cmp_total, sorted_far, ranks_by}
 use Rattle.proto_files.specs.Common.{NamedFile, path_cmp, IsBefore, IsInPathOrder, IsWorkspacePath, FileOf, paths_of, file_of, files_of, AreWorkspaceFiles, named_files, named_paths}
 use Rattle.proto_files.proofs.Members.{Member, All-from_members, member_at}
 use Rattle.proto_files.proofs.PathOrder.{PathsRise}

@@ -1,8 +1,8 @@
 -- The order of faults is total, and a set of faults has one least (for the crates above).
 use Rattle.std.proofs.Common.{◌≡◌, ℕ, ◌-◌, List, [], ◌∷◌, get_or, refl, sym, ap, ◌∙◌, nat_cmp}
-use Rattle.proto_faults.proofs.Common.{Ordering, Less, Equal, Greater, IsTotalOrder, ordering_then, ordering_reverse, ranked, nat_cmp_total, nat_list_cmp_total, on_total, then_total, kind_number, phase_of}
-use Rattle.proto_faults.specs.declared.fault.FaultKind.{FaultKind}
-use Rattle.proto_faults.specs.declared.fault.FaultKind.TheVariants.{TooLarge, NotUtf8, BadChar, OpenComment, OpenString, BadEscape, BadNumber, Syntax, TooDeep, UnknownImport, DoubleImport, ImportCycle, DuplicateName, Unresolved, WrongKind, MapEntryRef, NumberRange, DuplicateNumber, ReservedNumber, ReservedName, RangeOverlap, EmptyEnum, FirstNotZero, ClosedEnum, Label, BadMap, BadOption, BadDefault, EmptyOneof, JsonClash, NotInProto3, AliasNotAllowed, BadPath, DoublePath, TooManyFiles, NotExtendable, DuplicateExtension, RequiredExtension}
+use Rattle.proto_base.proofs.Common.{Ordering, Less, Equal, Greater, IsTotalOrder, ordering_then, ordering_reverse, ranked, nat_cmp_total, nat_list_cmp_total, on_total, then_total, kind_number, phase_of}
+use Rattle.proto_base.specs.declared.fault.FaultKind.{FaultKind}
+use Rattle.proto_base.specs.declared.fault.FaultKind.TheVariants.{TooLarge, NotUtf8, BadChar, OpenComment, OpenString, BadEscape, BadNumber, Syntax, TooDeep, UnknownImport, DoubleImport, ImportCycle, DuplicateName, Unresolved, WrongKind, MapEntryRef, NumberRange, DuplicateNumber, ReservedNumber, ReservedName, RangeOverlap, EmptyEnum, FirstNotZero, ClosedEnum, Label, BadMap, BadOption, BadDefault, EmptyOneof, JsonClash, NotInProto3, AliasNotAllowed, BadPath, DoublePath, TooManyFiles, NotExtendable, DuplicateExtension, RequiredExtension}
 use Rattle.proto_files.specs.Common.{path_cmp, FaultAt, ComesBefore, fault_cmp, IsLeastFault}
 use Rattle.proto_files.proofs.PathOrder.{same_from_equal}
 

@@ -1,8 +1,8 @@
 -- Files of a workspace stand in one order, and faults are of one phase (for the crates above).
 use Rattle.std.proofs.Common.{◌≡◌, ℕ, suc, List, [], ◌∷◌, refl, sym, ap, ◌∙◌, subst, inl, inr, ⊎_elim, arith, AllPairs, Contains}
-use Rattle.proto_faults.proofs.Common.{IsPermutation-sym, Contains-permutation, phase_of}
-use Rattle.proto_faults.specs.declared.fault.FaultKind.{FaultKind}
-use Rattle.proto_faults.specs.declared.fault.FaultKind.TheVariants.{BadPath, DoublePath, TooManyFiles}
+use Rattle.proto_base.proofs.Common.{IsPermutation-sym, Contains-permutation, phase_of}
+use Rattle.proto_base.specs.declared.fault.FaultKind.{FaultKind}
+use Rattle.proto_base.specs.declared.fault.FaultKind.TheVariants.{BadPath, DoublePath, TooManyFiles}
 use Rattle.proto_files.specs.Common.{IsBefore, FileOf, IsPathFault}
 use Rattle.proto_files.specs.Laws.{OneOrder, PathsArePhase0, TextsArePhase1, GrammarIsPhase2}
 use Rattle.proto_files.proofs.Members.{Member, Contains-from_member, member_from_Contains}

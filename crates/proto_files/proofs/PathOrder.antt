@@ -1,6 +1,6 @@
 -- The order of paths: total, strict, and counts of the paths up to one (for the crates above).
 use Rattle.std.proofs.Common.{◌≡◌, ℕ, zero, suc, ◌+◌, ◌<◌, ◌≤◌, Bool, true, false, cond, not, List, [], ◌∷◌, length, get_or, refl, sym, ap, ◌∙◌, subst, inl, inr, ⊎_elim, arith, ◌⊎◌, is_eq, is_lt, count_by, bytes_eq}
-use Rattle.proto_faults.proofs.Common.{Ordering, Less, Equal, Greater, ordering_reverse, texts_ties, nat_list_cmp_total, tied_itself, bytes_eq-Decides, sum_by-cons}
+use Rattle.proto_base.proofs.Common.{Ordering, Less, Equal, Greater, ordering_reverse, texts_ties, nat_list_cmp_total, tied_itself, bytes_eq-Decides, sum_by-cons}
 use Rattle.proto_files.specs.WorkspacePaths.{path_cmp, IsBefore, IsInPathOrder}
 use Rattle.proto_files.proofs.Members.{Member, All-member, member_at}
 

@@ -1,8 +1,8 @@
 -- A walk over paths in their order meets the least fault first.
 use Rattle.std.proofs.Common.{◌≡◌, ℕ, ◌+◌, ◌<◌, ◌≤◌, Bool, true, false, cond, List, [], ◌∷◌, ◌++◌, length, get_or, refl, sym, ap, ◌∙◌, subst, inl, inr, ⊎_elim, arith, ◌⊎◌, Option, Some, None, length-append, append_assoc, ◌==◌, IsPermutation, Contains, count_by, bytes_eq, append-nil}
-use Rattle.proto_faults.proofs.Common.{Decides-eqb, false≢true, bytes_eq-Decides, sum_by-append, count_by-le-length, IsPermutation-sym, Contains-permutation, length_permutation, sum_by-IsPermutation, kind_number, phase_of}
-use Rattle.proto_faults.specs.declared.fault.FaultKind.{FaultKind}
-use Rattle.proto_faults.specs.declared.fault.FaultKind.TheVariants.{BadPath, DoublePath, TooManyFiles}
+use Rattle.proto_base.proofs.Common.{Decides-eqb, false≢true, bytes_eq-Decides, sum_by-append, count_by-le-length, IsPermutation-sym, Contains-permutation, length_permutation, sum_by-IsPermutation, kind_number, phase_of}
+use Rattle.proto_base.specs.declared.fault.FaultKind.{FaultKind}
+use Rattle.proto_base.specs.declared.fault.FaultKind.TheVariants.{BadPath, DoublePath, TooManyFiles}
 use Rattle.proto_files.specs.Common.{IsBefore, IsInPathOrder, IsWorkspacePath, is_workspace_path, IsLeastFault, HasNoFault, IsPathFault, PathFaults, begins_with, fault_before, fault_or, first_fault}
 use Rattle.proto_files.proofs.WorkspacePathTest.{is_path_from_test, test_from_is_path}
 use Rattle.proto_files.proofs.Members.{Member, All-member, member_from_Contains, Contains-from_member, member_append, member_right}

@@ -1,7 +1,7 @@
 -- Files of a workspace, of which one gets another text.
 use Rattle.std.proofs.Common.{◌≡◌, ℕ, ◌+◌, ◌<◌, All, List, [], length, get_or, sym, ap, ◌∙◌, subst, inl, inr, arith, string_bytes, slice_set, get_or-set_same, get_or-set_other}
 use Rattle.std.proofs.lemmas.List.{length-set}
-use Rattle.proto_faults.proofs.Common.{cases_eq, get_or_default, map-set, All-set}
+use Rattle.proto_base.proofs.Common.{cases_eq, get_or_default, map-set, All-set}
 use Rattle.proto_text.specs.declared.lexer.Token.{Token}
 use Rattle.proto_text.specs.SourceFacts.{IsSpan}
 use Rattle.proto_text.proofs.Spans.{token_spans}

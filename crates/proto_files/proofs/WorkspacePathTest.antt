@@ -1,6 +1,6 @@
 -- The test of a workspace path decides its definition.
 use Rattle.std.proofs.Common.{◌≡◌, ℕ, ◌-◌, ◌<◌, Bool, true, false, ◌&&◌, ◌==◌, List, [], ◌∷◌, length, take, refl, sym, ap, ◌∙◌, subst, arith, length-append, ◌↔◌, IsTrue, codes, nat_le, nat_eq, All, leb-true, le-leb}
-use Rattle.proto_faults.proofs.Common.{AllPass, list_all, join_with_byte, slice_split, ends_with, false≢true, nat_tests, Decides-eqb, ends_is, All-nil, All-cons, All-head, All-tail}
+use Rattle.proto_base.proofs.Common.{AllPass, list_all, join_with_byte, slice_split, ends_with, false≢true, nat_tests, Decides-eqb, ends_is, All-nil, All-cons, All-head, All-tail}
 use Rattle.std.proofs.lemmas.List.Splits.{slice_split_at, slice_split_none, join_with_byte-slice_split}
 use Rattle.proto_files.specs.WorkspacePaths.{is_path_byte, is_path_part, IsWorkspacePath, is_workspace_path}
 

@@ -1,9 +1,9 @@
 -- The first fault that a walk over paths in their order meets, with the place of its path.
 use Rattle.std.specs.Prelude.{ℕ, ◌+◌, ◌==◌, Bool, false, List, [], ◌∷◌, Option, Some, None, if◌then◌else◌}
 use Rattle.std.specs.Str.{bytes_eq}
-use Rattle.proto_faults.specs.declared.fault.FaultKind.{FaultKind}
-use Rattle.proto_faults.specs.declared.fault.FaultKind.TheVariants.{BadPath, DoublePath, TooManyFiles}
-use Rattle.proto_faults.specs.Texts.{Path}
+use Rattle.proto_base.specs.declared.fault.FaultKind.{FaultKind}
+use Rattle.proto_base.specs.declared.fault.FaultKind.TheVariants.{BadPath, DoublePath, TooManyFiles}
+use Rattle.proto_base.specs.Texts.{Path}
 use Rattle.proto_files.specs.WorkspacePaths.{is_workspace_path}
 
 -- whether this path is the first of the paths

@@ -1,6 +1,6 @@
 -- The files of a workspace: paths with the bytes that stand at them.
 use Rattle.std.specs.Prelude.{ℕ, ◌≤◌, List, [], length, All, AllPairs, slice_index_or}
-pub use Rattle.proto_faults.specs.GivenFiles.{FileOf, paths_of, file_of, files_of}
+pub use Rattle.proto_base.specs.GivenFiles.{FileOf, paths_of, file_of, files_of}
 use Rattle.proto_files.specs.WorkspacePaths.{IsWorkspacePath, IsBefore}
 
 -- the file at a place, counted from 0

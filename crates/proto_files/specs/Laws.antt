@@ -1,7 +1,7 @@
 -- Laws of the definitions, for the layers above.
 use Rattle.std.specs.Prelude.{◌≡◌, ℕ, List, IsPermutation}
-use Rattle.proto_faults.specs.FaultTable.{phase_of}
-use Rattle.proto_faults.specs.Texts.{Path}
+use Rattle.proto_base.specs.FaultTable.{phase_of}
+use Rattle.proto_base.specs.Texts.{Path}
 use Rattle.proto_files.specs.Faults.{FaultAt, ComesBefore}
 use Rattle.proto_files.specs.GivenFiles.{FileOf, AreWorkspaceFiles}
 use Rattle.proto_files.specs.PathFaults.{PathFaults}

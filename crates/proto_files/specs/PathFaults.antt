@@ -2,9 +2,9 @@
 -- files.
 use Rattle.std.specs.Prelude.{◌≡◌, ℕ, ◌<◌, List, length, count_by, Contains, IsPermutation, slice_index_or}
 use Rattle.std.specs.Str.{bytes_eq}
-use Rattle.proto_faults.specs.declared.fault.FaultKind.{FaultKind}
-use Rattle.proto_faults.specs.declared.fault.FaultKind.TheVariants.{BadPath, DoublePath, TooManyFiles}
-use Rattle.proto_faults.specs.Texts.{Path}
+use Rattle.proto_base.specs.declared.fault.FaultKind.{FaultKind}
+use Rattle.proto_base.specs.declared.fault.FaultKind.TheVariants.{BadPath, DoublePath, TooManyFiles}
+use Rattle.proto_base.specs.Texts.{Path}
 use Rattle.proto_files.specs.WorkspacePaths.{IsWorkspacePath, IsInPathOrder}
 use Rattle.proto_files.specs.Faults.{FaultAt}
 

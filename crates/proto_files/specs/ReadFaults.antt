@@ -5,9 +5,9 @@ use Rattle.proto_text.specs.declared.fault.LexFault.TheVariants as lex
 use Rattle.proto_text.specs.declared.lexer.Token.{Token}
 use Rattle.proto_text.specs.Tokens.{AreTokens, IsFaultAt}
 use Rattle.proto_tree.specs.Reads.{IsSyntaxAt, IsTooDeepAt}
-use Rattle.proto_faults.specs.declared.fault.FaultKind.{FaultKind}
-use Rattle.proto_faults.specs.declared.fault.FaultKind.TheVariants.{TooLarge, NotUtf8, BadChar, OpenComment, OpenString, BadEscape, BadNumber, Syntax, TooDeep}
-use Rattle.proto_faults.specs.Texts.{Text, text_limit}
+use Rattle.proto_base.specs.declared.fault.FaultKind.{FaultKind}
+use Rattle.proto_base.specs.declared.fault.FaultKind.TheVariants.{TooLarge, NotUtf8, BadChar, OpenComment, OpenString, BadEscape, BadNumber, Syntax, TooDeep}
+use Rattle.proto_base.specs.Texts.{Text, text_limit}
 use Rattle.proto_files.specs.Faults.{FaultAt}
 use Rattle.proto_files.specs.GivenFiles.{FileOf}
 

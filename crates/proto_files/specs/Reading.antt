@@ -11,11 +11,11 @@ use Rattle.proto_tree.specs.declared.parsing.ParseFault.{ParseFault}
 use Rattle.proto_tree.specs.declared.parsing.ParseFault.TheVariants as grammar
 use Rattle.proto_tree.specs.File.{tree_of_file}
 use Rattle.proto_tree.specs.Reads.{Reads}
-use Rattle.proto_faults.specs.declared.fault.FaultKind.{FaultKind}
-use Rattle.proto_faults.specs.declared.fault.FaultKind.TheVariants as kind
-use Rattle.proto_faults.specs.declared.fault.SchemaFault.{SchemaFault}
-use Rattle.proto_faults.specs.declared.fault.SchemaFault.TheVariants.{Schema, NoMemory}
-use Rattle.proto_faults.specs.Texts.{Text}
+use Rattle.proto_base.specs.declared.fault.FaultKind.{FaultKind}
+use Rattle.proto_base.specs.declared.fault.FaultKind.TheVariants as kind
+use Rattle.proto_base.specs.declared.fault.SchemaFault.{SchemaFault}
+use Rattle.proto_base.specs.declared.fault.SchemaFault.TheVariants.{Schema, NoMemory}
+use Rattle.proto_base.specs.Texts.{Text}
 use Rattle.proto_files.specs.declared.stages.LexedFile.{LexedFile}
 use Rattle.proto_files.specs.declared.stages.ReadFile.{ReadFile}
 use Rattle.proto_files.specs.Faults.{FaultAt, fault_at}

@@ -1,7 +1,7 @@
 -- What a file of a workspace says at each stage of being read: its path and bytes.
 use Rattle.std.specs.Prelude.{List, map}
 use Rattle.std.specs.String.{string_bytes}
-use Rattle.proto_faults.specs.Texts.{Path}
+use Rattle.proto_base.specs.Texts.{Path}
 use Rattle.proto_files.specs.declared.stages.NamedFile.{NamedFile}
 use Rattle.proto_files.specs.declared.stages.LexedFile.{LexedFile}
 use Rattle.proto_files.specs.declared.stages.ReadFile.{ReadFile}

@@ -7,8 +7,8 @@ use Rattle.std.specs.Cmp.Lexicographic.{slice_cmp}
 use Rattle.std.specs.Prelude.{nat_eq}
 use Rattle.std.specs.declared.cmp.Ordering.{Ordering}
 use Rattle.std.specs.declared.cmp.Ordering.TheVariants.{Less}
-use Rattle.proto_faults.specs.Ascii as ascii
-use Rattle.proto_faults.specs.Texts.{Text, Path}
+use Rattle.proto_base.specs.Ascii as ascii
+use Rattle.proto_base.specs.Texts.{Text, Path}
 
 -- whether a byte is one of those from the lowest to the highest
 abbrev pub is_between : ℕ → ℕ → ℕ → Bool

@@ -6,7 +6,7 @@ ghost use Rattle.proto_files.specs.Stages.{read_file, read_files};
 
 use crate::files::Files;
 use crate::stages::ReadFile;
-use proto_faults::NoMemory;
+use proto_base::NoMemory;
 use proto_text::Source;
 use proto_tree::parse;
 use std::alloc::Global;

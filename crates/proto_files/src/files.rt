@@ -21,7 +21,7 @@ ghost use Rattle.proto_files.specs.Stages.{read_files};
 use crate::paths::Paths;
 use crate::reading::{lex_files, parse_files};
 use crate::stages::ReadFile;
-use proto_faults::{NoMemory, SchemaFault};
+use proto_base::{NoMemory, SchemaFault};
 use proto_text::{Source, Token, string_value};
 use proto_tree::File;
 use std::alloc::Global;

@@ -18,7 +18,7 @@ pub use files::{Files, are_read};
 pub use looking::{all_paths, file_named};
 pub use path::{MAX_PATH_LEN, is_workspace_path};
 pub use paths::{MAX_FILES, Paths};
-pub use proto_faults::{Fault, FaultKind, NoMemory, SchemaFault as FilesFault};
+pub use proto_base::{Fault, FaultKind, NoMemory, SchemaFault as FilesFault};
 pub use stages::ReadFile;
 pub use tokens::{fault_at_token, offset_of};
 pub use words::Words;

@@ -4,7 +4,7 @@ ghost use Rattle.std.specs.Prelude.{◌≡◌, ◌≢◌, ◌<◌, ◌≤◌, �
 ghost use Rattle.proto_files.specs.GivenFiles.{file_at, paths_of};
 
 use crate::files::Files;
-use proto_faults::NoMemory;
+use proto_base::NoMemory;
 use std::alloc::Global;
 
 /// The paths of the files, in their order.

@@ -2,7 +2,7 @@
 
 ghost use Rattle.std.specs.Prelude.{◌≡◌, ◌==◌, ◌↔◌, IsTrue, codes, nat_eq};
 ghost use Rattle.std.specs.List.{list_all, slice_split, ends_with};
-ghost use Rattle.proto_faults.specs.Ascii as ascii;
+ghost use Rattle.proto_base.specs.Ascii as ascii;
 ghost use Rattle.proto_files.specs.WorkspacePaths.{is_path_byte, is_path_part, is_workspace_path, IsWorkspacePath};
 
 /// How many bytes a path has at most.

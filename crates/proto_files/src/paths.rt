@@ -10,7 +10,7 @@ ghost use Rattle.proto_files.specs.FirstFault.{begins_with, fault_before, first_
 
 use crate::path::is_workspace_path;
 use crate::stages::NamedFile;
-use proto_faults::{Fault, FaultKind, SchemaFault};
+use proto_base::{Fault, FaultKind, SchemaFault};
 use std::alloc::{AllocError, Global};
 use std::marker::Model;
 

@@ -6,7 +6,7 @@ ghost use Rattle.proto_files.specs.Reading.{lex_kind, text_error, grammar_error,
 ghost use Rattle.proto_files.specs.Stages.{named_file, named_files, lexed_file, lexed_files, read_file, read_files};
 
 use crate::stages::{LexedFile, NamedFile, ReadFile};
-use proto_faults::{Fault, FaultKind, SchemaFault};
+use proto_base::{Fault, FaultKind, SchemaFault};
 use proto_text::{LexFault, Source, TextFault, lex};
 use proto_tree::{ParseFault, parse};
 use std::alloc::Global;

@@ -5,7 +5,7 @@ ghost use Rattle.proto_text.specs.Texts.{offset_at};
 ghost use Rattle.proto_files.specs.FileTokens.{IsAtToken};
 
 use crate::files::Files;
-use proto_faults::{Fault, FaultKind, SchemaFault};
+use proto_base::{Fault, FaultKind, SchemaFault};
 use proto_text::Token;
 use std::alloc::Global;
 

@@ -11,7 +11,7 @@ ghost use Rattle.proto_files.specs.GivenFiles.{file_at};
 ghost use Rattle.proto_files.specs.StringTokens.{is_string, string_at, string_text};
 
 use crate::files::Files;
-use proto_faults::NoMemory;
+use proto_base::NoMemory;
 use proto_text::{Token, TokenKind, stands_for};
 use std::alloc::Global;
 use std::marker::Model;

@@ -2,9 +2,9 @@
 use Rattle.std.proofs.Common.{arith, ◌≡◌, ◌⊎◌, inl, inr, ℕ, zero, suc, ◌<◌, Bool, true, false, cond, List, [], ◌∷◌, length, Some, refl, sym, ap, ◌∙◌, subst, AllPairs, IsSome, is_some, bytes_eq}
 use Rattle.std.proofs.lemmas.Slice.Eq.{bytes_eq-Decides}
 use Rattle.proto_files.proofs.Common.{FileOf, file_at, paths_of, IsBefore, never_before_itself}
-use Rattle.proto_entries.proofs.Puts.{same_file}
+use Rattle.proto_edit_entries.proofs.Puts.{same_file}
 use Rattle.proto_store.specs.Stores.{bytes_at, with_bytes}
-use Rattle.proto_records.specs.Torn.{IsBetween}
+use Rattle.proto_journal_records.specs.Torn.{IsBetween}
 
 abbrev pub up_to : ℕ → List FileOf → List FileOf → List FileOf
 up_to zero after before = before

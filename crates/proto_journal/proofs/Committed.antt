@@ -1,15 +1,15 @@
 -- What a commit answers, from what it read, made and wrote.
 use Rattle.std.proofs.Common.{◌≡◌, ◌⊎◌, inl, inr, ℕ, ◌<◌, List, [], ◌∷◌, ◌++◌, length, Option, Some, None, Err, refl, sym, ap, ◌∙◌, subst, option_map}
 use Rattle.proto_files.specs.GivenFiles.{FileOf}
-use Rattle.proto_entries.specs.Entries.{ChangeOf}
-use Rattle.proto_entries.specs.declared.refusal.Refusal.{Refusal}
-use Rattle.proto_entries.specs.declared.refusal.Refusal.TheVariants as refusal
+use Rattle.proto_edit_entries.specs.Entries.{ChangeOf}
+use Rattle.proto_edit_entries.specs.declared.refusal.Refusal.{Refusal}
+use Rattle.proto_edit_entries.specs.declared.refusal.Refusal.TheVariants as refusal
 use Rattle.proto_edit.specs.Workspaces.{Asked, IsMappedStep, IsRefusal}
-use Rattle.proto_records.specs.declared.fault.JournalFault.{JournalFault}
-use Rattle.proto_records.specs.declared.fault.JournalFault.TheVariants as fault
-use Rattle.proto_records.specs.declared.record.Version.{Version}
-use Rattle.proto_records.specs.declared.record.Version.TheVariants.{Second}
-use Rattle.proto_records.proofs.Common.{fault_of_refusal, record_text, done, journal_limit, opened, journal_text, IsReady, IsReadyWith, CountsFault, Over, OverBoth, IsBetween, Keeps, RecordOf, IsJournalIn}
+use Rattle.proto_journal_records.specs.declared.fault.JournalFault.{JournalFault}
+use Rattle.proto_journal_records.specs.declared.fault.JournalFault.TheVariants as fault
+use Rattle.proto_journal_records.specs.declared.record.Version.{Version}
+use Rattle.proto_journal_records.specs.declared.record.Version.TheVariants.{Second}
+use Rattle.proto_journal_records.proofs.Common.{fault_of_refusal, record_text, done, journal_limit, opened, journal_text, IsReady, IsReadyWith, CountsFault, Over, OverBoth, IsBetween, Keeps, RecordOf, IsJournalIn}
 use Rattle.proto_store.specs.Stores.{Held}
 use Rattle.proto_journal.specs.Common.{IsCommitted, IsCommitCut, CommitOutcome, Stays, IsUnready, AddsTo, IsUnprepared, IsUnwritten, Passes, held, IsTornByCommit, IsReadyText}
 use Rattle.proto_journal.proofs.Recorded.{text_more}

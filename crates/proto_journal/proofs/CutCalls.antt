@@ -1,16 +1,16 @@
 -- A commit or an undo that was cut off, and then recovered, is made wholly or not at all.
 use Rattle.std.proofs.Common.{◌≡◌, inl, inr, ℕ, Bool, false, List, [], ◌∷◌, ◌++◌, Option, Some, Result, Ok, refl, sym, ap, ◌∙◌, subst, nat_cmp, ◌⊎◌}
-use Rattle.proto_faults.proofs.Common.{IsStrictlySortedBy, slice_cmp}
+use Rattle.proto_base.proofs.Common.{IsStrictlySortedBy, slice_cmp}
 use Rattle.proto_files.specs.GivenFiles.{FileOf, paths_of}
-use Rattle.proto_entries.proofs.Common.{ChangeOf, IsEntry, Asked}
-use Rattle.proto_records.specs.declared.fault.JournalFault.{JournalFault}
-use Rattle.proto_records.specs.declared.record.Version.{Version}
-use Rattle.proto_records.specs.declared.record.Version.TheVariants.{First, Second}
-use Rattle.proto_records.proofs.Common.{done, opened, JournalsShrink, IsSettled, IsReady, Keeps, RecordOf, IsJournalIn, journal_text, IsReadyWith}
+use Rattle.proto_edit_entries.proofs.Common.{ChangeOf, IsEntry, Asked}
+use Rattle.proto_journal_records.specs.declared.fault.JournalFault.{JournalFault}
+use Rattle.proto_journal_records.specs.declared.record.Version.{Version}
+use Rattle.proto_journal_records.specs.declared.record.Version.TheVariants.{First, Second}
+use Rattle.proto_journal_records.proofs.Common.{done, opened, JournalsShrink, IsSettled, IsReady, Keeps, RecordOf, IsJournalIn, journal_text, IsReadyWith}
 use Rattle.proto_store.specs.Stores.{AreInPathOrder, Held, with_journal}
-use Rattle.proto_records.specs.RecoveryLaws.{RecoveriesAreOne, TornComesBack}
-use Rattle.proto_records.specs.Recovery.{RecoverOutcome}
-use Rattle.proto_records.proofs.TornStores.{leads_forth}
+use Rattle.proto_journal_records.specs.RecoveryLaws.{RecoveriesAreOne, TornComesBack}
+use Rattle.proto_journal_records.specs.Recovery.{RecoverOutcome}
+use Rattle.proto_journal_records.proofs.TornStores.{leads_forth}
 use Rattle.proto_journal.specs.Common.{IsCommitted, CutCommitsComeBack, CutUndosComeBack, IsUndone, IsBackInSecond}
 use Rattle.proto_journal.proofs.Grown.{last_record}
 use Rattle.proto_journal.proofs.PutPaths.{put_paths, undo_paths}

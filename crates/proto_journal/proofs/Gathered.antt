@@ -1,6 +1,6 @@
 -- The paths of a store's files, and the files that are read at them.
 use Rattle.std.proofs.Common.{◌≡◌, ◌<◌, ◌+◌, ℕ, List, [], ◌∷◌, ◌++◌, map, length, get_or, take, Option, Some, None, refl, sym, ap, ◌∙◌, append_assoc, append-nil, String, Global, string_bytes, string_cmp, IsSorted, IsPermutation}
-use Rattle.proto_faults.proofs.Common.{Vec, map-append, map_more, file_of, files_of, paths_of}
+use Rattle.proto_base.proofs.Common.{Vec, map-append, map_more, file_of, files_of, paths_of}
 use Rattle.proto_store.specs.Stores.{Held, ListsPaths}
 use Rattle.proto_store.proofs.Loading.{Loads}
 use Rattle.proto_store.proofs.PathOrder.{sorted_paths}

@@ -1,10 +1,10 @@
 -- Journals that are made of a journal: with a record more, with one less, and with the last entry open.
 use Rattle.std.proofs.Common.{arith, ◌≡◌, ℕ, ◌≤◌, List, [], ◌∷◌, ◌++◌, length, sym, ap, ◌∙◌, subst, All, Err, IfOk, Ok, OnOk, Result, length-append, false, Option}
 use Rattle.std.proofs.lemmas.List.Elements.{All-head, All-tail}
-use Rattle.proto_entries.proofs.Common.{ChangeOf, Asked}
-use Rattle.proto_records.specs.declared.record.Version.{Version}
-use Rattle.proto_records.specs.declared.record.Version.TheVariants.{Second}
-use Rattle.proto_records.proofs.Common.{record_text, IsRecord, done, journal_limit, opened, journal_text, JournalsGrow, JournalsShrink, StatesKeepLength, RecordOf, IsJournalIn, is_last_open, JournalsMigrate}
+use Rattle.proto_edit_entries.proofs.Common.{ChangeOf, Asked}
+use Rattle.proto_journal_records.specs.declared.record.Version.{Version}
+use Rattle.proto_journal_records.specs.declared.record.Version.TheVariants.{Second}
+use Rattle.proto_journal_records.proofs.Common.{record_text, IsRecord, done, journal_limit, opened, journal_text, JournalsGrow, JournalsShrink, StatesKeepLength, RecordOf, IsJournalIn, is_last_open, JournalsMigrate}
 use Rattle.proto_journal.specs.Written.{AddsTo, Reopens, Shortens}
 use Rattle.proto_journal.proofs.Recorded.{text_more}
 

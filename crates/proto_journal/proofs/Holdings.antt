@@ -2,7 +2,7 @@
 use Rattle.std.proofs.Common.{◌≡◌, ◌⊎◌, inl, inr, ℕ, List, Option, Some, None, refl, sym, ap, ◌∙◌, subst, IsSome, option_map}
 use Rattle.proto_files.specs.GivenFiles.{FileOf, paths_of}
 use Rattle.proto_store.specs.Stores.{Held, HoldsFiles, IsListed, bytes_at, with_bytes, with_file, with_journal}
-use Rattle.proto_records.specs.Torn.{IsBetween}
+use Rattle.proto_journal_records.specs.Torn.{IsBetween}
 use Rattle.proto_journal.specs.Written.{AreBetween, Passes, held, with_these_files}
 use Rattle.proto_journal.proofs.Between.{between_as_after, between_as_before}
 

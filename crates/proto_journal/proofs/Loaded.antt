@@ -1,12 +1,12 @@
 -- Workspaces that are loaded of a store.
 use Rattle.std.proofs.Common.{arith, ◌≡◌, ℕ, zero, suc, ◌<◌, ◌≤◌, List, [], ◌∷◌, length, get_or, Option, Some, None, Ok, sym, ◌∙◌, subst, nat_cmp}
-use Rattle.proto_faults.proofs.Common.{AllByRecursion, IsStrictlySortedBy, slice_cmp, Less, All-permutation, IsPermutation-sym, length_permutation}
+use Rattle.proto_base.proofs.Common.{AllByRecursion, IsStrictlySortedBy, slice_cmp, Less, All-permutation, IsPermutation-sym, length_permutation}
 use Rattle.proto_files.proofs.Common.{AreWorkspaceFiles, FileOf, paths_of, IsBefore, IsWorkspacePath}
 use Rattle.proto_desc.specs.Whole.{IsSortedOf}
 use Rattle.proto_edit.specs.Compiled.{AreCompiled}
 use Rattle.proto_edit.proofs.GivenAgain.{sorted_again}
 use Rattle.proto_store.specs.Stores.{AreInPathOrder, Held, HoldsFiles}
-use Rattle.proto_records.specs.Known.{Over}
+use Rattle.proto_journal_records.specs.Known.{Over}
 use Rattle.proto_journal.specs.Loads.{LoadOutcome}
 
 below : (f : FileOf) (fs : List FileOf) → AllByRecursion (λ q. slice_cmp nat_cmp f.path q ≡ Less) (paths_of fs) → (j : ℕ) (d : FileOf) → j < length fs → IsBefore f.path (get_or fs j d).path

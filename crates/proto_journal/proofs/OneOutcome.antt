@@ -2,18 +2,18 @@
 use Rattle.std.proofs.Common.{arith, ◌≡◌, ℕ, ◌≤◌, ◌<◌, ◌==◌, Bool, true, false, List, [], ◌∷◌, ◌++◌, length, Option, Some, None, Result, Ok, Err, refl, sym, ap, ◌∙◌, subst, String, if◌then◌else◌, Global, string_bytes}
 use Rattle.std.proofs.lemmas.List.Elements.{All-nil}
 use Rattle.proto_files.specs.GivenFiles.{FileOf}
-use Rattle.proto_entries.specs.Entries.{ChangeOf}
-use Rattle.proto_entries.specs.declared.refusal.Refusal.{Refusal}
-use Rattle.proto_entries.specs.declared.refusal.Refusal.TheVariants as refusal
-use Rattle.proto_entries.specs.RefusalTable.{refusal_number}
+use Rattle.proto_edit_entries.specs.Entries.{ChangeOf}
+use Rattle.proto_edit_entries.specs.declared.refusal.Refusal.{Refusal}
+use Rattle.proto_edit_entries.specs.declared.refusal.Refusal.TheVariants as refusal
+use Rattle.proto_edit_entries.specs.RefusalTable.{refusal_number}
 use Rattle.proto_edit.proofs.Common.{AreCompiled, Asked, IsLeastCase, IsMappedStep, IsCaseAt, IsUndo, undo_once}
 use Rattle.proto_edit.specs.Laws.{RefusedOnce, StepsOnce}
 use Rattle.proto_edit.proofs.OneAnswer.{least_once}
-use Rattle.proto_records.specs.declared.fault.JournalFault.{JournalFault}
-use Rattle.proto_records.specs.declared.fault.JournalFault.TheVariants as fault
-use Rattle.proto_records.specs.declared.record.Version.{Version}
-use Rattle.proto_records.specs.declared.record.Version.TheVariants.{Second}
-use Rattle.proto_records.proofs.Common.{journal_limit, IsRecord, is_last_open, done, journal_text, IsReadInOneWay, HasOpenEntry, IsReady, IsUnreadable, IsSettled, Keeps, RecordOf, IsJournalIn}
+use Rattle.proto_journal_records.specs.declared.fault.JournalFault.{JournalFault}
+use Rattle.proto_journal_records.specs.declared.fault.JournalFault.TheVariants as fault
+use Rattle.proto_journal_records.specs.declared.record.Version.{Version}
+use Rattle.proto_journal_records.specs.declared.record.Version.TheVariants.{Second}
+use Rattle.proto_journal_records.proofs.Common.{journal_limit, IsRecord, is_last_open, done, journal_text, IsReadInOneWay, HasOpenEntry, IsReady, IsUnreadable, IsSettled, Keeps, RecordOf, IsJournalIn}
 use Rattle.proto_store.specs.Stores.{Held}
 use Rattle.proto_journal.specs.Common.{CommitOutcome, IsCommitted, IsFull, Stays, CommitsAreOne, IsSameAnswer, IsSameRefusal, UndosAreOne, EndsIn, IsStale, IsUndone, UndoOutcome}
 use Rattle.proto_journal.proofs.Recorded.{last_of}

@@ -1,10 +1,10 @@
 -- A fault of the paths alone is the least of the files: all other faults are of later phases.
 use Rattle.std.proofs.Common.{◌≡◌, ◌<◌, inl, inr, ⊎_elim, ℕ, List, Option, Some, None, subst, arith}
-use Rattle.proto_faults.proofs.Common.{phase_of}
-use Rattle.proto_faults.specs.declared.fault.SchemaFault.{SchemaFault}
-use Rattle.proto_faults.specs.declared.fault.SchemaFault.TheVariants.{Schema, NoMemory}
+use Rattle.proto_base.proofs.Common.{phase_of}
+use Rattle.proto_base.specs.declared.fault.SchemaFault.{SchemaFault}
+use Rattle.proto_base.specs.declared.fault.SchemaFault.TheVariants.{Schema, NoMemory}
 use Rattle.proto_files.proofs.Common.{FaultAt, ComesBefore, IsFilesError, IsLeastFault, fault_at, FileOf, paths_of, PathFaults, comes_before_cases, paths_are_phase_0, texts_are_phase_1, grammar_is_phase_2}
-use Rattle.proto_imports.proofs.Common.{LinkFaults, of_import, of_name, of_reference, import_found, name_found, reference_found}
+use Rattle.proto_names_imports.proofs.Common.{LinkFaults, of_import, of_name, of_reference, import_found, name_found, reference_found}
 use Rattle.proto_desc.proofs.Common.{all_of_checks, CheckFaults, of_flaw, FileFaults, of_read, of_link, of_check, WorkspaceFaults, of_path, of_files}
 use Rattle.proto_store.specs.Stores.{Held}
 use Rattle.proto_journal.specs.Loads.{ArePathsOf, IsLoadFault, schemas_fault}

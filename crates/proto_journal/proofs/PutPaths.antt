@@ -1,7 +1,7 @@
 -- What is put has the paths of the files before, and differs from them by the changes.
 use Rattle.std.proofs.Common.{◌≡◌, List, [], ◌∷◌, inl, inr, refl, sym, subst}
 use Rattle.proto_files.specs.GivenFiles.{FileOf, paths_of}
-use Rattle.proto_entries.proofs.Common.{ChangeOf, inverted, AreRising, ArePut, EachPuts, IsEntry, IsPut, put_in_order, rising_back}
+use Rattle.proto_edit_entries.proofs.Common.{ChangeOf, inverted, AreRising, ArePut, EachPuts, IsEntry, IsPut, put_in_order, rising_back}
 use Rattle.proto_edit.specs.Compiled.{AreCompiled}
 use Rattle.proto_edit.specs.Workspaces.{Asked, IsMappedStep, IsUndo}
 use Rattle.proto_edit.proofs.GivenAgain.{are_short}

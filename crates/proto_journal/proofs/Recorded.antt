@@ -1,12 +1,12 @@
 -- Journals with one record more and with one less, and what a call reads of them.
 use Rattle.std.proofs.Common.{arith, ◌≡◌, ◌⊎◌, ℕ, true, false, List, [], ◌∷◌, ◌++◌, length, Option, Some, None, Ok, Err, refl, sym, ap, ◌∙◌, subst, append_assoc, append-nil}
-use Rattle.proto_records.specs.declared.fault.JournalFault.{JournalFault}
-use Rattle.proto_records.specs.declared.fault.JournalFault.TheVariants.{BadJournal, NoMemory}
-use Rattle.proto_records.specs.declared.record.State.{State}
-use Rattle.proto_records.specs.declared.record.State.TheVariants as state
-use Rattle.proto_records.specs.declared.record.Version.{Version}
-use Rattle.proto_records.specs.declared.record.Version.TheVariants.{Second}
-use Rattle.proto_records.proofs.Common.{record_text, IsJournal, is_last_open, is_open, done, journal_text, HasOpenEntry, IsReady, IsUnreadable, CountsFault, Over, RecordOf, IsJournalIn, IsReadyWith, unread}
+use Rattle.proto_journal_records.specs.declared.fault.JournalFault.{JournalFault}
+use Rattle.proto_journal_records.specs.declared.fault.JournalFault.TheVariants.{BadJournal, NoMemory}
+use Rattle.proto_journal_records.specs.declared.record.State.{State}
+use Rattle.proto_journal_records.specs.declared.record.State.TheVariants as state
+use Rattle.proto_journal_records.specs.declared.record.Version.{Version}
+use Rattle.proto_journal_records.specs.declared.record.Version.TheVariants.{Second}
+use Rattle.proto_journal_records.proofs.Common.{record_text, IsJournal, is_last_open, is_open, done, journal_text, HasOpenEntry, IsReady, IsUnreadable, CountsFault, Over, RecordOf, IsJournalIn, IsReadyWith, unread}
 use Rattle.proto_store.specs.Stores.{Held, HoldsJournal}
 use Rattle.proto_journal.specs.Common.{IsUnready, LastOutcome, IsReadyText}
 

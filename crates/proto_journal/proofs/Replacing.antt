@@ -1,8 +1,8 @@
 -- Replacing the files of which there is a change, one after the other.
 use Rattle.std.proofs.Common.{arith, ◌≡◌, ◌⊎◌, inl, inr, ℕ, suc, ◌+◌, ◌<◌, List, [], ◌∷◌, length, drop, Option, Result, Ok, Err, refl, sym, ap, ◌∙◌, subst, OnErr, OnOk, option_map}
-use Rattle.proto_faults.proofs.Common.{drop_more}
+use Rattle.proto_base.proofs.Common.{drop_more}
 use Rattle.proto_files.specs.GivenFiles.{FileOf, file_at, paths_of}
-use Rattle.proto_entries.specs.Entries.{ChangeOf}
+use Rattle.proto_edit_entries.specs.Entries.{ChangeOf}
 use Rattle.proto_store.specs.Stores.{Held, HoldsFiles, IsListed, with_bytes, with_file}
 use Rattle.proto_journal.specs.Written.{AreBetween, DifferBy, IsHalfReplaced, IsFileReplaced, with_these_files}
 use Rattle.proto_journal.proofs.Between.{IsOrdered, all_after, as_long, between_up_to, listed_step, replaced_step, same_step, up_to}

@@ -1,15 +1,15 @@
 -- What an undo answers, from what it read, made and wrote.
 use Rattle.std.proofs.Common.{◌≡◌, ◌⊎◌, inl, inr, ℕ, List, [], ◌∷◌, ◌++◌, Option, Some, None, Ok, Err, refl, sym, ◌∙◌, subst, option_map}
 use Rattle.proto_files.specs.GivenFiles.{FileOf, paths_of}
-use Rattle.proto_entries.proofs.Common.{ChangeOf, Asked}
-use Rattle.proto_entries.specs.declared.refusal.Refusal.{Refusal}
-use Rattle.proto_entries.specs.declared.refusal.Refusal.TheVariants as refusal
+use Rattle.proto_edit_entries.proofs.Common.{ChangeOf, Asked}
+use Rattle.proto_edit_entries.specs.declared.refusal.Refusal.{Refusal}
+use Rattle.proto_edit_entries.specs.declared.refusal.Refusal.TheVariants as refusal
 use Rattle.proto_edit.specs.Answers.{IsUndoRefusal}
 use Rattle.proto_edit.specs.Workspaces.{IsUndo}
-use Rattle.proto_records.specs.declared.fault.JournalFault.{JournalFault}
-use Rattle.proto_records.specs.declared.fault.JournalFault.TheVariants as fault
-use Rattle.proto_records.specs.declared.record.Version.{Version}
-use Rattle.proto_records.proofs.Common.{fault_of_refusal, done, opened, CountsFault, Over, OverBoth, IsBetween, Keeps, RecordOf, IsJournalIn}
+use Rattle.proto_journal_records.specs.declared.fault.JournalFault.{JournalFault}
+use Rattle.proto_journal_records.specs.declared.fault.JournalFault.TheVariants as fault
+use Rattle.proto_journal_records.specs.declared.record.Version.{Version}
+use Rattle.proto_journal_records.proofs.Common.{fault_of_refusal, done, opened, CountsFault, Over, OverBoth, IsBetween, Keeps, RecordOf, IsJournalIn}
 use Rattle.proto_store.specs.Stores.{Held, HoldsJournal}
 use Rattle.proto_journal.specs.Common.{EndsIn, IsTornByUndo, IsUndone, IsUndoCut, UndoOutcome, LastOutcome, Passes, Reopens, Shortens, held}
 use Rattle.proto_journal.proofs.Committed.{stays}

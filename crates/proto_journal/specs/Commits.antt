@@ -1,19 +1,19 @@
 -- What a commit answers, and what it leaves in the store and in the workspace.
 use Rattle.std.specs.Prelude.{◌≡◌, ◌⊎◌, ◌<◌, List, [], ◌∷◌, ◌++◌, length, Option, Some, Result, Ok, Err}
 use Rattle.proto_files.specs.GivenFiles.{FileOf}
-use Rattle.proto_entries.specs.Entries.{ChangeOf}
-use Rattle.proto_entries.specs.declared.refusal.Refusal.TheVariants as refusal
+use Rattle.proto_edit_entries.specs.Entries.{ChangeOf}
+use Rattle.proto_edit_entries.specs.declared.refusal.Refusal.TheVariants as refusal
 use Rattle.proto_edit.specs.Workspaces.{Asked, IsMappedStep, IsRefusal}
-use Rattle.proto_records.specs.declared.fault.JournalFault.{JournalFault}
-use Rattle.proto_records.specs.declared.fault.JournalFault.TheVariants as fault
-use Rattle.proto_records.specs.declared.record.Version.{Version}
-use Rattle.proto_records.specs.declared.record.Version.TheVariants.{Second}
-use Rattle.proto_records.specs.Records.{RecordOf, done}
-use Rattle.proto_records.specs.Journals.{journal_limit, journal_text}
+use Rattle.proto_journal_records.specs.declared.fault.JournalFault.{JournalFault}
+use Rattle.proto_journal_records.specs.declared.fault.JournalFault.TheVariants as fault
+use Rattle.proto_journal_records.specs.declared.record.Version.{Version}
+use Rattle.proto_journal_records.specs.declared.record.Version.TheVariants.{Second}
+use Rattle.proto_journal_records.specs.Records.{RecordOf, done}
+use Rattle.proto_journal_records.specs.Journals.{journal_limit, journal_text}
 use Rattle.proto_store.specs.Stores.{Held}
-use Rattle.proto_records.specs.ReadJournals.{HasOpenEntry, IsReady, IsReadyWith, IsUnreadable}
-use Rattle.proto_records.specs.Known.{Over, OverBoth}
-use Rattle.proto_records.specs.Torn.{IsTornBetween, Keeps}
+use Rattle.proto_journal_records.specs.ReadJournals.{HasOpenEntry, IsReady, IsReadyWith, IsUnreadable}
+use Rattle.proto_journal_records.specs.Known.{Over, OverBoth}
+use Rattle.proto_journal_records.specs.Torn.{IsTornBetween, Keeps}
 
 -- the store and the workspace are as before
 pub record Stays (from to : List FileOf) (old new : Option Held) : Type 0 where

@@ -2,22 +2,22 @@
 use Rattle.std.specs.Prelude.{◌≡◌, ◌⊎◌, List, Bool, Option, Some, Result, Err}
 use Rattle.std.specs.String.{string_bytes}
 use Rattle.proto_files.specs.GivenFiles.{FileOf}
-use Rattle.proto_entries.specs.Entries.{ChangeOf, IsEntry}
-use Rattle.proto_entries.specs.declared.refusal.Refusal.{Refusal}
-use Rattle.proto_entries.specs.declared.refusal.Refusal.TheVariants as refusal
+use Rattle.proto_edit_entries.specs.Entries.{ChangeOf, IsEntry}
+use Rattle.proto_edit_entries.specs.declared.refusal.Refusal.{Refusal}
+use Rattle.proto_edit_entries.specs.declared.refusal.Refusal.TheVariants as refusal
 use Rattle.proto_edit.specs.Compiled.{AreCompiled}
 use Rattle.proto_edit.specs.Workspaces.{Asked, IsUndo}
-use Rattle.proto_records.specs.declared.fault.JournalFault.{JournalFault}
-use Rattle.proto_records.specs.declared.fault.JournalFault.TheVariants as fault
-use Rattle.proto_records.specs.declared.record.Version.{Version}
-use Rattle.proto_records.specs.declared.record.Version.TheVariants.{First, Second}
-use Rattle.proto_records.specs.Records.{RecordOf}
-use Rattle.proto_records.specs.Journals.{journal_text}
+use Rattle.proto_journal_records.specs.declared.fault.JournalFault.{JournalFault}
+use Rattle.proto_journal_records.specs.declared.fault.JournalFault.TheVariants as fault
+use Rattle.proto_journal_records.specs.declared.record.Version.{Version}
+use Rattle.proto_journal_records.specs.declared.record.Version.TheVariants.{First, Second}
+use Rattle.proto_journal_records.specs.Records.{RecordOf}
+use Rattle.proto_journal_records.specs.Journals.{journal_text}
 use Rattle.proto_store.specs.Stores.{AreInPathOrder, Held, HoldsFiles, with_journal}
-use Rattle.proto_records.specs.Known.{IsSettled}
-use Rattle.proto_records.specs.ReadJournals.{IsReady, IsReadyWith}
-use Rattle.proto_records.specs.Recovery.{RecoverOutcome}
-use Rattle.proto_records.specs.Torn.{IsTorn, IsTornBetween}
+use Rattle.proto_journal_records.specs.Known.{IsSettled}
+use Rattle.proto_journal_records.specs.ReadJournals.{IsReady, IsReadyWith}
+use Rattle.proto_journal_records.specs.Recovery.{RecoverOutcome}
+use Rattle.proto_journal_records.specs.Torn.{IsTorn, IsTornBetween}
 use Rattle.proto_journal.specs.Commits.{CommitOutcome, IsCommitted}
 use Rattle.proto_journal.specs.Undoing.{IsUndone, UndoOutcome}
 

@@ -1,23 +1,23 @@
 -- What is read of a store.
 use Rattle.std.specs.Prelude.{◌≡◌, ℕ, ◌+◌, List, codes, Option, Result, Ok, Err}
-use Rattle.proto_faults.specs.FaultTable.{kind_number, kind_name}
-use Rattle.proto_faults.specs.Texts.{Path, Text}
-use Rattle.proto_faults.specs.declared.fault.SchemaFault.{SchemaFault}
-use Rattle.proto_faults.specs.declared.fault.SchemaFault.TheVariants as schemas
+use Rattle.proto_base.specs.FaultTable.{kind_number, kind_name}
+use Rattle.proto_base.specs.Texts.{Path, Text}
+use Rattle.proto_base.specs.declared.fault.SchemaFault.{SchemaFault}
+use Rattle.proto_base.specs.declared.fault.SchemaFault.TheVariants as schemas
 use Rattle.proto_files.specs.Faults.{HasNoFault, IsLeastFault, fault_at}
 use Rattle.proto_files.specs.GivenFiles.{FileOf, paths_of}
 use Rattle.proto_files.specs.PathFaults.{PathFaults}
 use Rattle.proto_desc.specs.Whole.{WorkspaceFaults}
 use Rattle.proto_edit.specs.Compiled.{AreCompiled}
-use Rattle.proto_records.specs.declared.fault.JournalFault.{JournalFault}
-use Rattle.proto_records.specs.declared.fault.JournalFault.TheVariants as journal
+use Rattle.proto_journal_records.specs.declared.fault.JournalFault.{JournalFault}
+use Rattle.proto_journal_records.specs.declared.fault.JournalFault.TheVariants as journal
 use Rattle.proto_store.specs.Stores.{AreInPathOrder, Held, HoldsFiles}
 use Rattle.proto_store.specs.declared.files.ReadingFault.{ReadingFault}
 use Rattle.proto_store.specs.declared.files.ReadingFault.TheVariants as reading
 use Rattle.proto_journal.specs.declared.loading.LoadFault.{LoadFault}
 use Rattle.proto_journal.specs.declared.loading.LoadFault.TheVariants as load
-use Rattle.proto_records.specs.ReadJournals.{HasOpenEntry, IsReady, IsUnreadable}
-use Rattle.proto_records.specs.Known.{Over}
+use Rattle.proto_journal_records.specs.ReadJournals.{HasOpenEntry, IsReady, IsUnreadable}
+use Rattle.proto_journal_records.specs.Known.{Over}
 
 -- a fault of the schemas is the least of the store's files, and nothing is said of other faults
 abbrev pub IsLoadFault : Option Held → LoadFault → Type 0

@@ -1,20 +1,20 @@
 -- What the undo of the last entry answers, and what it leaves in the store and in the workspace.
 use Rattle.std.specs.Prelude.{◌≡◌, ◌⊎◌, List, [], ◌∷◌, ◌++◌, Option, Result, Ok, Err}
 use Rattle.proto_files.specs.GivenFiles.{FileOf}
-use Rattle.proto_entries.specs.EditsAsked.{Asked}
-use Rattle.proto_entries.specs.Entries.{ChangeOf}
-use Rattle.proto_entries.specs.declared.refusal.Refusal.TheVariants as refusal
+use Rattle.proto_edit_entries.specs.EditsAsked.{Asked}
+use Rattle.proto_edit_entries.specs.Entries.{ChangeOf}
+use Rattle.proto_edit_entries.specs.declared.refusal.Refusal.TheVariants as refusal
 use Rattle.proto_edit.specs.Workspaces.{IsUndo}
-use Rattle.proto_records.specs.declared.fault.JournalFault.{JournalFault}
-use Rattle.proto_records.specs.declared.fault.JournalFault.TheVariants as fault
-use Rattle.proto_records.specs.declared.record.Version.{Version}
-use Rattle.proto_records.specs.Records.{RecordOf, done}
-use Rattle.proto_records.specs.Journals.{IsJournalIn}
+use Rattle.proto_journal_records.specs.declared.fault.JournalFault.{JournalFault}
+use Rattle.proto_journal_records.specs.declared.fault.JournalFault.TheVariants as fault
+use Rattle.proto_journal_records.specs.declared.record.Version.{Version}
+use Rattle.proto_journal_records.specs.Records.{RecordOf, done}
+use Rattle.proto_journal_records.specs.Journals.{IsJournalIn}
 use Rattle.proto_store.specs.Stores.{Held}
 use Rattle.proto_journal.specs.Commits.{Stays}
-use Rattle.proto_records.specs.ReadJournals.{HasOpenEntry, IsUnreadable}
-use Rattle.proto_records.specs.Known.{Over, OverBoth}
-use Rattle.proto_records.specs.Torn.{IsTornBetween, Keeps}
+use Rattle.proto_journal_records.specs.ReadJournals.{HasOpenEntry, IsUnreadable}
+use Rattle.proto_journal_records.specs.Known.{Over, OverBoth}
+use Rattle.proto_journal_records.specs.Torn.{IsTornBetween, Keeps}
 
 -- the journal is that of these records and of the entry behind them, done, in this version
 abbrev pub EndsIn : Version → List RecordOf → List ChangeOf → Held → Type 0

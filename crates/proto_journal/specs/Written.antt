@@ -1,21 +1,21 @@
 -- Where a store stands while files and journal are written, and what is made before.
 use Rattle.std.specs.Prelude.{◌≡◌, ◌≢◌, ◌⊎◌, ◌<◌, List, [], ◌∷◌, ◌++◌, length, true, false, Option, Some, option_map, Result, Ok, Err}
-use Rattle.proto_faults.specs.Texts.{Text}
+use Rattle.proto_base.specs.Texts.{Text}
 use Rattle.proto_files.specs.GivenFiles.{FileOf}
-use Rattle.proto_entries.specs.Entries.{ChangeOf}
-use Rattle.proto_entries.specs.declared.refusal.Refusal.TheVariants as refusal
+use Rattle.proto_edit_entries.specs.Entries.{ChangeOf}
+use Rattle.proto_edit_entries.specs.declared.refusal.Refusal.TheVariants as refusal
 use Rattle.proto_edit.specs.Workspaces.{Asked, IsMappedStep, IsRefusal}
-use Rattle.proto_records.specs.declared.fault.JournalFault.{JournalFault}
-use Rattle.proto_records.specs.declared.fault.JournalFault.TheVariants as fault
-use Rattle.proto_records.specs.declared.record.Version.{Version}
-use Rattle.proto_records.specs.declared.record.Version.TheVariants.{Second}
-use Rattle.proto_records.specs.Records.{RecordOf, done, opened}
-use Rattle.proto_records.specs.RecordText.{record_text}
-use Rattle.proto_records.specs.Journals.{IsJournal, IsJournalIn, is_last_open, journal_limit, journal_text}
+use Rattle.proto_journal_records.specs.declared.fault.JournalFault.{JournalFault}
+use Rattle.proto_journal_records.specs.declared.fault.JournalFault.TheVariants as fault
+use Rattle.proto_journal_records.specs.declared.record.Version.{Version}
+use Rattle.proto_journal_records.specs.declared.record.Version.TheVariants.{Second}
+use Rattle.proto_journal_records.specs.Records.{RecordOf, done, opened}
+use Rattle.proto_journal_records.specs.RecordText.{record_text}
+use Rattle.proto_journal_records.specs.Journals.{IsJournal, IsJournalIn, is_last_open, journal_limit, journal_text}
 use Rattle.proto_store.specs.Stores.{Held, with_file}
-use Rattle.proto_records.specs.Known.{OverBoth}
-use Rattle.proto_records.specs.ReadJournals.{IsReadyWith}
-use Rattle.proto_records.specs.Torn.{IsBetween}
+use Rattle.proto_journal_records.specs.Known.{OverBoth}
+use Rattle.proto_journal_records.specs.ReadJournals.{IsReadyWith}
+use Rattle.proto_journal_records.specs.Torn.{IsBetween}
 
 -- ---- written
 

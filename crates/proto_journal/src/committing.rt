@@ -4,19 +4,19 @@ ghost use Rattle.std.specs.Prelude.{◌-◌, ◌^◌, ◌<◌, IfErr, IfOk, Some
 ghost use Rattle.proto_edit.specs.Answers.{asked};
 ghost use Rattle.proto_edit.specs.Workspaces.{IsMappedStep};
 ghost use Rattle.proto_journal.specs.Commits.{CommitOutcome};
-ghost use Rattle.proto_records.specs.Known.{CountsJournal};
+ghost use Rattle.proto_journal_records.specs.Known.{CountsJournal};
 ghost use Rattle.proto_journal.specs.Written.{AddsTo, IsUnprepared, IsUnwritten};
-ghost use Rattle.proto_entries.specs.EditsAsked.{IsNotable};
-ghost use Rattle.proto_records.specs.Records.{done, opened};
+ghost use Rattle.proto_edit_entries.specs.EditsAsked.{IsNotable};
+ghost use Rattle.proto_journal_records.specs.Records.{done, opened};
 ghost use Rattle.proto_store.specs.Stores.{HoldsFiles};
 
 use crate::reading::ready_text;
 use crate::writing::write_through;
+use proto_base::MAX_JOURNAL_LEN;
 use proto_edit::laws::accepted_are_notable;
 use proto_edit::{Edit, Entry, Workspace};
-use proto_faults::MAX_JOURNAL_LEN;
-use proto_records::laws::{journals_grow_and_shrink, records_have_one_text};
-use proto_records::{JournalFault, State, Version, with_record};
+use proto_journal_records::laws::{journals_grow_and_shrink, records_have_one_text};
+use proto_journal_records::{JournalFault, State, Version, with_record};
 use proto_store::{Store, StoreFault};
 use std::alloc::Global;
 use std::mem;

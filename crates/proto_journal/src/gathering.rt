@@ -6,12 +6,12 @@ ghost use Rattle.proto_files.specs.Faults.{IsFilesError};
 ghost use Rattle.proto_files.specs.GivenFiles.{files_of, paths_of};
 ghost use Rattle.proto_files.specs.PathFaults.{PathFaults};
 ghost use Rattle.proto_journal.specs.Loads.{ArePathsOf, AreSoundPaths, CountsLoad, IsLoadFault};
-ghost use Rattle.proto_records.specs.Known.{Over};
+ghost use Rattle.proto_journal_records.specs.Known.{Over};
 ghost use Rattle.proto_store.specs.Reading.{CountsReading};
 ghost use Rattle.proto_store.specs.Stores.{AreInPathOrder, HoldsFiles};
 
 use crate::loading::LoadFault;
-use proto_faults::SchemaFault;
+use proto_base::SchemaFault;
 use proto_files::Paths;
 use proto_store::{ReadingFault, Store};
 use std::alloc::Global;

@@ -2,11 +2,11 @@
 //! whoever builds on them. None of these does anything.
 
 ghost use Rattle.proto_journal.specs.Laws.{CommitsAreOne, CutCommitsComeBack, CutUndosComeBack, TornUndoIsTorn, UndosAreOne};
-ghost use Rattle.proto_records.specs.RecoveryLaws.{TornBetweenIsTorn};
+ghost use Rattle.proto_journal_records.specs.RecoveryLaws.{TornBetweenIsTorn};
 
 use proto_edit::laws::answers_are_one as edits_are_one;
-use proto_records::laws::{journals_are_read_in_one_way, journals_grow_and_shrink};
-use proto_records::recovery_laws::{recoveries_are_one, torn_stores_come_back};
+use proto_journal_records::laws::{journals_are_read_in_one_way, journals_grow_and_shrink};
+use proto_journal_records::recovery_laws::{recoveries_are_one, torn_stores_come_back};
 
 /// Where no call of a store fails and memory is there, the store and the workspace decide what a
 /// commit or an undo answers, and what it leaves.

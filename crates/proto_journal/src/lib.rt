@@ -14,7 +14,7 @@ pub use committing::commit;
 pub use gathering::sound_files;
 pub use loading::{LoadFault, load};
 pub use proto_edit::{Change, Edit, Entry, NoMemory, Refusal, Workspace, to_json};
-pub use proto_records::{
+pub use proto_journal_records::{
     JournalFault, Record, State, entry_text, migrate, read_entry, read_records, recover,
 };
 pub use proto_store::{FolderStore, MemoryStore, ReadingFault, Store, StoreFault, all_files};

@@ -4,8 +4,8 @@ ghost use Rattle.std.specs.Prelude.{◌≡◌, ◌-◌, ◌^◌, ◌<◌};
 ghost use Rattle.proto_journal.specs.Loads.{CountsLoad, LoadOutcome, load_fault_name, load_fault_number};
 
 use crate::gathering::sound_files;
+use proto_base::{Fault, SchemaFault};
 use proto_edit::Workspace;
-use proto_faults::{Fault, SchemaFault};
 use proto_store::{ReadingFault, Store};
 use std::alloc::Global;
 use thiserror::Error;

@@ -1,12 +1,14 @@
 //! What a journal says before it is written.
 
 ghost use Rattle.std.specs.Prelude.{◌≡◌, ◌-◌, ◌^◌, ◌<◌, IfOk};
-ghost use Rattle.proto_records.specs.Known.{CountsJournal, Over};
-ghost use Rattle.proto_records.specs.ReadJournals.{IsReadyWith};
+ghost use Rattle.proto_journal_records.specs.Known.{CountsJournal, Over};
+ghost use Rattle.proto_journal_records.specs.ReadJournals.{IsReadyWith};
 ghost use Rattle.proto_journal.specs.Loads.{ReadyOutcome};
 ghost use Rattle.proto_journal.specs.Written.{IsReadyText};
 
-use proto_records::{JournalFault, Record, Version, last_is_open, read_journal, second_text};
+use proto_journal_records::{
+    JournalFault, Record, Version, last_is_open, read_journal, second_text,
+};
 use proto_store::{Store, StoreFault};
 use std::alloc::Global;
 

@@ -1,17 +1,17 @@
 //! Undoing the last entry, in the store and in the workspace.
 
 ghost use Rattle.std.specs.Prelude.{◌-◌, ◌^◌, ◌<◌, IfOk};
-ghost use Rattle.proto_records.specs.Journals.{IsTold};
-ghost use Rattle.proto_records.specs.Known.{CountsJournal};
+ghost use Rattle.proto_journal_records.specs.Journals.{IsTold};
+ghost use Rattle.proto_journal_records.specs.Known.{CountsJournal};
 ghost use Rattle.proto_journal.specs.Undoing.{UndoOutcome};
 ghost use Rattle.proto_journal.specs.Written.{LastOutcome, Reopens, Shortens};
 ghost use Rattle.proto_store.specs.Stores.{HoldsFiles};
 
 use crate::writing::write_through;
+use proto_base::NoMemory;
 use proto_edit::{Entry, Workspace};
-use proto_faults::NoMemory;
-use proto_records::laws::{journals_grow_and_shrink, records_have_one_text};
-use proto_records::{
+use proto_journal_records::laws::{journals_grow_and_shrink, records_have_one_text};
+use proto_journal_records::{
     JournalFault, Record, State, Version, last_is_open, read_journal, with_record, without_last,
 };
 use proto_store::{Store, StoreFault};

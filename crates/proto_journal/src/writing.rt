@@ -1,7 +1,7 @@
 //! The one way in which files and journal are written.
 
 ghost use Rattle.std.specs.Prelude.{◌≡◌, ◌-◌, ◌^◌, ◌<◌, IfOk, OnErr, OnOk, length, map, option_map};
-ghost use Rattle.proto_entries.specs.Entries.{change_of};
+ghost use Rattle.proto_edit_entries.specs.Entries.{change_of};
 ghost use Rattle.proto_files.specs.GivenFiles.{file_at};
 ghost use Rattle.proto_store.specs.Stores.{Counts, HoldsFiles, IsListed, with_file};
 ghost use Rattle.proto_journal.specs.Written.{AreBetween, DifferBy, IsHalfReplaced, IsFileReplaced, Passes, held, with_these_files};

@@ -2,7 +2,7 @@
 use Rattle.std.proofs.Common.{◌≡◌, ℕ, suc, ◌+◌, ◌<◌, Bool, List, [], ◌++◌, length, map, drop, drop-cons, sym, ap, ◌∙◌, append_assoc, arith}
 use Rattle.proto_tree.specs.Tree.{End}
 use Rattle.proto_files.proofs.Common.{FileOf, file_at, ReadOf, AreRead}
-use Rattle.proto_findings.specs.Listings.{FindingOf, found_in}
+use Rattle.proto_lint_names.specs.Listings.{FindingOf, found_in}
 use Rattle.proto_lint.specs.Findings.{file_finds, findings_from}
 
 module _ (files : List FileOf) (reads : List ReadOf) where

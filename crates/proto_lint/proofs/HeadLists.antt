@@ -1,13 +1,13 @@
 -- Heads, and the parts of what they say.
 use Rattle.std.proofs.Common.{◌≡◌, ℕ, zero, suc, ◌+◌, ◌<◌, ◌≤◌, ◌&&◌, Bool, true, false, not, List, [], ◌∷◌, ◌++◌, length, get_or, map, drop, cond, nat_lt, find, Option, Some, None, IfSome, MatchOption, option_map, Bor, refl, sym, ◌∙◌, ap, inl, inr, arith, ◌==◌, codes, slice_get, is_some, option_and_then, bytes_eq}
-use Rattle.proto_faults.proofs.Common.{list_all, list_any, position_or_len, rsplit_once, cases_Bool, cases_lt, cond-true, cond-false, both_ways, false_from_ne_true, or_right, nat_tests, length-map, find_at, same_from_word, word_from_same}
+use Rattle.proto_base.proofs.Common.{list_all, list_any, position_or_len, rsplit_once, cases_Bool, cases_lt, cond-true, cond-false, both_ways, false_from_ne_true, or_right, nat_tests, length-map, find_at, same_from_word, word_from_same}
 use Rattle.proto_text.specs.declared.lexer.Token.{Token}
 use Rattle.proto_text.proofs.Common.{AreTokens, lexeme_at, one_token_list}
 use Rattle.proto_tree.specs.Tree.{Tree}
 use Rattle.proto_files.proofs.Common.{FileOf, file_at, ReadOf, AreRead, read_at, IsTreeOf, same_tree}
-use Rattle.proto_meaning.specs.Faults.{file_with_path}
-use Rattle.proto_findings.proofs.LastSplit.{split_whole}
-use Rattle.proto_findings.proofs.Common.{back_or, behind_last, Reading}
+use Rattle.proto_names_rules.specs.Faults.{file_with_path}
+use Rattle.proto_lint_names.proofs.LastSplit.{split_whole}
+use Rattle.proto_lint_names.proofs.Common.{back_or, behind_last, Reading}
 use Rattle.proto_lint.specs.Common.{head_of, head_of_file, is_there, IsProtoPath, Head}
 
 -- ---- names

@@ -1,16 +1,16 @@
 -- The import statements of trees.
 use Rattle.std.proofs.Common.{◌≡◌, ℕ, ◌+◌, ◌<◌, List, [], ◌∷◌, ◌++◌, Bor, length, get_or, map, take, refl, sym, ◌∙◌, ap, subst, is_some, Contains, flat_map, append-nil}
-use Rattle.proto_faults.proofs.Common.{flat_map-append, map-append, contains_map}
+use Rattle.proto_base.proofs.Common.{flat_map-append, map-append, contains_map}
 use Rattle.proto_text.specs.declared.lexer.Token.{Token}
 use Rattle.proto_text.proofs.Common.{IsString, words}
 use Rattle.proto_tree.specs.declared.piece.Statement.{Statement}
 use Rattle.proto_tree.specs.declared.piece.Statement.TheVariants as statement
 use Rattle.proto_tree.specs.declared.tree.Import.{Import}
 use Rattle.proto_tree.proofs.Common.{Reads, Tree, End, Leaf, Block, joined_trees}
-use Rattle.proto_listing.proofs.Common.{Wanted, imports_are_strings}
-use Rattle.proto_listing.specs.FromTree as names
-use Rattle.proto_imports.proofs.Turned.{take_more}
-use Rattle.proto_parts.proofs.Common.{statements, statements_joined}
+use Rattle.proto_names_outline.proofs.Common.{Wanted, imports_are_strings}
+use Rattle.proto_names_outline.specs.FromTree as names
+use Rattle.proto_names_imports.proofs.Turned.{take_more}
+use Rattle.proto_ast.proofs.Common.{statements, statements_joined}
 use Rattle.proto_lint.specs.Imports.{import_statements_in, statement_import}
 
 pub imports_joined : (t u : Tree) → import_statements_in (joined_trees t u) ≡ import_statements_in t ++ import_statements_in u

@@ -2,11 +2,11 @@
 use Rattle.std.proofs.Common.{◌≡◌, ℕ, ◌<◌, Bool, List, [], ◌++◌, length, get_or, sym, ap, ◌∙◌, append_assoc, arith}
 use Rattle.proto_tree.specs.Tree.{Tree}
 use Rattle.proto_files.proofs.Common.{FileOf, file_at, paths_of, ReadOf, AreRead, read_at, IsTreeOf, same_tree}
-use Rattle.proto_meaning.specs.Joined.{joined}
-use Rattle.proto_imports.specs.Links.{names_of_files}
-use Rattle.proto_findings.proofs.Common.{package_words, read_of_file, Reading, Found}
-use Rattle.proto_block_rules.specs.Blocks.{file_blocks}
-use Rattle.proto_block_rules.specs.BlockFinds.{all_messages, blocks_finds}
+use Rattle.proto_names_rules.specs.Joined.{joined}
+use Rattle.proto_names_imports.specs.Links.{names_of_files}
+use Rattle.proto_lint_names.proofs.Common.{package_words, read_of_file, Reading, Found}
+use Rattle.proto_lint_names.specs.Blocks.{file_blocks}
+use Rattle.proto_lint_names.specs.BlockFinds.{all_messages, blocks_finds}
 use Rattle.proto_lint.specs.Common.{head_of_file, heads, imports_finds, Head, head_finds, package_name}
 use Rattle.proto_lint.proofs.FileHeads.{heads_at, heads_count}
 use Rattle.proto_lint.specs.Findings.{file_finds}

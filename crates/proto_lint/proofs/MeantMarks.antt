@@ -1,7 +1,7 @@
 -- Marks of what references mean.
 use Rattle.std.proofs.Common.{◌≡◌, ◌⊎◌, ◌↔◌, ℕ, ◌+◌, ◌<◌, Bool, true, false, List, [], ◌∷◌, ◌++◌, length, get_or, take, Option, None, Some, refl, sym, ◌∙◌, ap, subst, inl, inr, arith, slice_set, get_or-set_same, get_or-set_other, length-set}
-use Rattle.proto_faults.proofs.Common.{cases_eq, Contains-append_left, Contains-append_right, Contains-append_cases, none-some, same_Some, contains_cases, contains_head}
-use Rattle.proto_imports.proofs.Common.{IsMarked, take_more}
+use Rattle.proto_base.proofs.Common.{cases_eq, Contains-append_left, Contains-append_right, Contains-append_cases, none-some, same_Some, contains_cases, contains_head}
+use Rattle.proto_names_imports.proofs.Common.{IsMarked, take_more}
 use Rattle.proto_names.specs.Linking.{LinkOf, declaring_file}
 use Rattle.proto_names.specs.Linking.{Meant}
 use Rattle.proto_lint.specs.ImportTables.{MarksMeant, MeansIn, with_mark}

@@ -1,12 +1,12 @@
 -- The lists of the files that are imported publicly are those of the link's imports.
 use Rattle.std.proofs.Common.{◌≡◌, ℕ, zero, suc, ◌+◌, ◌<◌, Bool, true, false, List, [], ◌∷◌, ◌++◌, length, get_or, map, take, option_map, Option, None, Some, refl, sym, ◌∙◌, ap, subst, inl, inr, arith, if◌then◌else◌, option_to_list, All, Contains, filter_map, bytes_eq}
-use Rattle.proto_faults.proofs.Common.{cons_option, Contains-append_left, Contains-append_right, Contains-append_cases, Contains-get_or, filter_map-append, map-append, position-Some, none-some, same_Some, or_nothing, contains_cases, contains_head, contains_later, contains_map, from_map}
+use Rattle.proto_base.proofs.Common.{cons_option, Contains-append_left, Contains-append_right, Contains-append_cases, Contains-get_or, filter_map-append, map-append, position-Some, none-some, same_Some, or_nothing, contains_cases, contains_head, contains_later, contains_map, from_map}
 use Rattle.proto_text.specs.Values.{value_of}
 use Rattle.proto_files.proofs.Common.{FileOf, paths_of, ReadOf, AreRead, read_at}
-use Rattle.proto_meaning.proofs.Common.{AskedImport, file_with_path, import_from_asked, At, at, Import}
-use Rattle.proto_listing.proofs.Common.{Wanted, imports_in, wanted_of}
-use Rattle.proto_listing.specs.declared.wanted.Wanted.{Wanted as WantedAt}
-use Rattle.proto_imports.proofs.Common.{all_wanted, asked_as, link_imports, text_of, contains_filtered, contains_within, take_more}
+use Rattle.proto_names_rules.proofs.Common.{AskedImport, file_with_path, import_from_asked, At, at, Import}
+use Rattle.proto_names_outline.proofs.Common.{Wanted, imports_in, wanted_of}
+use Rattle.proto_names_outline.specs.declared.wanted.Wanted.{Wanted as WantedAt}
+use Rattle.proto_names_imports.proofs.Common.{all_wanted, asked_as, link_imports, text_of, contains_filtered, contains_within, take_more}
 use Rattle.proto_lint.specs.ImportTables.{ArePublic, public_target, public_targets}
 
 -- ---- what a list keeps

@@ -1,7 +1,7 @@
 -- What is reached by public imports: the relation, and walks along the lists of files.
 use Rattle.std.proofs.Common.{ℕ, ◌<◌, List, refl, sym, subst}
-use Rattle.proto_meaning.proofs.Common.{Import, Workspace, Reaches, here, along, ImportsAreOfFiles}
-use Rattle.proto_imports.specs.Walks.{Walks, stays, goes}
+use Rattle.proto_names_rules.proofs.Common.{Import, Workspace, Reaches, here, along, ImportsAreOfFiles}
+use Rattle.proto_names_imports.specs.Walks.{Walks, stays, goes}
 use Rattle.proto_lint.specs.ImportTables.{ArePublic}
 
 pub walk_reaches : (next : List (List ℕ)) (imports : List Import) → ArePublic next imports → {f g : ℕ} → Walks next f g → Reaches imports f g

@@ -1,11 +1,11 @@
 -- An import is used where the files that declare what references mean are reached from its file.
 use Rattle.std.proofs.Common.{◌≡◌, ◌≢◌, ◌↔◌, ℕ, suc, ◌+◌, ◌<◌, Bool, true, false, ◌&&◌, if◌then◌else◌, List, [], ◌∷◌, length, get_or, map, option_map, Option, None, Some, refl, sym, ◌∙◌, ap, subst, inl, inr, arith, ◌==◌, Contains, option_and_then, true≢false, eqb-true, eq-eqb}
-use Rattle.proto_faults.proofs.Common.{and_parts, and_from, length-map, Contains-append_cases, Contains-get_or, none-some, same_Some, any_from, any_to, contains_map, from_map}
+use Rattle.proto_base.proofs.Common.{and_parts, and_from, length-map, Contains-append_cases, Contains-get_or, none-some, same_Some, any_from, any_to, contains_map, from_map}
 use Rattle.proto_files.proofs.Common.{FileOf, ReadOf, AreRead}
-use Rattle.proto_meaning.proofs.Common.{place_from, place_of, At, at, FileNames, all_declared, all_used, declared_of, file_declared, used_in, ArePlain, joined, is_package, Symbol, Reference, Workspace, Reaches, is_type, meaning, reaches, same_name, Source, Token, EntryOf, Given, Declared, Used, name_of, reference_of, shifted_declared, shifted_source, symbol_of, Placed, file_placed, name_from_same, same_from_name, joined_apart, meant as meant_type, reaches_all, reaches_only}
-use Rattle.proto_meaning.specs.declared.kind.Kind.{Kind}
-use Rattle.proto_meaning.specs.declared.kind.Kind.TheVariants.{Package, Message, Entry, Enum, Service, Field, EntryField, Extension, Oneof, Value, Method}
-use Rattle.proto_imports.proofs.Common.{link_skeleton, names_in, names_of_files, text_of, use_from, use_in, marked_within, used_named, uses_of}
+use Rattle.proto_names_rules.proofs.Common.{place_from, place_of, At, at, FileNames, all_declared, all_used, declared_of, file_declared, used_in, ArePlain, joined, is_package, Symbol, Reference, Workspace, Reaches, is_type, meaning, reaches, same_name, Source, Token, EntryOf, Given, Declared, Used, name_of, reference_of, shifted_declared, shifted_source, symbol_of, Placed, file_placed, name_from_same, same_from_name, joined_apart, meant as meant_type, reaches_all, reaches_only}
+use Rattle.proto_names_rules.specs.declared.kind.Kind.{Kind}
+use Rattle.proto_names_rules.specs.declared.kind.Kind.TheVariants.{Package, Message, Entry, Enum, Service, Field, EntryField, Extension, Oneof, Value, Method}
+use Rattle.proto_names_imports.proofs.Common.{link_skeleton, names_in, names_of_files, text_of, use_from, use_in, marked_within, used_named, uses_of}
 use Rattle.proto_names.proofs.Common.{IsLinkRead, TextMeant, meant_by_link, meant_by_use, LinkOf, NameOf, declaring_file, name_at, own_file, name_declared_as}
 use Rattle.proto_case.specs.Camel.{entry_name}
 use Rattle.proto_lint.specs.Common.{is_reached, is_used, LeadsToMarked, MarksMeant}

@@ -1,13 +1,13 @@
 -- What is found of an import that leads to no file that a reference needs.
 use Rattle.std.proofs.Common.{◌≡◌, ◌↔◌, ◌||◌, ℕ, ◌<◌, Bool, true, false, List, [], ◌++◌, length, map, Option, None, Some, refl, sym, ◌∙◌, ap, arith, is_some, if◌then◌else◌, bytes_eq}
-use Rattle.proto_faults.proofs.Common.{length-map, position-Some}
+use Rattle.proto_base.proofs.Common.{length-map, position-Some}
 use Rattle.proto_tree.specs.declared.tree.Import.{Import}
 use Rattle.proto_files.proofs.Common.{FileOf, paths_of, ReadOf, AreRead}
-use Rattle.proto_meaning.proofs.Common.{file_with_path, Workspace}
-use Rattle.proto_imports.specs.Links.{link_imports, names_of_files}
-use Rattle.proto_rules.specs.declared.rule.Rule.TheVariants as rule
-use Rattle.proto_findings.proofs.Common.{Found, found_at, found_by, unless, Reading}
-use Rattle.proto_rules.specs.Rules.{is_chosen}
+use Rattle.proto_names_rules.proofs.Common.{file_with_path, Workspace}
+use Rattle.proto_names_imports.specs.Links.{link_imports, names_of_files}
+use Rattle.proto_lint_rules.specs.declared.rule.Rule.TheVariants as rule
+use Rattle.proto_lint_names.proofs.Common.{Found, found_at, found_by, unless, Reading}
+use Rattle.proto_lint_rules.specs.Rules.{is_chosen}
 use Rattle.proto_lint.specs.Common.{import_used, is_used, import_path, LeadsToMarked, MarksUsed}
 
 same_truth : (a b : Bool) → (a ≡ true) ↔ (b ≡ true) → a ≡ b

@@ -2,16 +2,16 @@
 use Rattle.std.specs.Prelude.{ℕ, suc, Bool, List, [], ◌∷◌, ◌++◌, map}
 use Rattle.proto_files.specs.GivenFiles.{FileOf, file_at, paths_of}
 use Rattle.proto_files.specs.FilesRead.{ReadOf, read_at}
-use Rattle.proto_imports.specs.Links.{names_of_files}
-use Rattle.proto_findings.specs.Readings.{read_of_file}
-use Rattle.proto_findings.specs.Placed.{Found}
-use Rattle.proto_findings.specs.Listings.{found_in}
-use Rattle.proto_block_rules.specs.Blocks.{file_blocks}
-use Rattle.proto_block_rules.specs.BlockFinds.{all_messages, blocks_finds}
+use Rattle.proto_names_imports.specs.Links.{names_of_files}
+use Rattle.proto_lint_names.specs.Readings.{read_of_file}
+use Rattle.proto_lint_names.specs.Placed.{Found}
+use Rattle.proto_lint_names.specs.Listings.{found_in}
+use Rattle.proto_lint_names.specs.Blocks.{file_blocks}
+use Rattle.proto_lint_names.specs.BlockFinds.{all_messages, blocks_finds}
 use Rattle.proto_lint.specs.Imports.{imports_finds}
 use Rattle.proto_lint.specs.Packages.{head_finds}
 use Rattle.proto_lint.specs.Heads.{head_of_file, heads}
-pub use Rattle.proto_findings.specs.Listings.{FindingOf, IsListingOf}
+pub use Rattle.proto_lint_names.specs.Listings.{FindingOf, IsListingOf}
 
 -- what the rules find in a file, by its number: at its head, its imports and its blocks
 abbrev pub file_finds : List Bool → List FileOf → List ReadOf → ℕ → List Found

@@ -1,15 +1,15 @@
 -- What is read of the files: their heads.
 use Rattle.std.specs.Prelude.{◌≡◌, ℕ, suc, Bool, true, false, List, [], ◌∷◌, ◌++◌, codes}
-use Rattle.proto_faults.specs.Texts.{Path, Text}
+use Rattle.proto_base.specs.Texts.{Path, Text}
 use Rattle.proto_text.specs.declared.lexer.Token.{Token}
 use Rattle.proto_text.specs.Texts.{offset_at}
 use Rattle.proto_tree.specs.Tree.{Tree}
 use Rattle.proto_files.specs.GivenFiles.{FileOf, file_at}
-use Rattle.proto_meaning.specs.Tree.{package_of}
-use Rattle.proto_listing.specs.FromTree.{items_in}
+use Rattle.proto_names_rules.specs.Tree.{package_of}
+use Rattle.proto_names_outline.specs.FromTree.{items_in}
 use Rattle.proto_files.specs.FilesRead.{ReadOf, read_at}
-use Rattle.proto_parts.specs.Parts.{syntax_texts_in}
-use Rattle.proto_findings.specs.Readings.{package_words, Reading, read_of_file}
+use Rattle.proto_ast.specs.Parts.{syntax_texts_in}
+use Rattle.proto_lint_names.specs.Readings.{package_words, Reading, read_of_file}
 use Rattle.proto_lint.specs.Packages.{Head}
 
 -- a path ends in `.proto`

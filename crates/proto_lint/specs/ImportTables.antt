@@ -1,16 +1,16 @@
 -- Tables of the imports of files, and the files in which the meanings of references are declared.
 use Rattle.std.specs.Prelude.{◌≡◌, ◌↔◌, ℕ, ◌<◌, Bool, true, if◌then◌else◌, List, [], length, get_or, map, slice_set, Option, Some, None}
 use Rattle.std.specs.List.{All, Contains, filter_map}
-use Rattle.proto_faults.specs.Texts.{Path, Text, or_nothing}
+use Rattle.proto_base.specs.Texts.{Path, Text, or_nothing}
 use Rattle.proto_text.specs.Values.{value_of}
 use Rattle.proto_files.specs.GivenFiles.{FileOf, paths_of}
-use Rattle.proto_meaning.specs.Faults.{file_with_path}
-use Rattle.proto_meaning.specs.Names.{Import, Reaches}
-use Rattle.proto_listing.specs.FromTree.{Wanted}
-use Rattle.proto_imports.specs.ImportSteps.{IsFileIndex}
+use Rattle.proto_names_rules.specs.Faults.{file_with_path}
+use Rattle.proto_names_rules.specs.Names.{Import, Reaches}
+use Rattle.proto_names_outline.specs.FromTree.{Wanted}
+use Rattle.proto_names_imports.specs.ImportSteps.{IsFileIndex}
 use Rattle.proto_files.specs.FilesRead.{ReadOf, AreRead}
-use Rattle.proto_imports.specs.Links.{link_imports, names_of_files}
-use Rattle.proto_imports.specs.Walks.{IsMarked}
+use Rattle.proto_names_imports.specs.Links.{link_imports, names_of_files}
+use Rattle.proto_names_imports.specs.Walks.{IsMarked}
 use Rattle.proto_names.specs.Linking.{LinkOf, declaring_file}
 use Rattle.proto_names.specs.Linking.{Meant}
 use Rattle.proto_lint.specs.Imports.{is_used}

@@ -1,18 +1,18 @@
 -- The rules of imports.
 use Rattle.std.specs.Prelude.{ℕ, Bool, false, not, ◌||◌, ◌&&◌, ◌==◌, List, [], ◌∷◌, ◌++◌, flat_map, Option, Some, None, is_some}
 use Rattle.std.specs.List.{list_any}
-use Rattle.proto_faults.specs.Texts.{Path, Text, or_nothing}
+use Rattle.proto_base.specs.Texts.{Path, Text, or_nothing}
 use Rattle.proto_text.specs.Values.{value_of}
 use Rattle.proto_tree.specs.declared.tree.Import.{Import}
 use Rattle.proto_tree.specs.declared.piece.Statement.{Statement}
 use Rattle.proto_tree.specs.declared.piece.Statement.TheVariants as statement
 use Rattle.proto_tree.specs.Tree.{Tree}
-use Rattle.proto_meaning.specs.Faults.{file_with_path}
-use Rattle.proto_meaning.specs.Names.{Workspace, meaning, reaches, same_name}
-use Rattle.proto_parts.specs.Parts.{statements}
-use Rattle.proto_rules.specs.declared.rule.Rule.TheVariants as rule
-use Rattle.proto_findings.specs.Placed.{Found, NamedToken, found_by, unless}
-use Rattle.proto_findings.specs.Readings.{Reading, word_in}
+use Rattle.proto_names_rules.specs.Faults.{file_with_path}
+use Rattle.proto_names_rules.specs.Names.{Workspace, meaning, reaches, same_name}
+use Rattle.proto_ast.specs.Parts.{statements}
+use Rattle.proto_lint_rules.specs.declared.rule.Rule.TheVariants as rule
+use Rattle.proto_lint_names.specs.Placed.{Found, NamedToken, found_by, unless}
+use Rattle.proto_lint_names.specs.Readings.{Reading, word_in}
 
 -- the import that a statement is
 abbrev pub statement_import : Statement → List Import

@@ -5,5 +5,5 @@ pub mod ImportTables
 pub mod Imports
 pub mod Linters
 pub mod Packages
-pub use Rattle.proto_rules.specs.Rules
-pub use Rattle.proto_findings.specs.Views
+pub use Rattle.proto_lint_rules.specs.Rules
+pub use Rattle.proto_lint_names.specs.Views

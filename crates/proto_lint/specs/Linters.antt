@@ -2,7 +2,7 @@
 use Rattle.std.specs.Prelude.{◌≡◌, List}
 use Rattle.proto_files.specs.FilesRead.{ReadOf, AreRead}
 use Rattle.proto_names.specs.LinkOfFiles.{IsLinkOf}
-use Rattle.proto_block_rules.specs.BlockFinds.{all_messages}
+use Rattle.proto_lint_names.specs.BlockFinds.{all_messages}
 use Rattle.proto_lint.specs.Heads.{heads}
 use Rattle.proto_lint.specs.ImportTables.{AreImportTablesOf}
 use Rattle.proto_lint.specs.declared.linting.Linter.{Linter}

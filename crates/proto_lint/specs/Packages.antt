@@ -2,15 +2,15 @@
 use Rattle.std.specs.Prelude.{ℕ, Bool, true, not, ◌||◌, ◌&&◌, ◌==◌, if◌then◌else◌, List, [], ◌∷◌, ◌++◌, map, find, length, take, ◌-◌, Option, Some, None}
 use Rattle.std.specs.List.{list_all}
 use Rattle.std.specs.Str.{bytes_eq}
-use Rattle.proto_faults.specs.Ascii as ascii
-use Rattle.proto_faults.specs.Texts.{Path, Text}
-use Rattle.proto_meaning.specs.Joined.{joined}
+use Rattle.proto_base.specs.Ascii as ascii
+use Rattle.proto_base.specs.Texts.{Path, Text}
+use Rattle.proto_names_rules.specs.Joined.{joined}
 use Rattle.proto_case.specs.Cases.{is_lower_snake}
 use Rattle.proto_case.specs.Versions.{is_version, is_empty_text}
-use Rattle.proto_rules.specs.declared.rule.Rule.{Rule}
-use Rattle.proto_rules.specs.declared.rule.Rule.TheVariants as rule
-use Rattle.proto_findings.specs.Placed.{Found, before_last, behind_last}
-use Rattle.proto_rules.specs.Rules.{is_chosen}
+use Rattle.proto_lint_rules.specs.declared.rule.Rule.{Rule}
+use Rattle.proto_lint_rules.specs.declared.rule.Rule.TheVariants as rule
+use Rattle.proto_lint_names.specs.Placed.{Found, before_last, behind_last}
+use Rattle.proto_lint_rules.specs.Rules.{is_chosen}
 
 -- what is read of a file: its path, the words of its package (none without one), where the
 -- package's name begins (0 without), and whether it has a syntax statement

@@ -4,19 +4,19 @@ ghost use Rattle.std.specs.Prelude.{◌≡◌, ◌<◌, ◌≤◌, ◌^◌, ◌�
 ghost use Rattle.std.specs.String.{string_bytes};
 ghost use Rattle.std.specs.Str.{bytes_eq};
 ghost use Rattle.proto_text.specs.Texts.{word_at};
-ghost use Rattle.proto_meaning.specs.Joined.{joined};
-ghost use Rattle.proto_imports.specs.ImportSteps.{IsFileIndex};
+ghost use Rattle.proto_names_rules.specs.Joined.{joined};
+ghost use Rattle.proto_names_imports.specs.ImportSteps.{IsFileIndex};
 ghost use Rattle.proto_files.specs.FilesRead.{ReadOf, AreRead};
 ghost use Rattle.proto_lint.specs.Heads.{first_offset, head_of_file, heads};
 ghost use Rattle.proto_lint.specs.Packages.{Head, directory, file_name, package_name, stem};
 
 use indexmap::IndexMap;
-use proto_faults::NoMemory;
+use proto_ast::syntax_text;
+use proto_base::NoMemory;
 use proto_files::{Files, Words, offset_of};
-use proto_findings::{directory_of, file_name_of};
-use proto_imports::first_places::{first_places, place_of};
-use proto_listing::wanted::package;
-use proto_parts::syntax_text;
+use proto_lint_names::{directory_of, file_name_of};
+use proto_names_imports::first_places::{first_places, place_of};
+use proto_names_outline::wanted::package;
 use proto_text::Token;
 use std::alloc::Global;
 use std::marker::Model;
@@ -36,7 +36,7 @@ pub struct FileHead<'a> {
 impl<'a> Model for FileHead<'a> {
     ghost use Rattle.std.specs.Prelude.{◌≡◌, map};
     ghost use Rattle.std.specs.String.{string_bytes};
-    ghost use Rattle.proto_meaning.specs.Joined.{joined};
+    ghost use Rattle.proto_names_rules.specs.Joined.{joined};
     ghost use Rattle.proto_lint.specs.Heads.{IsProtoPath};
     ghost use Rattle.proto_lint.specs.Packages.{Head};
 
@@ -64,7 +64,7 @@ pub struct Heads<'a> {
 
 impl<'a> Model for Heads<'a> {
     ghost use Rattle.std.specs.Prelude.{List, map};
-    ghost use Rattle.proto_imports.specs.ImportSteps.{IsFileIndex};
+    ghost use Rattle.proto_names_imports.specs.ImportSteps.{IsFileIndex};
     ghost use Rattle.proto_lint.specs.Packages.{Head, directory, package_name};
 
     ghost Value = { List Head };

@@ -6,33 +6,33 @@ ghost use Rattle.proto_text.specs.Strings.{IsString};
 ghost use Rattle.proto_text.specs.Texts.{word_at};
 ghost use Rattle.proto_tree.specs.File.{item_tree, tree_of_file};
 ghost use Rattle.proto_files.specs.GivenFiles.{paths_of};
-ghost use Rattle.proto_meaning.specs.Faults.{file_with_path};
-ghost use Rattle.proto_meaning.specs.Grown.{at};
-ghost use Rattle.proto_listing.specs.FromTree.{imports_in as wanted_in};
-ghost use Rattle.proto_listing.specs.Listing.{wanted_of};
-ghost use Rattle.proto_imports.specs.ImportSteps.{IsFileIndex};
+ghost use Rattle.proto_names_rules.specs.Faults.{file_with_path};
+ghost use Rattle.proto_names_rules.specs.Grown.{at};
+ghost use Rattle.proto_names_outline.specs.FromTree.{imports_in as wanted_in};
+ghost use Rattle.proto_names_outline.specs.Listing.{wanted_of};
+ghost use Rattle.proto_names_imports.specs.ImportSteps.{IsFileIndex};
 ghost use Rattle.proto_files.specs.FilesRead.{ReadOf, AreRead, Each, read_at};
-ghost use Rattle.proto_imports.specs.Links.{link_imports, names_of_files, text_of};
+ghost use Rattle.proto_names_imports.specs.Links.{link_imports, names_of_files, text_of};
 ghost use Rattle.proto_names.specs.LinkOfFiles.{IsLinkOf};
-ghost use Rattle.proto_findings.specs.Readings.{read_of_file, reading_of, word_in};
-ghost use Rattle.proto_findings.specs.Placed.{found_by};
-ghost use Rattle.proto_rules.specs.Rules.{is_chosen};
-ghost use Rattle.proto_findings.specs.Views.{found_of};
-ghost use Rattle.proto_rules.specs.declared.rule.Rule.TheVariants as rule;
+ghost use Rattle.proto_lint_names.specs.Readings.{read_of_file, reading_of, word_in};
+ghost use Rattle.proto_lint_names.specs.Placed.{found_by};
+ghost use Rattle.proto_lint_rules.specs.Rules.{is_chosen};
+ghost use Rattle.proto_lint_names.specs.Views.{found_of};
+ghost use Rattle.proto_lint_rules.specs.declared.rule.Rule.TheVariants as rule;
 ghost use Rattle.proto_lint.specs.Imports.{import_finds, import_no_public, import_used, imports_finds, import_statements_in};
 ghost use Rattle.proto_lint.specs.ImportTables.{AreImportTablesOf, LeadsToMarked, MarksUsed, public_target, public_targets};
 
 use crate::linting::Linter;
 use crate::uses::{share_a_mark, used_files};
 use indexmap::IndexMap;
-use proto_faults::NoMemory;
+use proto_base::NoMemory;
 use proto_files::{Files, Words, all_paths};
-use proto_findings::{Found, Reading, Rule, RuleSet, add_unless};
-use proto_imports::first_places::{first_places, place_of};
-use proto_imports::walk::reached_files;
-use proto_listing::wanted;
-use proto_listing::wanted::Wanted;
+use proto_lint_names::{Found, Reading, Rule, RuleSet, add_unless};
 use proto_names::{Link, are_read};
+use proto_names_imports::first_places::{first_places, place_of};
+use proto_names_imports::walk::reached_files;
+use proto_names_outline::wanted;
+use proto_names_outline::wanted::Wanted;
 use proto_text::string_value;
 use proto_tree::{File, Import, Item};
 use std::alloc::Global;
@@ -277,7 +277,7 @@ fn import(item: &Item) -> Option<&Import>
     }
 }
 
-// Beside `imports` of proto_listing, which leaves out the keyword where findings stand.
+// Beside `imports` of proto_names_outline, which leaves out the keyword where findings stand.
 /// The import statements of a file.
 fn import_statements<'a>(alloc: Global, file: &'a File) -> Result<Vec<&'a Import>, NoMemory>
     ensures { IfOk result (λ imports. map (λ i. i.now) imports.items

@@ -9,5 +9,5 @@ mod packages;
 mod uses;
 
 pub use linting::lint;
-pub use proto_faults::NoMemory;
-pub use proto_findings::{Finding, Rule, RuleSet, laws};
+pub use proto_base::NoMemory;
+pub use proto_lint_names::{Finding, Rule, RuleSet, laws};

@@ -3,18 +3,20 @@
 ghost use Rattle.std.specs.Prelude.{◌≡◌, ◌<◌, List, length, map, IfOk};
 ghost use Rattle.proto_files.specs.FilesRead.{ReadOf, AreRead};
 ghost use Rattle.proto_names.specs.LinkOfFiles.{IsLinkOf};
-ghost use Rattle.proto_findings.specs.Listings.{IsListingOf};
-ghost use Rattle.proto_findings.specs.Views.{finding_of, found_of};
+ghost use Rattle.proto_lint_names.specs.Listings.{IsListingOf};
+ghost use Rattle.proto_lint_names.specs.Views.{finding_of, found_of};
 ghost use Rattle.proto_lint.specs.Findings.{file_finds, findings};
 ghost use Rattle.proto_lint.specs.Linters.{IsLinter};
 
 use crate::heads::Heads;
 use crate::imports::{Imports, add_imports};
 use crate::packages::add_head;
-use proto_block_rules::{Messages, Walk, add_blocks, messages_of};
-use proto_faults::NoMemory;
+use proto_base::NoMemory;
 use proto_files::Files;
-use proto_findings::{Finding, Found, Reading, RuleSet, add_findings, sorted_findings};
+use proto_lint_names::{
+    Finding, Found, Messages, Reading, RuleSet, Walk, add_blocks, add_findings, messages_of,
+    sorted_findings,
+};
 use proto_names::{Link, are_read};
 use std::alloc::Global;
 

@@ -3,16 +3,16 @@
 ghost use Rattle.std.specs.Prelude.{◌≡◌, ◌==◌, if◌then◌else◌, ◌<◌, ◌∷◌, [], ◌++◌, length, get_or, map, OnOk};
 ghost use Rattle.std.specs.List.{list_all};
 ghost use Rattle.std.specs.Str.{bytes_eq};
-ghost use Rattle.proto_faults.specs.Ascii as ascii;
+ghost use Rattle.proto_base.specs.Ascii as ascii;
 ghost use Rattle.proto_case.specs.Cases.{is_lower_snake};
-ghost use Rattle.proto_findings.specs.Views.{found_of};
-ghost use Rattle.proto_rules.specs.declared.rule.Rule.TheVariants as rule;
+ghost use Rattle.proto_lint_names.specs.Views.{found_of};
+ghost use Rattle.proto_lint_rules.specs.declared.rule.Rule.TheVariants as rule;
 ghost use Rattle.proto_lint.specs.Packages.{Head, file_name, found_unless, has_directory_like_package, has_directory_of_package, has_lower_snake_file, has_lower_snake_package, has_package, has_package_of_directory, has_version, head_finds, package_or_dash, package_unless, passes, slashed};
 
 use crate::heads::{FileHead, Heads};
+use proto_base::NoMemory;
 use proto_case::{is_lower_snake, is_version};
-use proto_faults::NoMemory;
-use proto_findings::{Found, Rule, RuleSet, last_part};
+use proto_lint_names::{Found, Rule, RuleSet, last_part};
 use std::alloc::Global;
 
 // ---- each rule, as what passes

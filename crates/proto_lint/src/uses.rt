@@ -1,15 +1,15 @@
 //! Which files are used by references.
 
 ghost use Rattle.std.specs.Prelude.{◌≡◌, ◌↔◌, ◌&&◌, ℕ, ◌<◌, [], length, get_or, true, false, IfOk};
-ghost use Rattle.proto_imports.specs.Walks.{IsMarked};
+ghost use Rattle.proto_names_imports.specs.Walks.{IsMarked};
 ghost use Rattle.proto_names.specs.LinkOfFiles.{IsLinkOf};
 ghost use Rattle.proto_names.specs.Linking.{declaring_file};
 ghost use Rattle.proto_lint.specs.ImportTables.{MarksMeant, MarksUsed, with_mark};
 
-use proto_faults::NoMemory;
+use proto_base::NoMemory;
 use proto_files::Files;
-use proto_imports::walk::unset_marks;
 use proto_names::{Link, Meant};
+use proto_names_imports::walk::unset_marks;
 use std::alloc::Global;
 
 /// Marks the file that declares what a reference means, if one alone does.

@@ -1,20 +1,20 @@
 -- A type that a name stands right below is declared by the name's file, and by no other.
 use Rattle.std.proofs.Common.{◌≡◌, ℕ, zero, suc, ◌<◌, true, List, [], ◌∷◌, ◌++◌, length, get_or, slice_get, Option, Some, None, refl, sym, ◌∙◌, ap, subst, inl, inr, arith, string_bytes, true≢false, All, Contains}
 use Rattle.std.proofs.lemmas.Option.{get_or_from_slice_get, slice_get_within}
-use Rattle.proto_faults.proofs.Common.{Vec, get_or-map, length-map}
+use Rattle.proto_base.proofs.Common.{Vec, get_or-map, length-map}
 use Rattle.proto_files.proofs.Common.{AreRead, FileOf, ReadOf}
-use Rattle.proto_imports.proofs.Common.{names_are_plain, names_of_files}
-use Rattle.proto_kept.specs.Marked.{IsScopeOf}
-use Rattle.proto_kept_references.specs.OuterRows.{is_below_type, is_row_below_type, is_type_number, is_type_row}
-use Rattle.proto_meaning.proofs.Common.{ArePlain, Symbol, front, is_type, joined, name_some, names_apart, one_symbol, under, under_apart}
+use Rattle.proto_names_imports.proofs.Common.{names_are_plain, names_of_files}
+use Rattle.proto_names_rules.specs.Marked.{IsScopeOf}
+use Rattle.proto_names_affected.specs.OuterRows.{is_below_type, is_row_below_type, is_type_number, is_type_row}
+use Rattle.proto_names_rules.proofs.Common.{ArePlain, Symbol, front, is_type, joined, name_some, names_apart, one_symbol, under, under_apart}
 use Rattle.proto_names.proofs.DeclaredRows.{IsRowOf, row_of_symbol}
 use Rattle.proto_names.proofs.Scopes.{plain_parts}
 use Rattle.proto_names.specs.Common.{AreNamesOf}
-use Rattle.proto_relink.proofs.Clean.{names_apart as symbols_apart, nested}
-use Rattle.proto_relink.specs.Relinked.{NoNameClashes}
-use Rattle.proto_table.proofs.Common.{IsTable, aboves_of, joined_more, look, names_of, pick}
-use Rattle.proto_table.specs.declared.table.Row.{Row}
-use Rattle.proto_table.specs.declared.table.Table.{Table}
+use Rattle.proto_names_update.proofs.Clean.{names_apart as symbols_apart, nested}
+use Rattle.proto_names_update.specs.Relinked.{NoNameClashes}
+use Rattle.proto_names_table.proofs.Common.{IsTable, aboves_of, joined_more, look, names_of, pick}
+use Rattle.proto_names_table.specs.declared.table.Row.{Row}
+use Rattle.proto_names_table.specs.declared.table.Table.{Table}
 
 -- the row of the type that a row's name stands right below
 record StandsBelow (t : Table) (row : ℕ) : Type 0 where

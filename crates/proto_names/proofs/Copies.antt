@@ -1,9 +1,9 @@
 -- A copy of a link has what the link has.
 use Rattle.std.proofs.Common.{◌≡◌, ◌<◌, List, [], ◌∷◌, length, get_or, map, sym, ◌∙◌, ap, subst, arith, cond, All}
-use Rattle.proto_faults.proofs.Common.{Vec, get_or-map, length-map}
-use Rattle.proto_table.specs.Tables.{AreAlike}
-use Rattle.proto_table.specs.declared.table.Table.{Table}
-use Rattle.proto_table.proofs.Alike.{of_rows}
+use Rattle.proto_base.proofs.Common.{Vec, get_or-map, length-map}
+use Rattle.proto_names_table.specs.Tables.{AreAlike}
+use Rattle.proto_names_table.specs.declared.table.Table.{Table}
+use Rattle.proto_names_table.proofs.Alike.{of_rows}
 use Rattle.proto_names.specs.Linking.{name_of_row}
 
 -- what holds of each list holds of each of the same lists

@@ -1,17 +1,17 @@
 -- The rows of what a file declares are those of its symbols.
 use Rattle.std.proofs.Common.{◌≡◌, ◌↔◌, ℕ, suc, ◌+◌, ◌<◌, List, [], length, get_or, map, refl, sym, ◌∙◌, ap, subst, arith, string_bytes, All, Contains}
-use Rattle.proto_faults.proofs.Common.{All-contains, Contains-get_or, Vec, contains_map, from_map, get_or-map, get_or_default, length-map}
+use Rattle.proto_base.proofs.Common.{All-contains, Contains-get_or, Vec, contains_map, from_map, get_or-map, get_or_default, length-map}
 use Rattle.proto_case.specs.Camel.{entry_name}
 use Rattle.proto_files.proofs.Common.{AreRead, FileOf, ReadOf, file_at, read_at}
-use Rattle.proto_imports.proofs.Common.{name_in, names_are_plain, names_in, names_of_files, text_of}
-use Rattle.proto_listing.proofs.Common.{items_in, package_first, same_declared, tree_span, whole}
-use Rattle.proto_meaning.proofs.Common.{ArePlain, At, FileAt, FileNames, Placed, Symbol, all_declared, at, declared_to, declares, file_placed, front, joined, joined_apart, name_of, names_apart, shifted_source, symbol_of}
-use Rattle.proto_meaning.proofs.Files.{declared_from}
+use Rattle.proto_names_imports.proofs.Common.{name_in, names_are_plain, names_in, names_of_files, text_of}
+use Rattle.proto_names_outline.proofs.Common.{items_in, package_first, same_declared, tree_span, whole}
+use Rattle.proto_names_rules.proofs.Common.{ArePlain, At, FileAt, FileNames, Placed, Symbol, all_declared, at, declared_to, declares, file_placed, front, joined, joined_apart, name_of, names_apart, shifted_source, symbol_of}
+use Rattle.proto_names_rules.proofs.Files.{declared_from}
 use Rattle.proto_names.specs.Common.{AreNamesOf, declared_names}
-use Rattle.proto_relink.proofs.Differing.{file_there, numbered}
-use Rattle.proto_table.proofs.Common.{IsTable, aboves_of, look, names_of, pick}
-use Rattle.proto_table.specs.declared.table.Row.{Row}
-use Rattle.proto_table.specs.declared.table.Table.{Table}
+use Rattle.proto_names_update.proofs.Differing.{file_there, numbered}
+use Rattle.proto_names_table.proofs.Common.{IsTable, aboves_of, look, names_of, pick}
+use Rattle.proto_names_table.specs.declared.table.Row.{Row}
+use Rattle.proto_names_table.specs.declared.table.Table.{Table}
 
 -- ---- a file's list of names, and its symbols
 

@@ -1,13 +1,13 @@
 -- What is said of each file, and of one file more.
 use Rattle.std.proofs.Common.{◌≡◌, ℕ, suc, ◌+◌, ◌<◌, List, [], ◌∷◌, ◌++◌, length, get_or, map, refl, sym, ◌∙◌, ap, subst, arith, All}
-use Rattle.proto_faults.proofs.Common.{length-map, get_or-map, All-append, All-cons, All-nil}
-use Rattle.proto_meaning.proofs.Common.{AskedImport, At, at}
-use Rattle.proto_listing.proofs.Common.{imports_in, items_in, package_first}
-use Rattle.proto_imports.proofs.Common.{asked_by, all_asked, asked_as, all_wanted, names_in}
-use Rattle.proto_table.proofs.Common.{named_as, tree_named, Named, named_in, all_named}
+use Rattle.proto_base.proofs.Common.{length-map, get_or-map, All-append, All-cons, All-nil}
+use Rattle.proto_names_rules.proofs.Common.{AskedImport, At, at}
+use Rattle.proto_names_outline.proofs.Common.{imports_in, items_in, package_first}
+use Rattle.proto_names_imports.proofs.Common.{asked_by, all_asked, asked_as, all_wanted, names_in}
+use Rattle.proto_names_table.proofs.Common.{named_as, tree_named, Named, named_in, all_named}
 use Rattle.proto_files.specs.FilesRead.{Each, ReadOf, read_at}
-use Rattle.proto_imports.specs.declared.import.WrittenImport.{WrittenImport}
-use Rattle.proto_table.specs.declared.spelled.Spelled.{Spelled}
+use Rattle.proto_names_imports.specs.declared.import.WrittenImport.{WrittenImport}
+use Rattle.proto_names_table.specs.declared.spelled.Spelled.{Spelled}
 
 pub all_pushed : {A : Type 0} (P : A → Type 0) (xs after : List A) (x : A) → after ≡ xs ++ x ∷ [] → All P xs → P x → All P after
 all_pushed P xs after x a h p = subst (All P) (sym a) (All-append P xs (x ∷ []) h (All-cons P x [] p (All-nil P)))

@@ -1,6 +1,6 @@
 -- The references of a file by its listing are those of its tree.
 use Rattle.std.proofs.Common.{◌≡◌, ℕ, ◌<◌, Bool, List, [], ◌∷◌, length, get_or, map, refl, sym, ◌∙◌, ap, subst, arith, All, Contains}
-use Rattle.proto_faults.proofs.Common.{Vec, map-append, get_or-map as get_or-map_within, All-map, Contains-get_or, contains_map}
+use Rattle.proto_base.proofs.Common.{Vec, map-append, get_or-map as get_or-map_within, All-map, Contains-get_or, contains_map}
 use Rattle.std.proofs.Math.ListN.{get_or-map}
 use Rattle.proto_text.proofs.Common.{one_token_list, words, word_at, Lexeme, lexeme_at, AreTokens}
 use Rattle.proto_tree.proofs.Common.{Reads, dotted}
@@ -8,17 +8,17 @@ use Rattle.proto_text.specs.declared.lexer.Token.{Token}
 use Rattle.proto_files.proofs.Common.{FileOf, file_at, ReadOf, AreRead, read_at, one_reading}
 use Rattle.proto_case.specs.Camel.{entry_name}
 use Rattle.proto_names.specs.Common.{declared_names, uses_of, AreFileMeant, AreLinked, IsFileLinked, IsFirstFlawed, IsFileReferenceError, reference_by, scope_above, first_token_of_use, IsFaultless, IsFlawed, IsFirstBad, IsReferenceError, AreMeant, BadReference, Meant}
-use Rattle.proto_meaning.proofs.Common.{At, at, ArePlain, Reference, Workspace, Source, Used, name_of, shifted_source, Placed, map_agree, map_map}
-use Rattle.proto_imports.proofs.Common.{text_of, names_of_files, IsListing, name_in}
-use Rattle.proto_listing.proofs.Common.{read, whole, path_at, path_of, used_by, uses_plain}
-use Rattle.proto_table.specs.Naming.{used_named}
-use Rattle.proto_listing.specs.declared.listing.Above.{Above}
-use Rattle.proto_listing.specs.declared.listing.Above.TheVariants.{Outermost, Below}
-use Rattle.proto_listing.specs.declared.listing.Listing.{Listing}
-use Rattle.proto_listing.specs.declared.listing.Use.{Use}
-use Rattle.proto_faults.specs.declared.or_no_memory.OrNoMemory.{OrNoMemory}
-use Rattle.proto_faults.specs.declared.or_no_memory.OrNoMemory.TheVariants as or
-use Rattle.proto_table.specs.declared.table.Table.{Table}
+use Rattle.proto_names_rules.proofs.Common.{At, at, ArePlain, Reference, Workspace, Source, Used, name_of, shifted_source, Placed, map_agree, map_map}
+use Rattle.proto_names_imports.proofs.Common.{text_of, names_of_files, IsListing, name_in}
+use Rattle.proto_names_outline.proofs.Common.{read, whole, path_at, path_of, used_by, uses_plain}
+use Rattle.proto_names_table.specs.Naming.{used_named}
+use Rattle.proto_names_outline.specs.declared.listing.Above.{Above}
+use Rattle.proto_names_outline.specs.declared.listing.Above.TheVariants.{Outermost, Below}
+use Rattle.proto_names_outline.specs.declared.listing.Listing.{Listing}
+use Rattle.proto_names_outline.specs.declared.listing.Use.{Use}
+use Rattle.proto_base.specs.declared.or_no_memory.OrNoMemory.{OrNoMemory}
+use Rattle.proto_base.specs.declared.or_no_memory.OrNoMemory.TheVariants as or
+use Rattle.proto_names_table.specs.declared.table.Table.{Table}
 
 -- ---- what is read of a file
 

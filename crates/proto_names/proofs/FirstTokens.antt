@@ -1,6 +1,6 @@
 -- References by their first tokens, which rise: where a search for a token ends.
 use Rattle.std.proofs.Common.{◌≡◌, ℕ, ◌<◌, ◌≤◌, Bool, false, List, length, get_or, option_map, slice_get, Some, None, Result, Ok, Err, sym, ◌∙◌, ap, inl, inr, arith, ◌==◌, MatchResult, AllPairs, Contains, nat_cmp, eq-eqb, ne_eqb}
-use Rattle.proto_faults.proofs.Common.{position_or_len, IsSearchInRange, IsBinarySearchResult, IsNonDecreasingBy, ordering_index, cases_order, nat_tests, ranked, get_or_default, find_at, IsNonDecreasingBy-from_default, position_or_len_is, slice_get-get_or, slice_get_past}
+use Rattle.proto_base.proofs.Common.{position_or_len, IsSearchInRange, IsBinarySearchResult, IsNonDecreasingBy, ordering_index, cases_order, nat_tests, ranked, get_or_default, find_at, IsNonDecreasingBy-from_default, position_or_len_is, slice_get-get_or, slice_get_past}
 use Rattle.proto_names.specs.Common.{row_at, Meant}
 
 module _ (ms : List Meant) (rising : AllPairs (λ m n. m.token < n.token) ms) (token : ℕ) where

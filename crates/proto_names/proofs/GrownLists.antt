@@ -1,9 +1,9 @@
 -- Lists of references that were grown by empty ones.
 use Rattle.std.proofs.Common.{◌≡◌, ℕ, ◌≤◌, List, length, take, max, ◌∙◌, sym, ap, arith, length-append}
-use Rattle.proto_faults.proofs.Common.{Vec}
-use Rattle.proto_kept_lists.specs.Undone.{AddedAreCut, undone}
-use Rattle.proto_kept_lists.specs.declared.changes.Change.{Change}
-use Rattle.proto_kept_references.specs.Renewed.{AreGrown}
+use Rattle.proto_base.proofs.Common.{Vec}
+use Rattle.proto_base.specs.Undone.{AddedAreCut, undone}
+use Rattle.proto_base.specs.declared.changes.Change.{Change}
+use Rattle.proto_names_affected.specs.Renewed.{AreGrown}
 use Rattle.proto_names.specs.Common.{RefId}
 
 module _ (cut : AddedAreCut (Vec RefId)) (old grown : List (Vec RefId)) (more : AreGrown old grown) where

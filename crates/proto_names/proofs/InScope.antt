@@ -1,12 +1,12 @@
 -- What a reference means in a scope, word by word of its tokens.
 use Rattle.std.proofs.Common.{◌≡◌, ◌≢◌, ℕ, zero, suc, ◌+◌, ◌<◌, ◌≤◌, Bool, false, List, [], ◌∷◌, ◌++◌, length, get_or, take, drop, map, Bor, Option, Some, None, IfSome, option_map, if◌then◌else◌, refl, sym, ◌∙◌, ap, subst, inl, inr, arith, ◌==◌, take-append-drop, length-take-le}
-use Rattle.proto_faults.proofs.Common.{cases_eq, cond-false, false_from_ne_true, length-map, map-map}
+use Rattle.proto_base.proofs.Common.{cases_eq, cond-false, false_from_ne_true, length-map, map-map}
 use Rattle.proto_text.proofs.Common.{word_at, Lexeme}
 use Rattle.proto_tree.specs.declared.tree.Behind.{Behind}
-use Rattle.proto_meaning.proofs.Common.{under, front, joined, ArePlain, Reference, Workspace, fits_at_first, greatest, hits_at, hit, shows, meaning, meaning_at, typed, MarksSeen, greatest_is}
-use Rattle.proto_table.proofs.Common.{IsIndexOf, under_all, IsAsked, IsTypeAt, HitsAt, IsHit, names_of, IsTable, Step, one_step, shows_to, under_all_named, is_empty_list, empty_is, relative_is, relative_none, joined_more, plain_take, outermost}
+use Rattle.proto_names_rules.proofs.Common.{under, front, joined, ArePlain, Reference, Workspace, fits_at_first, greatest, hits_at, hit, shows, meaning, meaning_at, typed, MarksSeen, greatest_is}
+use Rattle.proto_names_table.proofs.Common.{IsIndexOf, under_all, IsAsked, IsTypeAt, HitsAt, IsHit, names_of, IsTable, Step, one_step, shows_to, under_all_named, is_empty_list, empty_is, relative_is, relative_none, joined_more, plain_take, outermost}
 use Rattle.proto_names.specs.Scopes.{IsScopeFront}
-use Rattle.proto_table.specs.declared.table.Table.{Table}
+use Rattle.proto_names_table.specs.declared.table.Table.{Table}
 use Rattle.proto_names.proofs.Scopes.{plain_parts}
 
 -- ---- the words behind the first

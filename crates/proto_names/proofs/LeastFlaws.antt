@@ -1,21 +1,21 @@
 -- The least of the faults of references: the first one of the first file that has any.
 use Rattle.std.proofs.Common.{◌≡◌, ◌⊎◌, ℕ, suc, ◌+◌, ◌<◌, List, [], ◌∷◌, ◌++◌, length, get_or, map, Some, refl, sym, ◌∙◌, ap, subst, inl, inr, arith, All, AllPairs, Contains, get_or-append-add, length-append}
-use Rattle.proto_faults.proofs.Common.{none-some, same_Some, get_or-map, length-map, All-contains, Contains-append_cases, Contains-append_right, contains_cases, contains_head, contains_map}
+use Rattle.proto_base.proofs.Common.{none-some, same_Some, get_or-map, length-map, All-contains, Contains-append_cases, Contains-append_right, contains_cases, contains_head, contains_map}
 use Rattle.std.proofs.Math.Seq.{get_or-append_seam}
 use Rattle.proto_tree.specs.Tree.{End}
 use Rattle.proto_files.proofs.Common.{FileOf, file_at, ReadOf, AreRead, read_at}
-use Rattle.proto_meaning.proofs.Common.{Fault, fault, FaultIsBefore, IsLeast, ReferenceFault, FileNames, At, at, joined, Symbol, Reference, Workspace, meaning, Skeleton, Used}
+use Rattle.proto_names_rules.proofs.Common.{Fault, fault, FaultIsBefore, IsLeast, ReferenceFault, FileNames, At, at, joined, Symbol, Reference, Workspace, meaning, Skeleton, Used}
 use Rattle.proto_names.specs.Common.{flaw_number, uses_of, IsFirstFlawed, IsFileReferenceError, IsLeastBad, IsFaultless, IsFlawed, BadReference, ReferenceFlaw, Unresolved, WrongKind, MapEntry}
-use Rattle.proto_imports.specs.Links.{text_of, names_in, link_imports, link_skeleton, names_of_files}
-use Rattle.proto_meaning.specs.declared.kind.Kind.TheVariants.{Entry, Enum}
-use Rattle.proto_table.specs.Naming as by_number
-use Rattle.proto_table.proofs.Common.{used_named, IsIndexOf, IsTable}
-use Rattle.proto_faults.specs.declared.or_no_memory.OrNoMemory.{OrNoMemory}
-use Rattle.proto_faults.specs.declared.or_no_memory.OrNoMemory.TheVariants as or
-use Rattle.proto_table.specs.declared.table.Table.{Table}
-use Rattle.proto_listing.proofs.ReadTrees.{uses_rising}
+use Rattle.proto_names_imports.specs.Links.{text_of, names_in, link_imports, link_skeleton, names_of_files}
+use Rattle.proto_names_rules.specs.declared.kind.Kind.TheVariants.{Entry, Enum}
+use Rattle.proto_names_table.specs.Naming as by_number
+use Rattle.proto_names_table.proofs.Common.{used_named, IsIndexOf, IsTable}
+use Rattle.proto_base.specs.declared.or_no_memory.OrNoMemory.{OrNoMemory}
+use Rattle.proto_base.specs.declared.or_no_memory.OrNoMemory.TheVariants as or
+use Rattle.proto_names_table.specs.declared.table.Table.{Table}
+use Rattle.proto_names_outline.proofs.ReadTrees.{uses_rising}
 use Rattle.proto_names.proofs.Referring.{row_kind}
-use Rattle.proto_table.proofs.UseFaults.{use_faults}
+use Rattle.proto_names_table.proofs.UseFaults.{use_faults}
 
 -- ---- flaws and their numbers
 

@@ -3,7 +3,6 @@ pub mod Common
 mod Copies
 mod DeclaredRows
 mod EachFile
-pub mod FileLists
 mod FileMeanings
 mod FirstTokens
 mod GrownLists

@@ -1,14 +1,14 @@
 -- The errors of the imports and of the references are the least fault of the files; and what references are read by.
 use Rattle.std.proofs.Common.{◌≡◌, ℕ, ◌<◌, Bool, List, [], length, get_or, map, Result, Ok, Err, sym, subst, IfErr, IsErrAnd}
-use Rattle.proto_faults.proofs.Common.{Vec, kind_number as number_of_kind}
-use Rattle.proto_faults.specs.declared.fault.FaultKind.{FaultKind}
+use Rattle.proto_base.proofs.Common.{Vec, kind_number as number_of_kind}
+use Rattle.proto_base.specs.declared.fault.FaultKind.{FaultKind}
 use Rattle.proto_files.proofs.Common.{FileOf, paths_of, AreWorkspaceFiles, ReadOf, AreRead, IsAtToken}
-use Rattle.proto_meaning.proofs.Common.{Fault, fault, AskedImport, IsLeast, ImportFault, ReferenceFault, at, MarksSeen}
+use Rattle.proto_names_rules.proofs.Common.{Fault, fault, AskedImport, IsLeast, ImportFault, ReferenceFault, at, MarksSeen}
 use Rattle.proto_names.specs.Common.{AreLinked, flaw_number, AreNamesOf, HasNoImportFault, HasNoNameFault, BadReference}
-use Rattle.proto_imports.proofs.Common.{fault_of, import_flaw_number, IsLinkError, FaultStandsAt, all_wanted, link_skeleton, names_of_files, text_of, import_found, reference_found, least_import, least_reference, link_error}
-use Rattle.proto_imports.specs.declared.import.BadImport.{BadImport}
-use Rattle.proto_faults.specs.declared.fault.SchemaFault.{SchemaFault}
-use Rattle.proto_table.specs.declared.table.Table.{Table}
+use Rattle.proto_names_imports.proofs.Common.{fault_of, import_flaw_number, IsLinkError, FaultStandsAt, all_wanted, link_skeleton, names_of_files, text_of, import_found, reference_found, least_import, least_reference, link_error}
+use Rattle.proto_names_imports.specs.declared.import.BadImport.{BadImport}
+use Rattle.proto_base.specs.declared.fault.SchemaFault.{SchemaFault}
+use Rattle.proto_names_table.specs.declared.table.Table.{Table}
 
 module _ (files : List FileOf) (reads : List ReadOf) (are_read : AreRead files reads) where
   abbrev Imports : Fault → Type 0

@@ -1,19 +1,19 @@
 -- The table of a link of files is an index of their names, and answers what their references mean.
 use Rattle.std.proofs.Common.{◌≡◌, ℕ, zero, suc, ◌<◌, Bool, List, [], ◌∷◌, length, get_or, map, slice_get, Option, Some, None, option_map, is_some, refl, sym, ◌∙◌, ap, subst, arith, string_bytes, Contains}
-use Rattle.proto_faults.proofs.Common.{Vec, get_or-map, length-map, none-some, same_Some}
+use Rattle.proto_base.proofs.Common.{Vec, get_or-map, length-map, none-some, same_Some}
 use Rattle.proto_files.proofs.Common.{FileOf, file_at, ReadOf, AreRead, read_at}
 use Rattle.proto_text.proofs.Common.{one_token_list, word_at, AreTokens, Lexeme, lexeme_at}
 use Rattle.proto_text.specs.declared.lexer.Token.{Token}
 use Rattle.proto_tree.specs.declared.tree.Reference.{Reference as ReferenceOfTree}
 use Rattle.proto_tree.specs.References.{dotted}
-use Rattle.proto_meaning.proofs.Common.{joined, ArePlain, Reference, Symbol, Workspace, meaning, MarksSeen}
+use Rattle.proto_names_rules.proofs.Common.{joined, ArePlain, Reference, Symbol, Workspace, meaning, MarksSeen}
 use Rattle.proto_names.specs.Common.{HoldsNames, IsLinkBy, NameOf, LinkOf, name_of_row}
-use Rattle.proto_imports.proofs.Common.{names_in, text_of, link_skeleton, names_of_files, names_are_plain}
-use Rattle.proto_table.proofs.Common.{files_of, IsIndexOf, names_of, pick}
+use Rattle.proto_names_imports.proofs.Common.{names_in, text_of, link_skeleton, names_of_files, names_are_plain}
+use Rattle.proto_names_table.proofs.Common.{files_of, IsIndexOf, names_of, pick}
 use Rattle.proto_names.specs.Scopes.{reference_in}
 use Rattle.proto_names.proofs.NamesThere.{name_from, there_is}
-use Rattle.proto_table.specs.declared.table.Row.{Row}
-use Rattle.proto_table.specs.declared.table.Table.{Table}
+use Rattle.proto_names_table.specs.declared.table.Row.{Row}
+use Rattle.proto_names_table.specs.declared.table.Table.{Table}
 
 row_of : (rows : List Row) (k : ℕ) (n : NameOf) → slice_get (map name_of_row rows) k ≡ Some n → (k < length rows) × ((d : Row) → name_of_row (get_or rows k d) ≡ n)
 row_of [] k n h = absurd (none-some n h)

@@ -1,12 +1,12 @@
 -- What is visible by a link of files is what their files see, and references have plain words.
 use Rattle.std.proofs.Common.{◌≡◌, ◌⊎◌, ℕ, zero, suc, ◌<◌, Bool, true, false, ◌&&◌, List, [], ◌∷◌, length, get_or, map, slice_get, Some, sym, ◌∙◌, ap, subst, inl, inr, arith, slice_index_or, Contains, bytes_eq}
-use Rattle.proto_faults.proofs.Common.{cases_Bool, false_from_ne_true, both_ways, and_parts, and_from, length-map, slice_get-get_or, none-some, same_Some, any_from, any_to, contains_later, word_from_same, same_from_word}
+use Rattle.proto_base.proofs.Common.{cases_Bool, false_from_ne_true, both_ways, and_parts, and_from, length-map, slice_get-get_or, none-some, same_Some, any_from, any_to, contains_later, word_from_same, same_from_word}
 use Rattle.proto_text.proofs.Common.{words, one_token_list}
 use Rattle.proto_tree.specs.References.{dotted}
 use Rattle.proto_files.proofs.Common.{ReadOf, AreRead, read_at, FileOf, file_at}
-use Rattle.proto_meaning.proofs.Common.{joined, ArePlain, ImportsAreOfFiles, MarksSeen, Workspace, same_name, sees, shows, same_from_name, joined_apart, sees_is, shown}
-use Rattle.proto_listing.proofs.ReadTrees.{uses_plain}
-use Rattle.proto_imports.specs.Links.{names_in, names_of_files}
+use Rattle.proto_names_rules.proofs.Common.{joined, ArePlain, ImportsAreOfFiles, MarksSeen, Workspace, same_name, sees, shows, same_from_name, joined_apart, sees_is, shown}
+use Rattle.proto_names_outline.proofs.ReadTrees.{uses_plain}
+use Rattle.proto_names_imports.specs.Links.{names_in, names_of_files}
 use Rattle.proto_names.proofs.NamesThere.{declared_at, there_is}
 use Rattle.proto_names.specs.Laws.{SeesName, UsesAreWords, VisibleIsSeen, VisibleIsShown}
 use Rattle.proto_names.specs.Common.{HoldsNames, IsLinkRead, LinkOf, NameOf, is_visible, name_at, sees_one}

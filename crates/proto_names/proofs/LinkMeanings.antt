@@ -1,15 +1,15 @@
 -- What a link has of each file's references is what they mean, in the order of their first tokens (for the crates above).
 use Rattle.std.proofs.Common.{◌≡◌, ℕ, zero, suc, ◌<◌, List, [], ◌∷◌, length, get_or, map, option_map, Some, refl, sym, ◌∙◌, ap, subst, arith, All, AllPairs}
-use Rattle.proto_faults.proofs.Common.{Vec, get_or-map, length-map}
+use Rattle.proto_base.proofs.Common.{Vec, get_or-map, length-map}
 use Rattle.proto_files.proofs.Common.{FileOf, file_at, ReadOf, AreRead, read_at}
 use Rattle.proto_names.specs.Common.{AreFileMeant, uses_of, first_key, meant_by_link, meant_by_use, LinkOf, NameOf, name_at, name_of_row, Meant}
 use Rattle.proto_names.specs.LinkOfFiles.{IsMeantIn}
-use Rattle.proto_meaning.proofs.Common.{joined, map_map, meaning, Used}
-use Rattle.proto_imports.specs.Links.{names_of_files, text_of}
-use Rattle.proto_table.proofs.Common.{used_named, IsIndexOf, IsTable, names_of, pick}
-use Rattle.proto_table.specs.declared.table.Table.{Table}
+use Rattle.proto_names_rules.proofs.Common.{joined, map_map, meaning, Used}
+use Rattle.proto_names_imports.specs.Links.{names_of_files, text_of}
+use Rattle.proto_names_table.proofs.Common.{used_named, IsIndexOf, IsTable, names_of, pick}
+use Rattle.proto_names_table.specs.declared.table.Table.{Table}
 use Rattle.proto_names.proofs.NamesThere.{row_there, text_there}
-use Rattle.proto_listing.proofs.ReadTrees.{uses_rising}
+use Rattle.proto_names_outline.proofs.ReadTrees.{uses_rising}
 
 -- as other elements' numbers rise, so do these
 pub rising_by : {X Y : Type 0} (f : X → ℕ) (g : Y → ℕ) (xs : List X) (ys : List Y) → map f xs ≡ map g ys → AllPairs (λ a b. g a < g b) ys → AllPairs (λ a b. f a < f b) xs

@@ -1,16 +1,16 @@
 -- The parts of a link are those of its files: their names, what each file sees, and the references that mean each name.
 use Rattle.std.proofs.Common.{◌≡◌, ℕ, suc, ◌+◌, ◌<◌, Bool, true, false, List, [], ◌∷◌, ◌++◌, length, get_or, map, option_map, Option, Some, None, refl, sym, ◌∙◌, ap, subst, arith, string_bytes, cond, ◌==◌, All, Contains, filter, bytes_eq, eqb-true, eq-eqb}
-use Rattle.proto_faults.proofs.Common.{Vec, get_or-map, length-map, map-append, filter-append, none-some, same_Some, same_from_word, word_from_same}
+use Rattle.proto_base.proofs.Common.{Vec, get_or-map, length-map, map-append, filter-append, none-some, same_Some, same_from_word, word_from_same}
 use Rattle.std.specs.Cmp.{both_ways}
 use Rattle.proto_files.proofs.Common.{FileOf, ReadOf, AreRead}
 use Rattle.proto_case.specs.Camel.{entry_name}
-use Rattle.proto_meaning.proofs.Common.{place_of, At, at, all_used, used_in, joined, ImportsAreOfFiles, Workspace, meaning, MarksSeen, Used, reference_of, names_apart}
+use Rattle.proto_names_rules.proofs.Common.{place_of, At, at, all_used, used_in, joined, ImportsAreOfFiles, Workspace, meaning, MarksSeen, Used, reference_of, names_apart}
 use Rattle.proto_names.specs.Common.{AreFileMeant, uses_of, AreNamesOf, HoldsNames, IsLinkBy, has_text, reference_id, LinkOf, MeantBy, NameOf, all_meant, meant_in_file, name_at, name_of_row, references_to, AreMeant, RefId, Meant}
-use Rattle.proto_imports.proofs.Common.{all_imports, link_imports, link_skeleton, names_in, names_of_files, text_of, import_in, imports_within}
-use Rattle.proto_table.proofs.Common.{used_named, IsIndexOf, IsTable, aboves_of, look, names_of, pick}
+use Rattle.proto_names_imports.proofs.Common.{all_imports, link_imports, link_skeleton, names_in, names_of_files, text_of, import_in, imports_within}
+use Rattle.proto_names_table.proofs.Common.{used_named, IsIndexOf, IsTable, aboves_of, look, names_of, pick}
 use Rattle.proto_names.proofs.NamesThere.{declared_from, first_file, has_files, name_from, name_to, text_to}
-use Rattle.proto_imports.specs.declared.import.FileImport.{FileImport}
-use Rattle.proto_table.specs.declared.table.Table.{Table}
+use Rattle.proto_names_imports.specs.declared.import.FileImport.{FileImport}
+use Rattle.proto_names_table.specs.declared.table.Table.{Table}
 
 -- ---- rows and names
 

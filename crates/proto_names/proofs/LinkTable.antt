@@ -1,11 +1,11 @@
 -- The table of a link of files has the names of the files.
 use Rattle.std.proofs.Common.{◌≡◌, ◌≢◌, ℕ, suc, ◌+◌, ◌<◌, true, List, [], length, get_or, map, Some, sym, ◌∙◌, ap, subst, arith, All, Contains}
-use Rattle.proto_faults.proofs.Common.{Vec, contains_map, get_or-map, get_or_default, length-map}
+use Rattle.proto_base.proofs.Common.{Vec, contains_map, get_or-map, get_or_default, length-map}
 use Rattle.proto_case.specs.Camel.{entry_name}
 use Rattle.proto_files.proofs.Common.{AreRead, FileOf, ReadOf}
-use Rattle.proto_imports.proofs.Common.{link_skeleton, names_are_plain, names_of_files, text_of}
-use Rattle.proto_meaning.proofs.Common.{ArePlain, At, Declared, at, front, joined, symbol_of}
-use Rattle.proto_meaning.specs.declared.kind.Kind.TheVariants.{Package}
+use Rattle.proto_names_imports.proofs.Common.{link_skeleton, names_are_plain, names_of_files, text_of}
+use Rattle.proto_names_rules.proofs.Common.{ArePlain, At, Declared, at, front, joined, symbol_of}
+use Rattle.proto_names_rules.specs.declared.kind.Kind.TheVariants.{Package}
 use Rattle.proto_names.proofs.DeclaredRows.{symbol_there}
 use Rattle.proto_names.proofs.EachFile.{same_at}
 use Rattle.proto_names.proofs.LinkIndex.{link_index}
@@ -13,9 +13,9 @@ use Rattle.proto_names.proofs.NamesThere.{declared_from, first_file, has_files, 
 use Rattle.proto_names.specs.Common.{AreNamesOf, LinkOf, NameOf, RowIsDeclaredIn, declared_names, name_at}
 use Rattle.proto_names.specs.Linking.{name_text}
 use Rattle.proto_names.specs.Renewed.{IsTableOf}
-use Rattle.proto_table.proofs.Common.{names_of}
-use Rattle.proto_table.specs.declared.table.Row.{Row}
-use Rattle.proto_table.specs.declared.table.Table.{Table}
+use Rattle.proto_names_table.proofs.Common.{names_of}
+use Rattle.proto_names_table.specs.declared.table.Row.{Row}
+use Rattle.proto_names_table.specs.declared.table.Table.{Table}
 
 module _ (files : List FileOf) (reads : List ReadOf) (are : AreRead files reads) (l : LinkOf) (t : Table) (rows : List (Vec ℕ)) (of : IsTableOf files reads l t rows) where
   abbrev text : At → List ℕ

@@ -1,13 +1,13 @@
 -- The names of a link are those of its table.
 use Rattle.std.proofs.Common.{◌≡◌, ◌≢◌, ◌⊎◌, ℕ, ◌<◌, ◌≤◌, Bool, true, false, ◌&&◌, ◌||◌, List, [], ◌∷◌, length, get_or, map, slice_get, Option, option_map, None, Some, refl, sym, ◌∙◌, ap, subst, inl, inr, arith, string_bytes, if◌then◌else◌, All, option_and_then, bytes_eq}
-use Rattle.proto_faults.proofs.Common.{Vec, list_any, cases_Bool, false_from_ne_true, both_ways, and_parts, and_from, get_or-map, get_or_default, get_or_past, length-map, list_any_at, slice_get_read, none-some, same_Some, any_to, any_map, word_from_same, same_from_word}
-use Rattle.proto_meaning.proofs.Common.{joined, ArePlain, is_package, Workspace, shows, MarksSeen, names_apart}
-use Rattle.proto_table.proofs.Common.{IsIndexOf, is_seen, names_of, aboves_of, look, IsTable, shows_from, shows_to, pick}
+use Rattle.proto_base.proofs.Common.{Vec, list_any, cases_Bool, false_from_ne_true, both_ways, and_parts, and_from, get_or-map, get_or_default, get_or_past, length-map, list_any_at, slice_get_read, none-some, same_Some, any_to, any_map, word_from_same, same_from_word}
+use Rattle.proto_names_rules.proofs.Common.{joined, ArePlain, is_package, Workspace, shows, MarksSeen, names_apart}
+use Rattle.proto_names_table.proofs.Common.{IsIndexOf, is_seen, names_of, aboves_of, look, IsTable, shows_from, shows_to, pick}
 use Rattle.proto_names.specs.Linking.{NameOf, LinkOf, declared_row, if_declared, name_at, name_of_row, name_text, sees_one, shows_text, is_visible}
 use Rattle.proto_names.proofs.NamesThere as name_there
 use Rattle.proto_names.proofs.NamesThere.{declared_from, has_files, name_is, some_text}
-use Rattle.proto_table.specs.declared.table.Row.{Row}
-use Rattle.proto_table.specs.declared.table.Table.{Table}
+use Rattle.proto_names_table.specs.declared.table.Row.{Row}
+use Rattle.proto_names_table.specs.declared.table.Table.{Table}
 
 -- the list of the vector that stands at a place
 pub inner_at : {X : Type 0} (all : List (Vec X)) (lists : List (List X)) → map (λ v. v.items) all ≡ lists → (vs : List (Vec X)) → vs ≡ all → (i : ℕ) → i < length vs

@@ -1,12 +1,12 @@
 -- Marks of what changed are so still where more files are marked.
 use Rattle.std.proofs.Common.{ℕ, Bool, List, [], get_or, inl, inr}
-use Rattle.proto_faults.proofs.Common.{All-weaker}
-use Rattle.proto_kept_lists.specs.declared.backlinks.RefId.{RefId}
-use Rattle.proto_kept_references.specs.ChangedFiles.{AreChangesMarked, IsChangeMarked, StaysOrIsMarked, WasOrIsMarked}
-use Rattle.proto_kept_references.specs.Marking.{AreReferencesMarked, IsMarked, MarksStay}
-use Rattle.proto_kept_references.specs.declared.outer_rows.KindRow.{KindRow}
+use Rattle.proto_base.proofs.Common.{All-weaker}
+use Rattle.proto_names_table.specs.declared.ids.RefId.{RefId}
+use Rattle.proto_names_affected.specs.ChangedFiles.{AreChangesMarked, IsChangeMarked, StaysOrIsMarked, WasOrIsMarked}
+use Rattle.proto_names_affected.specs.Marking.{AreReferencesMarked, IsMarked, MarksStay}
+use Rattle.proto_names_affected.specs.declared.outer_rows.KindRow.{KindRow}
 use Rattle.proto_names.specs.Common.{Meant}
-use Rattle.proto_table.specs.declared.table.Table.{Table}
+use Rattle.proto_names_table.specs.declared.table.Table.{Table}
 
 module _ (t : Table) (marks more : List Bool) (stay : MarksStay marks more) (references : List (List RefId)) (meant : List (List Meant)) where
   users : (rs : List RefId) → AreReferencesMarked marks rs → AreReferencesMarked more rs

@@ -1,8 +1,8 @@
 -- References by the names that they mean, file by file.
 use Rattle.std.proofs.Common.{◌≡◌, ℕ, suc, ◌+◌, ◌<◌, Bool, true, false, cond, List, [], ◌∷◌, ◌++◌, length, get_or, map, take, refl, sym, ◌∙◌, ap, subst, arith, append_assoc, slice_set, ◌==◌, filter, append-nil, get_or-set_other, get_or-set_same, length-take-le}
-use Rattle.proto_faults.proofs.Common.{nat_tests, map-append, filter-append}
+use Rattle.proto_base.proofs.Common.{nat_tests, map-append, filter-append}
 use Rattle.proto_names.specs.Common.{MeantBy, meant_in_file, all_meant, references_to, RefId, Meant}
-use Rattle.proto_imports.proofs.Turned.{take_more}
+use Rattle.proto_names_imports.proofs.Turned.{take_more}
 
 all_meant_more : (n : ℕ) (fs : List (List Meant)) (x : List Meant) → all_meant n (fs ++ x ∷ []) ≡ all_meant n fs ++ map (meant_in_file (n + length fs)) x
 all_meant_more n [] x = let z : n ≡ n + 0 = omega arith in append-nil (map (meant_in_file n) x) ∙ ap (λ k. map (meant_in_file k) x) z

@@ -1,10 +1,10 @@
 -- What a link of files answers of a reference, and of the declaration that it means (for the crates above).
 use Rattle.std.proofs.Common.{◌≡◌, ◌≢◌, ℕ, List, get_or, Some, sym, ◌∙◌, ap, Contains}
-use Rattle.proto_faults.proofs.Common.{same_Some, contains_map}
+use Rattle.proto_base.proofs.Common.{same_Some, contains_map}
 use Rattle.proto_case.specs.Camel.{entry_name}
-use Rattle.proto_meaning.proofs.Common.{place_of, At, at, joined, Declared, Skeleton, Used, name_of, symbol_of}
+use Rattle.proto_names_rules.proofs.Common.{place_of, At, at, joined, Declared, Skeleton, Used, name_of, symbol_of}
 use Rattle.proto_names.specs.Common.{IsLinkBy, LinkOf, NameOf, meant_at, name_at}
-use Rattle.proto_meaning.specs.declared.kind.Kind.TheVariants.{Package}
+use Rattle.proto_names_rules.specs.declared.kind.Kind.TheVariants.{Package}
 
 -- the link's answer for a reference: the row of a name with this text
 pub record NameMeant (l : LinkOf) (file : ℕ) (u : Used ℕ) (name : List (List ℕ)) : Type 0 where

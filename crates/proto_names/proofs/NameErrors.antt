@@ -1,12 +1,12 @@
 -- Names that clash are the faults of names of files, and the least of them is that of their link.
 use Rattle.std.proofs.Common.{◌≡◌, ℕ, ◌<◌, List, length, map, sym, subst}
-use Rattle.proto_faults.specs.declared.fault.FaultKind.TheVariants as kinds
+use Rattle.proto_base.specs.declared.fault.FaultKind.TheVariants as kinds
 use Rattle.proto_files.proofs.Common.{FileOf, AreWorkspaceFiles, AreRead, ReadOf, IsAtToken}
-use Rattle.proto_meaning.proofs.Common.{Fault, fault, IsLeast, NameFault, at}
-use Rattle.proto_imports.proofs.Common.{IsLinkError, link_skeleton, names_in, text_of, name_found, least_name, link_error}
+use Rattle.proto_names_rules.proofs.Common.{Fault, fault, IsLeast, NameFault, at}
+use Rattle.proto_names_imports.proofs.Common.{IsLinkError, link_skeleton, names_in, text_of, name_found, least_name, link_error}
 use Rattle.proto_names.specs.LinkOfFiles.{HasNoImportFault}
-use Rattle.proto_table.proofs.Common.{tree_named, ClashFault, Named, clashes_are_faults}
-use Rattle.proto_faults.specs.declared.fault.SchemaFault.{SchemaFault}
+use Rattle.proto_names_table.proofs.Common.{tree_named, ClashFault, Named, clashes_are_faults}
+use Rattle.proto_base.specs.declared.fault.SchemaFault.{SchemaFault}
 use Rattle.proto_names.proofs.TableNames.{are_spans}
 
 module _ (files : List FileOf) (reads : List ReadOf) (are : AreRead files reads) (ds : List Named) (same : ds ≡ tree_named (text_of files reads) 0 (map names_in reads)) where

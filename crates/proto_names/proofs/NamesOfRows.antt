@@ -1,10 +1,10 @@
 -- The names of what a file declares are those of its rows.
 use Rattle.std.proofs.Common.{◌≡◌, ℕ, suc, ◌+◌, ◌<◌, List, [], ◌∷◌, length, get_or, map, Some, refl, sym, ◌∙◌, ap, subst, arith, All}
-use Rattle.proto_faults.proofs.Common.{Vec, get_or-map, get_or_default}
+use Rattle.proto_base.proofs.Common.{Vec, get_or-map, get_or_default}
 use Rattle.proto_files.proofs.Common.{FileOf, ReadOf}
-use Rattle.proto_meaning.proofs.Common.{front, joined}
-use Rattle.proto_table.proofs.Common.{names_of, pick}
-use Rattle.proto_table.specs.declared.table.Table.{Table}
+use Rattle.proto_names_rules.proofs.Common.{front, joined}
+use Rattle.proto_names_table.proofs.Common.{names_of, pick}
+use Rattle.proto_names_table.specs.declared.table.Table.{Table}
 use Rattle.proto_names.specs.Common.{AreNamesOf, IsDeclaredBy, LinkOf, declared_names, name_of_row}
 use Rattle.proto_names.specs.Linking.{name_text}
 use Rattle.proto_names.proofs.NamesThere.{text_from}

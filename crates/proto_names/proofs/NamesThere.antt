@@ -1,10 +1,10 @@
 -- Names of a link that some file declares, and the rows of its table that have them (for the crates above).
 use Rattle.std.proofs.Common.{◌≡◌, ℕ, zero, suc, ◌<◌, true, false, cond, List, [], ◌∷◌, length, get_or, map, slice_get, Option, Some, None, option_map, option_and_then, refl, sym, ◌∙◌, ap, subst, inl, inr, arith, string_bytes, Contains}
-use Rattle.proto_faults.proofs.Common.{cases_Bool, get_or-map, length-map, slice_get-get_or, slice_get_within, get_or_from_slice_get, none-some, same_Some}
-use Rattle.proto_meaning.proofs.Common.{Reference, Workspace, joined, meaning, names_apart}
-use Rattle.proto_table.proofs.Common.{IsIndexOf, IsTable, aboves_of, files_of, look, names_of, pick}
-use Rattle.proto_table.specs.declared.table.Row.{Row}
-use Rattle.proto_table.specs.declared.table.Table.{Table}
+use Rattle.proto_base.proofs.Common.{cases_Bool, get_or-map, length-map, slice_get-get_or, slice_get_within, get_or_from_slice_get, none-some, same_Some}
+use Rattle.proto_names_rules.proofs.Common.{Reference, Workspace, joined, meaning, names_apart}
+use Rattle.proto_names_table.proofs.Common.{IsIndexOf, IsTable, aboves_of, files_of, look, names_of, pick}
+use Rattle.proto_names_table.specs.declared.table.Row.{Row}
+use Rattle.proto_names_table.specs.declared.table.Table.{Table}
 use Rattle.proto_names.specs.Common.{LinkOf, NameOf, declared_row, if_declared, is_empty, name_at, name_of_row}
 use Rattle.proto_names.specs.Linking.{name_text}
 use Rattle.proto_names.proofs.Referring.{row_kind, row_symbol}

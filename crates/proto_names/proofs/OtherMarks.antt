@@ -2,7 +2,7 @@
 use Rattle.std.proofs.Common.{◌≡◌, ℕ, ◌+◌, ◌<◌, ◌≤◌, Bool, true, false, not, true≢false, refl, List, [], ◌∷◌, ◌++◌, length, get_or, map, sym, ◌∙◌, subst, inl, inr, arith, Contains}
 use Rattle.std.specs.Cmp.{booleans_Decides}
 use Rattle.std.specs.Cmp.Lexicographic.{pointwise, pointwise_decides}
-use Rattle.proto_faults.proofs.Common.{Contains-append_left, Contains-append_right, Vec, cases_eq, cases_lt, contains_head, get_or_past, length-map}
+use Rattle.proto_base.proofs.Common.{Contains-append_left, Contains-append_right, Vec, cases_eq, cases_lt, contains_head, get_or_past, length-map}
 use Rattle.std.proofs.Math.Bool.{beq}
 use Rattle.proto_names.specs.Sight.{StayBut}
 

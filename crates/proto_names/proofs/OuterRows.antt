@@ -3,16 +3,16 @@ use Rattle.std.proofs.Common.{◌≡◌, ℕ, ◌<◌, true, cond, List, [], ◌
 use Rattle.std.specs.List.{cons_option, filter_map}
 use Rattle.std.specs.Option.{option_and_then}
 use Rattle.std.proofs.lemmas.Option.{cond_some, option_and_then_some, slice_get-get_or, slice_get_within, get_or_from_slice_get}
-use Rattle.proto_faults.proofs.Common.{Contains-get_or, Vec, contains_cases, contains_head, contains_later, get_or-map, length-map}
-use Rattle.proto_imports.proofs.ImportGraph.{contains_filtered}
-use Rattle.proto_kept_references.specs.ChangedFiles.{outer_rows_of}
-use Rattle.proto_kept_references.specs.OuterRows.{outer_row}
-use Rattle.proto_kept_references.specs.declared.outer_rows.KindRow.{KindRow}
-use Rattle.proto_meaning.proofs.Common.{is_outer}
-use Rattle.proto_meaning.specs.declared.kind.Kind.{Kind}
-use Rattle.proto_table.proofs.Common.{pick}
-use Rattle.proto_table.specs.declared.table.Row.{Row}
-use Rattle.proto_table.specs.declared.table.Table.{Table}
+use Rattle.proto_base.proofs.Common.{Contains-get_or, Vec, contains_cases, contains_head, contains_later, get_or-map, length-map}
+use Rattle.proto_names_imports.proofs.ImportGraph.{contains_filtered}
+use Rattle.proto_names_affected.specs.ChangedFiles.{outer_rows_of}
+use Rattle.proto_names_affected.specs.OuterRows.{outer_row}
+use Rattle.proto_names_affected.specs.declared.outer_rows.KindRow.{KindRow}
+use Rattle.proto_names_rules.proofs.Common.{is_outer}
+use Rattle.proto_names_rules.specs.declared.kind.Kind.{Kind}
+use Rattle.proto_names_table.proofs.Common.{pick}
+use Rattle.proto_names_table.specs.declared.table.Row.{Row}
+use Rattle.proto_names_table.specs.declared.table.Table.{Table}
 
 from_filtered : {X Y : Type 0} (h : X → Option Y) (xs : List X) (y : Y) → Contains (filter_map h xs) y → (x : X) × Contains xs x × (h x ≡ Some y)
 from_filtered h [] y c = absurd (omega (arith, c.1))

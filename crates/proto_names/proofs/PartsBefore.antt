@@ -1,13 +1,13 @@
 -- The parts of a link that was that of files before some were edited.
 use Rattle.std.proofs.Common.{◌≡◌, ℕ, suc, ◌+◌, ◌<◌, Bool, List, [], ◌∷◌, length, get_or, map, refl, sym, ◌∙◌, ap, subst, inl, inr, arith, All, Contains}
-use Rattle.proto_faults.proofs.Common.{Contains-append_cases, Contains-get_or, Vec, from_filter, from_map, get_or-map, length-map}
+use Rattle.proto_base.proofs.Common.{Contains-append_cases, Contains-get_or, Vec, from_filter, from_map, get_or-map, length-map}
 use Rattle.proto_files.proofs.Common.{FileOf, ReadOf}
-use Rattle.proto_imports.proofs.Common.{names_in}
-use Rattle.proto_imports.specs.declared.import.FileImport.{FileImport}
-use Rattle.proto_kept_names.specs.NamesOfFiles.{WereNames}
-use Rattle.proto_kept_names.specs.NamesOfFiles.{AreNamesOf as AreListedNames}
-use Rattle.proto_kept_lists.specs.Referred.{all_meant_by, meant_row, references_to_row}
-use Rattle.proto_kept_references.specs.Renewed.{AreReferencesOf}
+use Rattle.proto_names_imports.proofs.Common.{names_in}
+use Rattle.proto_names_imports.specs.declared.import.FileImport.{FileImport}
+use Rattle.proto_names_update.specs.NamesOfFiles.{WereNames}
+use Rattle.proto_names_update.specs.NamesOfFiles.{AreNamesOf as AreListedNames}
+use Rattle.proto_names_affected.specs.Referred.{all_meant_by, meant_row, references_to_row}
+use Rattle.proto_names_affected.specs.Renewed.{AreReferencesOf}
 use Rattle.proto_names.proofs.LinkTable.{rows_bounded, table_names}
 use Rattle.proto_names.proofs.NamesThere.{text_to}
 use Rattle.proto_names.proofs.ReferencesByRow.{references_by_row}
@@ -17,11 +17,11 @@ use Rattle.proto_names.specs.LinkOfFiles.{IsLinkOf}
 use Rattle.proto_names.specs.Renewal.{AreMeantBelow, link_of_parts}
 use Rattle.proto_names.specs.Renewed.{IsTableOf}
 use Rattle.proto_names.specs.Sight.{WasSight}
-use Rattle.proto_relink.proofs.Clean.{no_import, no_name}
-use Rattle.proto_relink.specs.Edited.{AreSameBut}
-use Rattle.proto_relink.specs.Relinked.{WasLink}
-use Rattle.proto_table.proofs.Common.{IsTable}
-use Rattle.proto_table.specs.declared.table.Table.{Table}
+use Rattle.proto_names_update.proofs.Clean.{no_import, no_name}
+use Rattle.proto_names_update.specs.Edited.{AreSameBut}
+use Rattle.proto_names_update.specs.Relinked.{WasLink}
+use Rattle.proto_names_table.proofs.Common.{IsTable}
+use Rattle.proto_names_table.specs.declared.table.Table.{Table}
 
 -- ---- the names of files, by lists of rows
 

@@ -1,7 +1,7 @@
--- The references to a name, as proto_kept_lists has them, are those of a link.
+-- The references to a name, as proto_names_affected has them, are those of a link.
 use Rattle.std.proofs.Common.{◌≡◌, ℕ, suc, ◌==◌, List, [], ◌∷◌, ◌++◌, map, refl, sym, ◌∙◌, ap, ap₂, filter}
-use Rattle.proto_faults.proofs.Common.{filter-append, map-append}
-use Rattle.proto_kept_lists.specs.Referred.{MeantRow, all_meant_by, meant_row, references_to_row}
+use Rattle.proto_base.proofs.Common.{filter-append, map-append}
+use Rattle.proto_names_affected.specs.Referred.{MeantRow, all_meant_by, meant_row, references_to_row}
 use Rattle.proto_names.proofs.LinkParts.{one_more}
 use Rattle.proto_names.proofs.MeantBy.{references_more}
 use Rattle.proto_names.specs.Common.{Meant, MeantBy, RefId, all_meant, meant_in_file, references_to}

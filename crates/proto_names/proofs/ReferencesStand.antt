@@ -1,20 +1,20 @@
 -- In a link of files without faults the references to each name are those of what it has of each file.
 use Rattle.std.proofs.Common.{◌≡◌, ℕ, ◌<◌, List, [], length, get_or, map, Option, Some, None, refl, sym, ◌∙◌, subst, arith}
-use Rattle.proto_faults.proofs.Common.{Vec, both_ways}
+use Rattle.proto_base.proofs.Common.{Vec, both_ways}
 use Rattle.proto_files.proofs.Common.{AreRead, FileOf, ReadOf}
-use Rattle.proto_imports.proofs.Common.{names_of_files, text_of}
-use Rattle.proto_meaning.proofs.Common.{sees}
+use Rattle.proto_names_imports.proofs.Common.{names_of_files, text_of}
+use Rattle.proto_names_rules.proofs.Common.{sees}
 use Rattle.proto_names.proofs.LinkParts.{in_files}
 use Rattle.proto_names.proofs.Unmeant.{no_references}
 use Rattle.proto_names.proofs.NamesThere.{text_to}
 use Rattle.proto_names.proofs.RenewedMeanings.{file_means_the_same}
 use Rattle.proto_names.specs.Common.{AreFileMeant, AreMeant, LinkOf, NameOf, all_meant, name_at, references_to, uses_of, word_key}
 use Rattle.proto_names.specs.Renewed.{IsTableOf, NumbersStay}
-use Rattle.proto_relink.proofs.Clean.{linked}
-use Rattle.proto_relink.specs.Edited.{AreEdited}
-use Rattle.proto_relink.specs.Relinked.{HasToLook}
-use Rattle.proto_table.proofs.Common.{used_named}
-use Rattle.proto_table.specs.declared.table.Table.{Table}
+use Rattle.proto_names_update.proofs.Clean.{linked}
+use Rattle.proto_names_update.specs.Edited.{AreEdited}
+use Rattle.proto_names_update.specs.Relinked.{HasToLook}
+use Rattle.proto_names_table.proofs.Common.{used_named}
+use Rattle.proto_names_table.specs.declared.table.Table.{Table}
 
 -- ---- a link
 

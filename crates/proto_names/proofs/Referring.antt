@@ -1,21 +1,21 @@
 -- What a reference means by its row, and what is wrong with it.
 use Rattle.std.proofs.Common.{◌≡◌, ◌⊎◌, ℕ, suc, ◌+◌, ◌<◌, ◌≤◌, Bool, true, false, List, [], ◌∷◌, ◌++◌, length, get_or, slice_get, take, drop, map, Option, Some, None, option_map, Result, Ok, Err, Bor, refl, sym, ◌∙◌, ap, subst, inl, inr, arith, string_bytes, ok_or, All, Contains, take-append-drop}
 use Rattle.std.specs.Slice.{IsItemAt}
-use Rattle.proto_faults.proofs.Common.{cases_Bool, cases_lt, cond-true, cond-false, none-some, same_Some, slice_get_cases, slice_get_past, slice_get_read, length-map, map-append, get_or_past, get_or-map, All-append, All-cons, All-nil}
+use Rattle.proto_base.proofs.Common.{cases_Bool, cases_lt, cond-true, cond-false, none-some, same_Some, slice_get_cases, slice_get_past, slice_get_read, length-map, map-append, get_or_past, get_or-map, All-append, All-cons, All-nil}
 use Rattle.std.proofs.Math.Seq.{drop-cons}
-use Rattle.proto_meaning.specs.declared.kind.Kind.{Kind}
-use Rattle.proto_meaning.specs.declared.kind.Kind.TheVariants.{Entry, Enum}
-use Rattle.proto_meaning.proofs.Common.{Symbol, Reference, Workspace, is_type, meaning, meaning_at, hit, typed, joined, ArePlain, front, names_apart, name_some, typed_is, shown}
-use Rattle.proto_table.specs.declared.table.Row.{Row}
-use Rattle.proto_table.specs.declared.table.Table.{Table}
-use Rattle.proto_table.proofs.Common.{names_of, aboves_of, look, IsTable, IsIndexOf, IsAsked}
+use Rattle.proto_names_rules.specs.declared.kind.Kind.{Kind}
+use Rattle.proto_names_rules.specs.declared.kind.Kind.TheVariants.{Entry, Enum}
+use Rattle.proto_names_rules.proofs.Common.{Symbol, Reference, Workspace, is_type, meaning, meaning_at, hit, typed, joined, ArePlain, front, names_apart, name_some, typed_is, shown}
+use Rattle.proto_names_table.specs.declared.table.Row.{Row}
+use Rattle.proto_names_table.specs.declared.table.Table.{Table}
+use Rattle.proto_names_table.proofs.Common.{names_of, aboves_of, look, IsTable, IsIndexOf, IsAsked}
 use Rattle.proto_names.specs.Common.{reference_by, first_key, first_token_of_use, IsReadBy, IsFlawed, IsFaultless, AreMeant, IsFirstBad, kind_flaw, found_flaw, row_flaw, scope_above, BadReference, Meant, ReferenceFlaw, Unresolved, WrongKind, MapEntry}
-use Rattle.proto_table.specs.Filling.{number_above}
-use Rattle.proto_listing.proofs.Common.{needs}
-use Rattle.proto_listing.specs.declared.listing.Above.{Above}
-use Rattle.proto_listing.specs.declared.listing.Above.TheVariants.{Outermost, Below}
-use Rattle.proto_listing.specs.declared.listing.Use.{Use}
-use Rattle.proto_imports.proofs.Turned.{take_more}
+use Rattle.proto_names_table.specs.Filling.{number_above}
+use Rattle.proto_names_outline.proofs.Common.{needs}
+use Rattle.proto_names_outline.specs.declared.listing.Above.{Above}
+use Rattle.proto_names_outline.specs.declared.listing.Above.TheVariants.{Outermost, Below}
+use Rattle.proto_names_outline.specs.declared.listing.Use.{Use}
+use Rattle.proto_names_imports.proofs.Turned.{take_more}
 
 -- the words of a reference by its first and the others
 pub same_words : {ws rest rest' : List (List ℕ)} {first first' : List ℕ} → ws ≡ first ∷ rest → first ≡ first' → rest ≡ rest' → ws ≡ first' ∷ rest'

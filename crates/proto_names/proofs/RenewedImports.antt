@@ -1,16 +1,16 @@
 -- The imports of edited files in place of those that they had, and what files see then.
 use Rattle.std.proofs.Common.{◌≡◌, ℕ, ◌<◌, Bool, List, [], length, get_or, map, sym, ◌∙◌, ap, subst, arith, All, Contains}
-use Rattle.proto_faults.proofs.Common.{Vec, length-map}
+use Rattle.proto_base.proofs.Common.{Vec, length-map}
 use Rattle.proto_files.proofs.Common.{AreRead, FileOf, ReadOf, paths_of}
-use Rattle.proto_imports.proofs.Common.{all_imports, all_wanted, link_imports, names_in, names_of_files, text_of}
-use Rattle.proto_imports.proofs.ImportGraph.{resolved_within}
-use Rattle.proto_imports.specs.Laws.{AreImportLists, KeepImports, KeptImportsAreEqual, KeptImportsAreSound, ListedImportsAreSound, ListedImportsAreThese}
-use Rattle.proto_imports.specs.declared.import.FileImport.{FileImport}
-use Rattle.proto_kept_lists.proofs.WithValues.{length-with_values, map-with_values}
-use Rattle.proto_kept_lists.specs.Undone.{with_values}
-use Rattle.proto_kept_names.proofs.EditedImports.{lists_edited}
-use Rattle.proto_kept_names.specs.KeptImports.{AreImportsAt, WereImports}
-use Rattle.proto_meaning.proofs.Common.{Import, IsAcyclic, MarksSeen, Workspace}
+use Rattle.proto_names_imports.proofs.Common.{all_imports, all_wanted, link_imports, names_in, names_of_files, text_of}
+use Rattle.proto_names_imports.proofs.ImportGraph.{resolved_within}
+use Rattle.proto_names_imports.specs.Laws.{AreImportLists, KeepImports, KeptImportsAreEqual, KeptImportsAreSound, ListedImportsAreSound, ListedImportsAreThese}
+use Rattle.proto_names_imports.specs.declared.import.FileImport.{FileImport}
+use Rattle.proto_base.proofs.WithValues.{length-with_values, map-with_values}
+use Rattle.proto_base.specs.Undone.{with_values}
+use Rattle.proto_names_update.proofs.EditedImports.{lists_edited}
+use Rattle.proto_names_update.specs.KeptImports.{AreImportsAt, WereImports}
+use Rattle.proto_names_rules.proofs.Common.{Import, IsAcyclic, MarksSeen, Workspace}
 use Rattle.proto_names.proofs.LinkParts.{files_between, marks_seen}
 use Rattle.proto_names.proofs.RenewedMeanings.{same_sight}
 use Rattle.proto_names.proofs.ValuesAtPlaces.{all_with}

@@ -1,10 +1,10 @@
 -- A link that was changed in place, as far as its files were edited, is the link of the files that are there now.
 use Rattle.std.proofs.Common.{◌≡◌, ℕ, ◌<◌, Bool, true, false, List, [], length, get_or, map, sym, ◌∙◌, ap, subst, inl, inr, arith, Contains}
-use Rattle.proto_faults.proofs.Common.{All-contains, Vec, cases_Bool, contains_map, length-map}
+use Rattle.proto_base.proofs.Common.{All-contains, Vec, cases_Bool, contains_map, length-map}
 use Rattle.proto_files.proofs.Common.{FileOf, HasNoFault, ReadOf, read_once}
-use Rattle.proto_imports.proofs.Common.{LinkFaults, link_skeleton, names_of_files, text_of}
-use Rattle.proto_kept.specs.Kept.{IsFlawless}
-use Rattle.proto_meaning.proofs.Common.{IsLinked, Reference, Workspace}
+use Rattle.proto_names_imports.proofs.Common.{LinkFaults, link_skeleton, names_of_files, text_of}
+use Rattle.proto_names_rules.specs.Kept.{IsFlawless}
+use Rattle.proto_names_rules.proofs.Common.{IsLinked, Reference, Workspace}
 use Rattle.proto_names.proofs.LinkMeanings.{is_meant_in}
 use Rattle.proto_names.proofs.LinkParts.{is_link}
 use Rattle.proto_names.proofs.NamesOfRows.{declared_by}
@@ -14,11 +14,11 @@ use Rattle.proto_names.specs.Common.{AreFileMeant, IsFaultless, IsLinkBy, IsLink
 use Rattle.proto_names.specs.LinkOfFiles.{IsLinkOf, IsMeantIn}
 use Rattle.proto_names.specs.Renewed.{AreMeantAgain, AreNamesRenewed, IsMadeOf, IsTableOf}
 use Rattle.proto_names.specs.Sight.{IsSightOf}
-use Rattle.proto_relink.proofs.Clean.{linked, relinked_are_clean}
-use Rattle.proto_relink.proofs.Differing.{as_many}
-use Rattle.proto_relink.specs.Relinked.{HasToLook}
-use Rattle.proto_table.proofs.Common.{used_named}
-use Rattle.proto_table.specs.declared.table.Table.{Table}
+use Rattle.proto_names_update.proofs.Clean.{linked, relinked_are_clean}
+use Rattle.proto_names_update.proofs.Differing.{as_many}
+use Rattle.proto_names_update.specs.Relinked.{HasToLook}
+use Rattle.proto_names_table.proofs.Common.{used_named}
+use Rattle.proto_names_table.specs.declared.table.Table.{Table}
 
 module _ (places : List ℕ) (marks : List Bool) (before : List FileOf) (was : List ReadOf) (l : LinkOf) (old : Table) (rows_before : List (Vec ℕ)) (files : List FileOf) (reads : List ReadOf) (t : Table) (rows : List (Vec ℕ)) (meant : List (List Meant))
     (of : IsTableOf before was l old rows_before) (is : AreNamesRenewed places before was old files reads t rows) (seen : List (List Bool)) (sight : IsSightOf files reads seen) (look : HasToLook word_key places before was files reads marks) (again : AreMeantAgain marks t files reads l.meant meant) where

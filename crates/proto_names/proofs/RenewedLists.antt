@@ -1,18 +1,18 @@
 -- What the references of a file mean, looked up again: its rows and marks among those of all files, and one change more in the lists and in the log.
 use Rattle.std.proofs.Common.{◌≡◌, ◌≢◌, ℕ, ◌<◌, false, true, Bool, List, [], ◌∷◌, ◌++◌, length, get_or, map, slice_set, refl, sym, ◌∙◌, ap, subst, arith, All}
 use Rattle.std.proofs.lemmas.List.{length-set, get_or-set_same, get_or-set_other, set-get_or, set-set}
-use Rattle.proto_faults.proofs.Common.{All-push, All-set, Vec, get_or-map, length-map, map-set}
+use Rattle.proto_base.proofs.Common.{All-push, All-set, Vec, get_or-map, length-map, map-set}
 use Rattle.proto_case.specs.Camel.{entry_name}
 use Rattle.proto_files.proofs.Common.{FileOf, ReadOf, read_at}
-use Rattle.proto_imports.proofs.Common.{IsListing, text_of}
-use Rattle.proto_kept_lists.specs.Undone.{AreWithin, undone}
-use Rattle.proto_kept_lists.specs.declared.changes.Change.{Change}
-use Rattle.proto_listing.proofs.Common.{items_in, length-read, package_first, whole}
-use Rattle.proto_listing.specs.declared.listing.Listing.{Listing}
-use Rattle.proto_meaning.proofs.Common.{at, name_of}
+use Rattle.proto_names_imports.proofs.Common.{IsListing, text_of}
+use Rattle.proto_base.specs.Undone.{AreWithin, undone}
+use Rattle.proto_base.specs.declared.changes.Change.{Change}
+use Rattle.proto_names_outline.proofs.Common.{items_in, length-read, package_first, whole}
+use Rattle.proto_names_outline.specs.declared.listing.Listing.{Listing}
+use Rattle.proto_names_rules.proofs.Common.{at, name_of}
 use Rattle.proto_names.specs.Common.{IsFileLinked, Meant, declared_names}
 use Rattle.proto_names.specs.Renewal.{AreMeantBelow, AreOfMarked, IsMeantNoted}
-use Rattle.proto_table.specs.declared.table.Table.{Table}
+use Rattle.proto_names_table.specs.declared.table.Table.{Table}
 
 -- ---- rows and marks of one file
 

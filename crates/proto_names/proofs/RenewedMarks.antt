@@ -1,15 +1,15 @@
 -- The marks of what changed are those of the files that have to be looked at again.
 use Rattle.std.proofs.Common.{◌≡◌, ℕ, ◌+◌, ◌<◌, Bool, true, false, List, [], ◌∷◌, ◌++◌, length, get_or, map, option_map, Option, Some, sym, ◌∙◌, ap, subst, inl, inr, arith, All, Contains, true≢false}
-use Rattle.proto_faults.proofs.Common.{All-contains, Vec, any_to, both_ways, contains_filter, contains_map, false_from_ne_true, from_map, same_Some, same_from_word, slice_get-get_or}
+use Rattle.proto_base.proofs.Common.{All-contains, Vec, any_to, both_ways, contains_filter, contains_map, false_from_ne_true, from_map, same_Some, same_from_word, slice_get-get_or}
 use Rattle.proto_case.specs.Camel.{entry_name}
 use Rattle.proto_files.proofs.Common.{FileOf, ReadOf}
-use Rattle.proto_imports.proofs.Common.{link_skeleton, names_are_plain, names_in, names_of_files, text_of, use_from}
-use Rattle.proto_kept.proofs.Still.{type_is_outer}
-use Rattle.proto_kept.specs.Kept.{Declares}
-use Rattle.proto_kept.specs.Marked.{IsScopeOf, IsUnmarked}
-use Rattle.proto_kept_references.specs.OuterRows.{is_below_type}
-use Rattle.proto_kept_references.specs.Sight.{IsOwnOrApart, is_outer_at, is_outer_row, is_seen_at, is_seen_row}
-use Rattle.proto_meaning.proofs.Common.{ArePlain, At, Reference, Symbol, Used, Workspace, all_used, is_outer, is_type, joined, joined_apart, meaning, one_symbol, reference_of, sees}
+use Rattle.proto_names_imports.proofs.Common.{link_skeleton, names_are_plain, names_in, names_of_files, text_of, use_from}
+use Rattle.proto_names_rules.proofs.Still.{type_is_outer}
+use Rattle.proto_names_rules.specs.Kept.{Declares}
+use Rattle.proto_names_rules.specs.Marked.{IsScopeOf, IsUnmarked}
+use Rattle.proto_names_affected.specs.OuterRows.{is_below_type}
+use Rattle.proto_names_affected.specs.Sight.{IsOwnOrApart, is_outer_at, is_outer_row, is_seen_at, is_seen_row}
+use Rattle.proto_names_rules.proofs.Common.{ArePlain, At, Reference, Symbol, Used, Workspace, all_used, is_outer, is_type, joined, joined_apart, meaning, one_symbol, reference_of, sees}
 use Rattle.proto_names.proofs.BelowTypes.{declares_alone}
 use Rattle.proto_names.proofs.DeclaredRows.{row_of_symbol, symbol_by_row, symbol_listed, symbol_of_row}
 use Rattle.proto_names.proofs.LinkParts.{one_row}
@@ -20,12 +20,12 @@ use Rattle.proto_names.proofs.RenewedSight.{is_newly_seen, is_place, sees_itself
 use Rattle.proto_names.specs.Common.{AreNamesOf, LinkOf, Meant, RefId, first_key, has_text, reference_id, uses_of, word_key}
 use Rattle.proto_names.specs.Renewed.{AreBeginnersMarked, AreChangesMarked, AreNamesRenewed, AreUsersMarked, AreSightsMarked, DeclaresOuter, EndsIn, IsTableOf}
 use Rattle.proto_names.specs.Sight.{IsSightOf}
-use Rattle.proto_relink.proofs.Clean.{names_apart}
-use Rattle.proto_relink.proofs.Differing.{as_many, edited_files_differ}
-use Rattle.proto_relink.specs.Relinked.{HasToLook}
-use Rattle.proto_table.proofs.Common.{files_of, is_seen, names_of, pick, used_named}
-use Rattle.proto_table.specs.declared.table.Row.{Row}
-use Rattle.proto_table.specs.declared.table.Table.{Table}
+use Rattle.proto_names_update.proofs.Clean.{names_apart}
+use Rattle.proto_names_update.proofs.Differing.{as_many, edited_files_differ}
+use Rattle.proto_names_update.specs.Relinked.{HasToLook}
+use Rattle.proto_names_table.proofs.Common.{files_of, is_seen, names_of, pick, used_named}
+use Rattle.proto_names_table.specs.declared.table.Row.{Row}
+use Rattle.proto_names_table.specs.declared.table.Table.{Table}
 
 module _ (places : List ℕ) (marks : List Bool) (before : List FileOf) (was : List ReadOf) (l : LinkOf) (old : Table) (rows : List (Vec ℕ)) (files : List FileOf) (reads : List ReadOf) (t : Table) (now : List (Vec ℕ))
     (of : IsTableOf before was l old rows) (renewed : AreNamesRenewed places before was old files reads t now) (marked : AreChangesMarked places marks old rows l t now)

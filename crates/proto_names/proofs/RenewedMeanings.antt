@@ -1,23 +1,23 @@
 -- Of files that are edited at some places, what the references of a file mean that has not to be looked at again.
 use Rattle.std.proofs.Common.{◌≡◌, ℕ, suc, ◌+◌, ◌<◌, false, List, [], ◌∷◌, length, get_or, map, option_map, Some, refl, sym, ◌∙◌, ap, ap₂, subst, arith, Bool, All, Contains}
-use Rattle.proto_faults.proofs.Common.{All-map, Contains-get_or, both_ways, contains_head, contains_later, contains_map, from_map}
+use Rattle.proto_base.proofs.Common.{All-map, Contains-get_or, both_ways, contains_head, contains_later, contains_map, from_map}
 use Rattle.proto_case.specs.Camel.{entry_name}
 use Rattle.proto_files.proofs.Common.{FileOf, HasNoFault, ReadOf}
-use Rattle.proto_imports.proofs.Common.{LinkFaults, names_in, names_of_files, text_of, use_from, use_in}
-use Rattle.proto_kept.specs.Kept.{IsFlawless}
-use Rattle.proto_kept.specs.Marked.{IsUnmarked}
-use Rattle.proto_meaning.proofs.Common.{Import, IsLinked, Reference, Used, Workspace, all_used, joined, map_map, meaning, reference_of, sees, used_in}
+use Rattle.proto_names_imports.proofs.Common.{LinkFaults, names_in, names_of_files, text_of, use_from, use_in}
+use Rattle.proto_names_rules.specs.Kept.{IsFlawless}
+use Rattle.proto_names_rules.specs.Marked.{IsUnmarked}
+use Rattle.proto_names_rules.proofs.Common.{Import, IsLinked, Reference, Used, Workspace, all_used, joined, map_map, meaning, reference_of, sees, used_in}
 use Rattle.proto_names.proofs.NamesThere.{text_to}
 use Rattle.proto_names.specs.Common.{AreFileMeant, IsFaultless, IsFlawed, LinkOf, MapEntry, Meant, NameOf, ReferenceFlaw, Unresolved, WrongKind, first_key, meant_by_link, meant_by_use, name_at, name_of_row, uses_of, word_key}
 use Rattle.proto_names.specs.LinkOfFiles.{IsMeantIn, TextMeant}
 use Rattle.proto_names.specs.Linking.{name_text}
 use Rattle.proto_names.specs.Renewed.{NumbersStay}
-use Rattle.proto_relink.proofs.Clean.{unmarked_files_mean_the_same}
-use Rattle.proto_relink.proofs.Differing.{same_reading, same_reference, same_text}
-use Rattle.proto_relink.specs.Edited.{AreEdited}
-use Rattle.proto_relink.specs.Relinked.{HasToLook}
-use Rattle.proto_table.proofs.Common.{names_of, used_named}
-use Rattle.proto_table.specs.declared.table.Table.{Table}
+use Rattle.proto_names_update.proofs.Clean.{unmarked_files_mean_the_same}
+use Rattle.proto_names_update.proofs.Differing.{same_reading, same_reference, same_text}
+use Rattle.proto_names_update.specs.Edited.{AreEdited}
+use Rattle.proto_names_update.specs.Relinked.{HasToLook}
+use Rattle.proto_names_table.proofs.Common.{names_of, used_named}
+use Rattle.proto_names_table.specs.declared.table.Table.{Table}
 
 -- ---- what is seen, by imports and the number of files
 

@@ -1,19 +1,19 @@
 -- The parts of a link that was changed in place are those of the link of the files that are there now.
 use Rattle.std.proofs.Common.{◌≡◌, ◌⊎◌, ℕ, ◌<◌, Bool, true, false, max, List, [], ◌∷◌, length, get_or, map, refl, sym, ◌∙◌, ap, subst, inl, inr, arith, All, Contains}
-use Rattle.proto_faults.proofs.Common.{All-contains, Vec, both_ways, cases_lt, contains_head, get_or-map, get_or_past, length-map}
+use Rattle.proto_base.proofs.Common.{All-contains, Vec, both_ways, cases_lt, contains_head, get_or-map, get_or_past, length-map}
 use Rattle.proto_files.proofs.Common.{AreRead, FileOf, HasNoFault, ReadOf}
-use Rattle.proto_imports.proofs.Common.{LinkFaults}
-use Rattle.proto_imports.specs.declared.import.FileImport.{FileImport}
-use Rattle.proto_kept_lists.proofs.WithValues.{length-with_values}
-use Rattle.proto_kept_names.specs.NamesOfFiles.{AreNamesOf as AreListedNames}
-use Rattle.proto_kept_references.specs.ChangedFiles.{IsChangeMarked, StaysOrIsMarked, WasOrIsMarked, outer_rows_of}
-use Rattle.proto_kept_references.specs.ChangedFiles.{AreChangesMarked as AreRowsMarked}
-use Rattle.proto_kept_references.specs.OuterRows.{is_below_type}
-use Rattle.proto_kept_references.specs.Renewed.{AreReferencesOf}
-use Rattle.proto_kept_references.specs.Sight.{IsSightMarked}
-use Rattle.proto_kept_references.specs.declared.outer_rows.KindRow.{KindRow}
-use Rattle.proto_meaning.specs.Names.{Word}
-use Rattle.proto_meaning.specs.declared.kind.Kind.{Kind}
+use Rattle.proto_names_imports.proofs.Common.{LinkFaults}
+use Rattle.proto_names_imports.specs.declared.import.FileImport.{FileImport}
+use Rattle.proto_base.proofs.WithValues.{length-with_values}
+use Rattle.proto_names_update.specs.NamesOfFiles.{AreNamesOf as AreListedNames}
+use Rattle.proto_names_affected.specs.ChangedFiles.{IsChangeMarked, StaysOrIsMarked, WasOrIsMarked, outer_rows_of}
+use Rattle.proto_names_affected.specs.ChangedFiles.{AreChangesMarked as AreRowsMarked}
+use Rattle.proto_names_affected.specs.OuterRows.{is_below_type}
+use Rattle.proto_names_affected.specs.Renewed.{AreReferencesOf}
+use Rattle.proto_names_affected.specs.Sight.{IsSightMarked}
+use Rattle.proto_names_affected.specs.declared.outer_rows.KindRow.{KindRow}
+use Rattle.proto_names_rules.specs.Names.{Word}
+use Rattle.proto_names_rules.specs.declared.kind.Kind.{Kind}
 use Rattle.proto_names.proofs.OuterRows.{outer_from, outer_in, outer_to}
 use Rattle.proto_names.proofs.PartsBefore.{before, from_lists, meant_below, of_before, rows_below, rows_count, same_but, was}
 use Rattle.proto_names.proofs.ReferencesByRow.{references_by_row}
@@ -26,9 +26,9 @@ use Rattle.proto_names.specs.LinkOfFiles.{IsLinkOf}
 use Rattle.proto_names.specs.Renewal.{AreMeantBelow, AreRowsRenewed, link_of_parts}
 use Rattle.proto_names.specs.Renewed.{AreBeginnersMarked, AreChangesMarked, AreMeantAgain, AreNamesRenewed, AreSightsMarked, AreUsersMarked, DeclaresOuter, EndsIn, IsMadeOf, IsTableOf}
 use Rattle.proto_names.specs.Sight.{AreLinkImports, IsSightOf, StayBut}
-use Rattle.proto_relink.specs.Relinked.{HasToLook, WasLink}
-use Rattle.proto_table.proofs.Common.{IsTable, pick}
-use Rattle.proto_table.specs.declared.table.Table.{Table}
+use Rattle.proto_names_update.specs.Relinked.{HasToLook, WasLink}
+use Rattle.proto_names_table.proofs.Common.{IsTable, pick}
+use Rattle.proto_names_table.specs.declared.table.Table.{Table}
 
 module _ (files : List FileOf) (places : List ℕ) (old : Table) (imports : List (Vec FileImport)) (rows : List (Vec ℕ)) (seen : List (Vec Bool)) (meant : List (Vec Meant)) (references : List (Vec RefId))
     (table_was : IsTable old) (link_was : WasLink IsLinkOf files places (link_of_parts old imports rows seen meant references))

@@ -1,17 +1,17 @@
 -- What files see, once some are edited: where their marks are what they were they see what they saw, and by their marks references can be looked up.
 use Rattle.std.proofs.Common.{◌≡◌, ◌⊎◌, ℕ, ◌<◌, ◌≤◌, ◌==◌, Bool, true, false, List, [], length, get_or, map, refl, sym, ◌∙◌, ap, subst, inl, inr, arith, Contains, eq-eqb, eqb-true}
 use Rattle.std.specs.Cmp.{both_ways}
-use Rattle.proto_faults.proofs.Common.{Vec, any_from, any_to, cases_Bool, cases_lt, length-map, list_any}
-use Rattle.proto_faults.proofs.Common.{both_ways as none_both}
+use Rattle.proto_base.proofs.Common.{Vec, any_from, any_to, cases_Bool, cases_lt, length-map, list_any}
+use Rattle.proto_base.proofs.Common.{both_ways as none_both}
 use Rattle.proto_files.proofs.Common.{FileOf, ReadOf}
-use Rattle.proto_imports.proofs.Common.{names_in, names_of_files}
-use Rattle.proto_kept_references.specs.Sight.{IsNewlySeen}
-use Rattle.proto_meaning.proofs.Common.{ImportsAreOfFiles, Sees, Workspace, by_import, itself, sees, sees_is}
+use Rattle.proto_names_imports.proofs.Common.{names_in, names_of_files}
+use Rattle.proto_names_affected.specs.Sight.{IsNewlySeen}
+use Rattle.proto_names_rules.proofs.Common.{ImportsAreOfFiles, Sees, Workspace, by_import, itself, sees, sees_is}
 use Rattle.proto_names.specs.Common.{IsFileLinked, LinkOf}
 use Rattle.proto_names.specs.Renewed.{AreNamesRenewed, IsTableOf}
 use Rattle.proto_names.specs.Sight.{IsSightOf}
-use Rattle.proto_relink.proofs.Differing.{as_many}
-use Rattle.proto_table.specs.declared.table.Table.{Table}
+use Rattle.proto_names_update.proofs.Differing.{as_many}
+use Rattle.proto_names_table.specs.declared.table.Table.{Table}
 
 -- a file is one of these, or it is none
 pub is_place : (places : List ℕ) (k : ℕ) → Contains places k ⊎ (Contains places k → ⊥)

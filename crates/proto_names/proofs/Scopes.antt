@@ -1,11 +1,11 @@
 -- A scope is cut at its points, and its words are looked up one below another.
 use Rattle.std.proofs.Common.{◌≡◌, ◌≢◌, ◌⊎◌, ℕ, zero, suc, ◌+◌, ◌<◌, ◌≤◌, false, List, [], ◌∷◌, ◌++◌, length, take, Some, None, refl, sym, ◌∙◌, ap, subst, inl, inr, arith, length-append, append_assoc, string_bytes, ◌==◌, eq-eqb}
-use Rattle.proto_faults.proofs.Common.{list_any, or_parts, both_ways, length-map, none-some}
+use Rattle.proto_base.proofs.Common.{list_any, or_parts, both_ways, length-map, none-some}
 use Rattle.std.proofs.Math.Seq.{take-length, take-append_seam}
-use Rattle.proto_meaning.proofs.Common.{under, front, joined, ArePlain, under_some, not_pointed}
+use Rattle.proto_names_rules.proofs.Common.{under, front, joined, ArePlain, under_some, not_pointed}
 use Rattle.proto_names.specs.Scopes.{IsScopeFront}
-use Rattle.proto_table.proofs.Common.{names_of, look, IsTable, joined_all, under_all_named, joined_more, plain_take}
-use Rattle.proto_table.specs.declared.table.Table.{Table}
+use Rattle.proto_names_table.proofs.Common.{names_of, look, IsTable, joined_all, under_all_named, joined_more, plain_take}
+use Rattle.proto_names_table.specs.declared.table.Table.{Table}
 
 -- ---- words that are joined
 

@@ -1,9 +1,9 @@
 -- The references of all files, file after file: each is one of a file (for the crates above).
 use Rattle.std.proofs.Common.{◌≡◌, ℕ, zero, suc, ◌+◌, ◌<◌, List, [], ◌∷◌, length, map, subst, inl, inr, arith, Contains}
-use Rattle.proto_faults.proofs.Common.{Contains-append_cases, Contains-append_left, Contains-append_right, contains_map, from_map}
+use Rattle.proto_base.proofs.Common.{Contains-append_cases, Contains-append_left, Contains-append_right, contains_map, from_map}
 use Rattle.proto_files.specs.FilesRead.{ReadOf, read_at}
-use Rattle.proto_imports.specs.Links.{names_in}
-use Rattle.proto_meaning.proofs.Common.{At, all_used, file_used, used_in, Used}
+use Rattle.proto_names_imports.specs.Links.{names_in}
+use Rattle.proto_names_rules.proofs.Common.{At, all_used, file_used, used_in, Used}
 
 pub from_use : (n : ℕ) (rs : List ReadOf) (u : Used At) → Contains (all_used n (map names_in rs)) u → (k : ℕ) × (v : Used ℕ) × (k < length rs) × Contains (names_in (read_at rs k)).used v × (used_in (n + k) v ≡ u)
 from_use n [] u c = absurd (omega (arith, c.1))

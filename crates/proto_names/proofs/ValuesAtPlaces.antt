@@ -1,9 +1,9 @@
 -- A list with values at some places.
 use Rattle.std.proofs.Common.{◌≡◌, ℕ, List, [], ◌∷◌, map, slice_set, refl, ◌∙◌, ap, All}
 use Rattle.std.proofs.lemmas.List.{map-set}
-use Rattle.proto_faults.proofs.Common.{All-head, All-set, All-tail, Vec}
-use Rattle.proto_kept_lists.specs.Undone.{with_values}
-use Rattle.proto_kept_names.specs.RenewedNames.{rows_with}
+use Rattle.proto_base.proofs.Common.{All-head, All-set, All-tail, Vec}
+use Rattle.proto_base.specs.Undone.{with_values}
+use Rattle.proto_names_update.specs.RenewedNames.{rows_with}
 
 pub all_with : {T : Type 0} (P : T → Type 0) (items : List T) (places : List ℕ) (values : List T) → All P items → All P values → All P (with_values items places values)
 all_with P items [] values old new = old

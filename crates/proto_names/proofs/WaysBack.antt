@@ -1,18 +1,18 @@
 -- A link whose parts are as they were again, and one that was changed in place.
 use Rattle.std.proofs.Common.{◌≡◌, ℕ, ◌<◌, List, [], ◌∷◌, length, get_or, map, sym, ◌∙◌, ap, subst, arith, cond, take, All, AllPairs}
 use Rattle.std.proofs.lemmas.List.{take_all}
-use Rattle.proto_faults.proofs.Common.{Vec, get_or-map, length-map}
+use Rattle.proto_base.proofs.Common.{Vec, get_or-map, length-map}
 use Rattle.proto_files.specs.FilesRead.{AreRead, ReadOf}
 use Rattle.proto_files.specs.GivenFiles.{FileOf}
-use Rattle.proto_kept_lists.specs.Undone.{undone}
-use Rattle.proto_kept_names.specs.NameLogs.{seen_of, undone_table}
+use Rattle.proto_base.specs.Undone.{undone}
+use Rattle.proto_names_update.specs.NameLogs.{seen_of, undone_table}
 use Rattle.proto_names.specs.Common.{LinkOf, Meant, RefId, name_of_row}
 use Rattle.proto_names.specs.LinkOfFiles.{IsLinkOf}
 use Rattle.proto_names.specs.Renewal.{SeenParts, undone_parts}
 use Rattle.proto_names.specs.declared.link_log.LinkLog.{LinkLog}
-use Rattle.proto_table.proofs.Alike.{through}
-use Rattle.proto_table.specs.Tables.{IsUnchanged, row_of}
-use Rattle.proto_table.specs.declared.table.Table.{Table}
+use Rattle.proto_names_table.proofs.Alike.{through}
+use Rattle.proto_names_table.specs.Tables.{IsUnchanged, row_of}
+use Rattle.proto_names_table.specs.declared.table.Table.{Table}
 
 -- in a link of files the references of each file stand by their first tokens
 pub lists_rise : (files : List FileOf) (reads : List ReadOf) (l : LinkOf) → AreRead files reads → IsLinkOf files l → (meant : List (Vec Meant)) → map (λ v. v.items) meant ≡ l.meant → All (λ v. AllPairs (λ m n. m.token < n.token) v.items) meant

@@ -2,27 +2,27 @@
 use Rattle.std.specs.Prelude.{◌≡◌, ℕ, ◌<◌, Bool, List, [], ◌∷◌, ◌++◌, length, get_or, map}
 use Rattle.std.specs.Global.{Vec}
 use Rattle.std.specs.List.{All}
-use Rattle.proto_faults.specs.Texts.{Text}
+use Rattle.proto_base.specs.Texts.{Text}
 use Rattle.proto_files.specs.GivenFiles.{FileOf}
 use Rattle.proto_case.specs.Camel.{entry_name}
-use Rattle.proto_meaning.specs.Faults.{fault, IsLeast, ReferenceFault}
-use Rattle.proto_listing.specs.FromTree.{items_in}
-use Rattle.proto_meaning.specs.Grown.{At, at}
+use Rattle.proto_names_rules.specs.Faults.{fault, IsLeast, ReferenceFault}
+use Rattle.proto_names_outline.specs.FromTree.{items_in}
+use Rattle.proto_names_rules.specs.Grown.{At, at}
 use Rattle.proto_files.specs.FilesRead.{ReadOf, read_at}
-pub use Rattle.proto_imports.specs.Links.{uses_of}
-use Rattle.proto_imports.specs.Links.{text_of, link_skeleton, names_of_files}
-use Rattle.proto_listing.specs.Listing.{package_first, whole}
-use Rattle.proto_meaning.specs.Names.{Workspace}
-use Rattle.proto_table.specs.Naming.{used_named}
+pub use Rattle.proto_names_imports.specs.Links.{uses_of}
+use Rattle.proto_names_imports.specs.Links.{text_of, link_skeleton, names_of_files}
+use Rattle.proto_names_outline.specs.Listing.{package_first, whole}
+use Rattle.proto_names_rules.specs.Names.{Workspace}
+use Rattle.proto_names_table.specs.Naming.{used_named}
 use Rattle.proto_names.specs.Referring.{IsFaultless, IsFlawed, IsReadBy, AreMeant}
-use Rattle.proto_meaning.specs.Skeleton.{Used, name_of}
+use Rattle.proto_names_rules.specs.Skeleton.{Used, name_of}
 use Rattle.proto_names.specs.declared.references.BadReference.{BadReference}
-use Rattle.proto_kept_lists.specs.declared.backlinks.Meant.{Meant}
-use Rattle.proto_faults.specs.declared.or_no_memory.OrNoMemory.{OrNoMemory}
-use Rattle.proto_faults.specs.declared.or_no_memory.OrNoMemory.TheVariants as or
+use Rattle.proto_names_table.specs.declared.ids.Meant.{Meant}
+use Rattle.proto_base.specs.declared.or_no_memory.OrNoMemory.{OrNoMemory}
+use Rattle.proto_base.specs.declared.or_no_memory.OrNoMemory.TheVariants as or
 use Rattle.proto_names.specs.declared.references.ReferenceFlaw.{ReferenceFlaw}
 use Rattle.proto_names.specs.declared.references.ReferenceFlaw.TheVariants.{Unresolved, WrongKind, MapEntry}
-use Rattle.proto_table.specs.declared.table.Table.{Table}
+use Rattle.proto_names_table.specs.declared.table.Table.{Table}
 
 -- the number of the fault that a reference has
 abbrev pub flaw_number : ReferenceFlaw → ℕ

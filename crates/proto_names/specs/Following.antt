@@ -3,12 +3,12 @@ use Rattle.std.specs.Prelude.{◌≡◌, ℕ, Bool, List, length, Option, IfSome
 use Rattle.proto_files.specs.Faults.{HasNoFault}
 use Rattle.proto_files.specs.FilesRead.{AreRead, ReadOf}
 use Rattle.proto_files.specs.GivenFiles.{FileOf}
-use Rattle.proto_imports.specs.Links.{LinkFaults}
+use Rattle.proto_names_imports.specs.Links.{LinkFaults}
 use Rattle.proto_names.specs.LinkOfFiles.{IsLinkOf}
 use Rattle.proto_names.specs.Linking.{LinkOf}
 use Rattle.proto_names.specs.Referring.{word_key}
-use Rattle.proto_relink.specs.Edited.{AreSameBut}
-use Rattle.proto_relink.specs.Relinked.{HasToLook, IsCleanLink}
+use Rattle.proto_names_update.specs.Edited.{AreSameBut}
+use Rattle.proto_names_update.specs.Relinked.{HasToLook, IsCleanLink}
 
 -- the marks tell which of these files have to be looked at again, where they were those before but
 -- at these places

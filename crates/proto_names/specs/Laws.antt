@@ -1,7 +1,7 @@
 -- Laws of links, for the layers above: what sees a name, and what words references have.
 use Rattle.std.specs.Prelude.{◌≡◌, ◌↔◌, ℕ, ◌<◌, true, List, length, map}
 use Rattle.std.specs.List.{Contains}
-use Rattle.proto_faults.specs.Texts.{Text}
+use Rattle.proto_base.specs.Texts.{Text}
 use Rattle.proto_text.specs.Texts.{words}
 use Rattle.proto_text.specs.Tokens.{AreTokens}
 use Rattle.proto_text.specs.declared.lexer.Token.{Token}
@@ -9,10 +9,10 @@ use Rattle.proto_tree.specs.References.{dotted}
 use Rattle.proto_tree.specs.declared.tree.Reference.{Reference}
 use Rattle.proto_files.specs.FilesRead.{ReadOf, AreRead}
 use Rattle.proto_files.specs.GivenFiles.{FileOf, file_at}
-use Rattle.proto_meaning.specs.Joined.{joined, ArePlain}
-use Rattle.proto_meaning.specs.Names.{Sees, Symbol, Workspace, shows}
-use Rattle.proto_meaning.specs.Skeleton.{Used}
-use Rattle.proto_imports.specs.Links.{names_of_files}
+use Rattle.proto_names_rules.specs.Joined.{joined, ArePlain}
+use Rattle.proto_names_rules.specs.Names.{Sees, Symbol, Workspace, shows}
+use Rattle.proto_names_rules.specs.Skeleton.{Used}
+use Rattle.proto_names_imports.specs.Links.{names_of_files}
 use Rattle.proto_names.specs.FileReferences.{uses_of}
 use Rattle.proto_names.specs.LinkOfFiles.{IsLinkOf}
 use Rattle.proto_names.specs.Linking.{LinkOf, is_visible}

@@ -10,4 +10,4 @@ pub mod Renewed
 pub mod Replacing
 pub mod Scopes
 pub mod Sight
-pub use Rattle.proto_imports.specs.Links
+pub use Rattle.proto_names_imports.specs.Links

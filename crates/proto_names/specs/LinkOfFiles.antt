@@ -4,31 +4,31 @@ use Rattle.std.specs.Prelude.{◌≡◌, ◌≢◌, ℕ, ◌+◌, ◌<◌, Bool,
 use Rattle.std.specs.Global.{Vec}
 use Rattle.std.specs.List.{All, AllPairs, Contains, filter}
 use Rattle.std.specs.Str.{bytes_eq}
-use Rattle.proto_faults.specs.Texts.{Text}
+use Rattle.proto_base.specs.Texts.{Text}
 use Rattle.proto_files.specs.GivenFiles.{FileOf, paths_of}
 use Rattle.proto_case.specs.Camel.{entry_name}
-use Rattle.proto_meaning.specs.Faults.{Fault, ImportFault, NameFault, place_of}
+use Rattle.proto_names_rules.specs.Faults.{Fault, ImportFault, NameFault, place_of}
 use Rattle.proto_names.specs.FileReferences.{declared_names, uses_of}
-use Rattle.proto_meaning.specs.Forest.{front}
-use Rattle.proto_meaning.specs.Grown.{At, at}
-use Rattle.proto_meaning.specs.Joined.{ArePlain, joined}
-use Rattle.proto_meaning.specs.Linked.{ImportsAreOfFiles}
+use Rattle.proto_names_rules.specs.Forest.{front}
+use Rattle.proto_names_rules.specs.Grown.{At, at}
+use Rattle.proto_names_rules.specs.Joined.{ArePlain, joined}
+use Rattle.proto_names_rules.specs.Linked.{ImportsAreOfFiles}
 use Rattle.proto_names.specs.Linking.{LinkOf, NameOf, name_at, name_text}
 use Rattle.proto_files.specs.FilesRead.{ReadOf, AreRead}
-use Rattle.proto_imports.specs.Importing.{all_imports}
-use Rattle.proto_imports.specs.Links.{all_wanted, link_imports, link_skeleton, names_of_files, text_of}
-use Rattle.proto_meaning.specs.declared.kind.Kind.TheVariants.{Package}
-use Rattle.proto_meaning.specs.Names.{Symbol, Workspace, meaning}
+use Rattle.proto_names_imports.specs.Importing.{all_imports}
+use Rattle.proto_names_imports.specs.Links.{all_wanted, link_imports, link_skeleton, names_of_files, text_of}
+use Rattle.proto_names_rules.specs.declared.kind.Kind.TheVariants.{Package}
+use Rattle.proto_names_rules.specs.Names.{Symbol, Workspace, meaning}
 use Rattle.proto_names.specs.Referring.{first_key}
-use Rattle.proto_table.specs.Naming.{used_named}
-use Rattle.proto_table.specs.Resolved.{IsIndexOf}
-use Rattle.proto_meaning.specs.Marks.{MarksSeen}
-use Rattle.proto_meaning.specs.Skeleton.{Declared, Used, Skeleton, name_of, reference_of, workspace_of}
-use Rattle.proto_table.specs.Tables.{names_of}
-use Rattle.proto_kept_lists.specs.declared.backlinks.RefId.{RefId}
-use Rattle.proto_kept_lists.specs.declared.backlinks.Meant.{Meant}
-use Rattle.proto_table.specs.declared.table.Row.{Row}
-use Rattle.proto_table.specs.declared.table.Table.{Table}
+use Rattle.proto_names_table.specs.Naming.{used_named}
+use Rattle.proto_names_table.specs.Resolved.{IsIndexOf}
+use Rattle.proto_names_rules.specs.Marks.{MarksSeen}
+use Rattle.proto_names_rules.specs.Skeleton.{Declared, Used, Skeleton, name_of, reference_of, workspace_of}
+use Rattle.proto_names_table.specs.Tables.{names_of}
+use Rattle.proto_names_table.specs.declared.ids.RefId.{RefId}
+use Rattle.proto_names_table.specs.declared.ids.Meant.{Meant}
+use Rattle.proto_names_table.specs.declared.table.Row.{Row}
+use Rattle.proto_names_table.specs.declared.table.Table.{Table}
 
 -- each symbol has its name in the link, with its kind and its file, as text that tells its words;
 -- each name has a file, and is that of a symbol in each of its files; and a text is one name

@@ -4,15 +4,15 @@ use Rattle.std.specs.Prelude.{ℕ, suc, Bool, true, false, not, ◌&&◌, ◌==�
 use Rattle.std.specs.List.{filter, find, list_any}
 use Rattle.std.specs.Option.{option_and_then}
 use Rattle.std.specs.Str.{bytes_eq}
-use Rattle.proto_faults.specs.Texts.{Text}
-use Rattle.proto_meaning.specs.declared.kind.Kind.{Kind}
-use Rattle.proto_meaning.specs.Linked.{is_package}
-use Rattle.proto_imports.specs.declared.import.FileImport.{FileImport}
-use Rattle.proto_table.specs.Tables.{files_of}
-pub use Rattle.proto_kept_lists.specs.declared.backlinks.RefId.{RefId}
-pub use Rattle.proto_kept_lists.specs.declared.backlinks.SymbolId.{SymbolId}
-pub use Rattle.proto_kept_lists.specs.declared.backlinks.Meant.{Meant}
-use Rattle.proto_table.specs.declared.table.Row.{Row}
+use Rattle.proto_base.specs.Texts.{Text}
+use Rattle.proto_names_rules.specs.declared.kind.Kind.{Kind}
+use Rattle.proto_names_rules.specs.Linked.{is_package}
+use Rattle.proto_names_imports.specs.declared.import.FileImport.{FileImport}
+use Rattle.proto_names_table.specs.Tables.{files_of}
+pub use Rattle.proto_names_table.specs.declared.ids.RefId.{RefId}
+pub use Rattle.proto_names_table.specs.declared.ids.SymbolId.{SymbolId}
+pub use Rattle.proto_names_table.specs.declared.ids.Meant.{Meant}
+use Rattle.proto_names_table.specs.declared.table.Row.{Row}
 
 -- no element
 abbrev pub is_empty : {A : Type 0} → List A → Bool

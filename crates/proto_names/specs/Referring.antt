@@ -1,28 +1,28 @@
 -- The references of a file by the words of its tokens: what they mean, and which is faulty.
 use Rattle.std.specs.Prelude.{◌≡◌, ℕ, ◌+◌, ◌<◌, Bool, true, if◌then◌else◌, List, [], ◌∷◌, ◌++◌, length, get_or, slice_get, map, Option, Some, None, option_map, is_some}
 use Rattle.std.specs.List.{All, Contains}
-use Rattle.proto_faults.specs.Texts.{Text}
-pub use Rattle.proto_kept_lists.specs.Words.{word_key}
-use Rattle.proto_meaning.specs.declared.kind.Kind.{Kind}
-use Rattle.proto_meaning.specs.declared.kind.Kind.TheVariants.{Entry, Enum}
-use Rattle.proto_meaning.specs.Names.{Symbol, Reference, Workspace, meaning}
-use Rattle.proto_meaning.specs.Joined.{joined, ArePlain}
-use Rattle.proto_meaning.specs.Forest.{front}
+use Rattle.proto_base.specs.Texts.{Text}
+pub use Rattle.proto_base.specs.Words.{word_key}
+use Rattle.proto_names_rules.specs.declared.kind.Kind.{Kind}
+use Rattle.proto_names_rules.specs.declared.kind.Kind.TheVariants.{Entry, Enum}
+use Rattle.proto_names_rules.specs.Names.{Symbol, Reference, Workspace, meaning}
+use Rattle.proto_names_rules.specs.Joined.{joined, ArePlain}
+use Rattle.proto_names_rules.specs.Forest.{front}
 use Rattle.proto_tree.specs.References.{dotted, first_of}
-use Rattle.proto_table.specs.Tables.{names_of}
-use Rattle.proto_table.specs.Resolved.{IsIndexOf}
-use Rattle.proto_meaning.specs.Marks.{MarksSeen}
-use Rattle.proto_listing.specs.declared.listing.Above.{Above}
-use Rattle.proto_listing.specs.declared.listing.Above.TheVariants.{Outermost, Below}
-use Rattle.proto_listing.specs.declared.listing.Use.{Use}
-use Rattle.proto_table.specs.declared.table.Row.{Row}
-use Rattle.proto_table.specs.declared.table.Table.{Table}
+use Rattle.proto_names_table.specs.Tables.{names_of}
+use Rattle.proto_names_table.specs.Resolved.{IsIndexOf}
+use Rattle.proto_names_rules.specs.Marks.{MarksSeen}
+use Rattle.proto_names_outline.specs.declared.listing.Above.{Above}
+use Rattle.proto_names_outline.specs.declared.listing.Above.TheVariants.{Outermost, Below}
+use Rattle.proto_names_outline.specs.declared.listing.Use.{Use}
+use Rattle.proto_names_table.specs.declared.table.Row.{Row}
+use Rattle.proto_names_table.specs.declared.table.Table.{Table}
 use Rattle.proto_names.specs.declared.references.BadReference.{BadReference}
-use Rattle.proto_kept_lists.specs.declared.backlinks.Meant.{Meant}
+use Rattle.proto_names_table.specs.declared.ids.Meant.{Meant}
 use Rattle.proto_names.specs.declared.references.ReferenceFlaw.{ReferenceFlaw}
 use Rattle.proto_names.specs.declared.references.ReferenceFlaw.TheVariants.{Unresolved, WrongKind, MapEntry}
-use Rattle.proto_faults.specs.declared.or_no_memory.OrNoMemory.{OrNoMemory}
-use Rattle.proto_faults.specs.declared.or_no_memory.OrNoMemory.TheVariants as or
+use Rattle.proto_base.specs.declared.or_no_memory.OrNoMemory.{OrNoMemory}
+use Rattle.proto_base.specs.declared.or_no_memory.OrNoMemory.TheVariants as or
 
 -- the name of what stands right above, among these: none for what is outermost
 abbrev pub scope_above : List (List Text) → Above → List Text

@@ -4,19 +4,19 @@ use Rattle.std.specs.Global.{Vec}
 use Rattle.std.specs.List.{All}
 use Rattle.proto_files.specs.FilesRead.{AreRead, ReadOf}
 use Rattle.proto_files.specs.GivenFiles.{FileOf}
-use Rattle.proto_imports.specs.declared.import.FileImport.{FileImport}
-use Rattle.proto_kept_lists.specs.Undone.{AreWithin, undone, with_values}
-use Rattle.proto_kept_lists.specs.declared.changes.Change.{Change}
-use Rattle.proto_kept_lists.specs.declared.backlinks.Meant.{Meant}
-use Rattle.proto_kept_lists.specs.declared.backlinks.RefId.{RefId}
-use Rattle.proto_kept_names.specs.NameLogs.{Fits, SeenTable, undone_table}
-use Rattle.proto_kept_names.specs.RenewedNames.{AreRenewed}
+use Rattle.proto_names_imports.specs.declared.import.FileImport.{FileImport}
+use Rattle.proto_base.specs.Undone.{AreWithin, undone, with_values}
+use Rattle.proto_base.specs.declared.changes.Change.{Change}
+use Rattle.proto_names_table.specs.declared.ids.Meant.{Meant}
+use Rattle.proto_names_table.specs.declared.ids.RefId.{RefId}
+use Rattle.proto_names_update.specs.NameLogs.{Fits, SeenTable, undone_table}
+use Rattle.proto_names_update.specs.RenewedNames.{AreRenewed}
 use Rattle.proto_names.specs.LinkOfFiles.{IsLinkOf}
 use Rattle.proto_names.specs.Linking.{LinkOf, name_of_row}
 use Rattle.proto_names.specs.Sight.{IsSightOf, StayBut}
 use Rattle.proto_names.specs.declared.link_log.LinkLog.{LinkLog}
-use Rattle.proto_relink.specs.Relinked.{WasLink}
-use Rattle.proto_table.specs.declared.table.Table.{Table}
+use Rattle.proto_names_update.specs.Relinked.{WasLink}
+use Rattle.proto_names_table.specs.declared.table.Table.{Table}
 
 -- the link of these parts
 abbrev pub link_of_parts : Table → List (Vec FileImport) → List (Vec ℕ) → List (Vec Bool)

@@ -5,25 +5,25 @@ use Rattle.std.specs.List.{All, Contains}
 use Rattle.proto_files.specs.Faults.{HasNoFault}
 use Rattle.proto_files.specs.FilesRead.{ReadOf}
 use Rattle.proto_files.specs.GivenFiles.{FileOf}
-use Rattle.proto_imports.specs.Links.{LinkFaults}
-use Rattle.proto_kept.specs.Marked.{IsUnmarked}
-use Rattle.proto_kept_references.specs.OuterRows.{is_below_type}
-use Rattle.proto_kept_references.specs.Sight.{IsKeptInSight}
-use Rattle.proto_meaning.specs.Joined.{ArePlain, joined}
-use Rattle.proto_meaning.specs.Names.{Name, Word, is_outer}
-use Rattle.proto_meaning.specs.declared.kind.Kind.{Kind}
+use Rattle.proto_names_imports.specs.Links.{LinkFaults}
+use Rattle.proto_names_rules.specs.Marked.{IsUnmarked}
+use Rattle.proto_names_affected.specs.OuterRows.{is_below_type}
+use Rattle.proto_names_affected.specs.Sight.{IsKeptInSight}
+use Rattle.proto_names_rules.specs.Joined.{ArePlain, joined}
+use Rattle.proto_names_rules.specs.Names.{Name, Word, is_outer}
+use Rattle.proto_names_rules.specs.declared.kind.Kind.{Kind}
 use Rattle.proto_names.specs.FileReferences.{AreFileMeant}
 use Rattle.proto_names.specs.LinkOfFiles.{AreNamesOf, IsLinkRead}
 use Rattle.proto_names.specs.Linking.{LinkOf, all_meant, name_of_row, references_to}
 use Rattle.proto_names.specs.Referring.{word_key}
 use Rattle.proto_names.specs.Sight.{AreLinkImports}
-use Rattle.proto_relink.specs.Edited.{AreEdited}
-use Rattle.proto_relink.specs.Relinked.{NoNameClashes}
-use Rattle.proto_table.specs.Tables.{IsTable, names_of}
-use Rattle.proto_kept_lists.specs.declared.backlinks.RefId.{RefId}
-use Rattle.proto_kept_lists.specs.declared.backlinks.Meant.{Meant}
-use Rattle.proto_table.specs.declared.table.Row.{Row}
-use Rattle.proto_table.specs.declared.table.Table.{Table}
+use Rattle.proto_names_update.specs.Edited.{AreEdited}
+use Rattle.proto_names_update.specs.Relinked.{NoNameClashes}
+use Rattle.proto_names_table.specs.Tables.{IsTable, names_of}
+use Rattle.proto_names_table.specs.declared.ids.RefId.{RefId}
+use Rattle.proto_names_table.specs.declared.ids.Meant.{Meant}
+use Rattle.proto_names_table.specs.declared.table.Row.{Row}
+use Rattle.proto_names_table.specs.declared.table.Table.{Table}
 
 -- this is the link of the files, which are read so and have no fault of imports, names and
 -- references; the table has its names, and these are the rows of each file's declarations

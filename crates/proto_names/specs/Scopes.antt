@@ -1,17 +1,17 @@
 -- The longest front of a scope that is a name of the table, and a reference that stands in a scope.
 use Rattle.std.specs.Prelude.{◌≡◌, ◌≢◌, ℕ, ◌<◌, ◌≤◌, false, List, [], length, get_or, map, take, is_some}
-use Rattle.proto_faults.specs.Texts.{Text}
+use Rattle.proto_base.specs.Texts.{Text}
 use Rattle.proto_files.specs.GivenFiles.{FileOf}
 use Rattle.proto_tree.specs.declared.tree.Reference.{Reference as ReferenceOfTree}
-use Rattle.proto_meaning.specs.Forest.{front}
+use Rattle.proto_names_rules.specs.Forest.{front}
 use Rattle.proto_tree.specs.References.{dotted}
-use Rattle.proto_meaning.specs.Grown.{at}
-use Rattle.proto_meaning.specs.Joined.{joined}
+use Rattle.proto_names_rules.specs.Grown.{at}
+use Rattle.proto_names_rules.specs.Joined.{joined}
 use Rattle.proto_files.specs.FilesRead.{ReadOf}
-use Rattle.proto_imports.specs.Links.{text_of}
-use Rattle.proto_meaning.specs.Names.{Reference}
-use Rattle.proto_table.specs.Tables.{names_of}
-use Rattle.proto_table.specs.declared.table.Table.{Table}
+use Rattle.proto_names_imports.specs.Links.{text_of}
+use Rattle.proto_names_rules.specs.Names.{Reference}
+use Rattle.proto_names_table.specs.Tables.{names_of}
+use Rattle.proto_names_table.specs.declared.table.Table.{Table}
 
 -- the number is that of the scope's first words, and no row is named by more of them
 pub record IsScopeFront (t : Table) (path : List Text) (number : ℕ) : Type 0 where

@@ -4,13 +4,13 @@ use Rattle.std.specs.Global.{Vec}
 use Rattle.std.specs.List.{Contains}
 use Rattle.proto_files.specs.FilesRead.{AreRead, ReadOf}
 use Rattle.proto_files.specs.GivenFiles.{FileOf}
-use Rattle.proto_imports.specs.Importing.{all_imports}
-use Rattle.proto_imports.specs.Links.{link_imports, names_of_files}
-use Rattle.proto_imports.specs.declared.import.FileImport.{FileImport}
-use Rattle.proto_meaning.specs.Linked.{ImportsAreOfFiles}
-use Rattle.proto_meaning.specs.Marks.{MarksSeen}
-use Rattle.proto_relink.specs.Edited.{AreSameBut}
-use Rattle.proto_relink.specs.Relinked.{NoImportIsFaulty}
+use Rattle.proto_names_imports.specs.Importing.{all_imports}
+use Rattle.proto_names_imports.specs.Links.{link_imports, names_of_files}
+use Rattle.proto_names_imports.specs.declared.import.FileImport.{FileImport}
+use Rattle.proto_names_rules.specs.Linked.{ImportsAreOfFiles}
+use Rattle.proto_names_rules.specs.Marks.{MarksSeen}
+use Rattle.proto_names_update.specs.Edited.{AreSameBut}
+use Rattle.proto_names_update.specs.Relinked.{NoImportIsFaulty}
 
 -- for each file, its imports
 pub record AreLinkImports (files : List FileOf) (reads : List ReadOf)

@@ -4,19 +4,19 @@ ghost use Rattle.std.specs.Prelude.{◌≡◌, ◌<◌, ℕ, List, [], length, g
 ghost use Rattle.std.specs.List.{All};
 ghost use Rattle.proto_files.specs.GivenFiles.{file_at};
 ghost use Rattle.proto_tree.specs.Reads.{Reads};
-ghost use Rattle.proto_meaning.specs.Faults.{Fault, ReferenceFault};
+ghost use Rattle.proto_names_rules.specs.Faults.{Fault, ReferenceFault};
 ghost use Rattle.proto_names.specs.FileReferences.{AreFileMeant, AreLinked, IsFileReferenceError, IsFileLinked, IsLeastBad};
 ghost use Rattle.proto_files.specs.FilesRead.{ReadOf, AreRead};
-ghost use Rattle.proto_imports.specs.Links.{AreListings, IsListing, link_skeleton, text_of};
+ghost use Rattle.proto_names_imports.specs.Links.{AreListings, IsListing, link_skeleton, text_of};
 ghost use Rattle.proto_files.specs.FilesRead.{Each};
-ghost use Rattle.proto_table.specs.Tables.{IsTable};
+ghost use Rattle.proto_names_table.specs.Tables.{IsTable};
 
 use crate::references::{ReferenceError, meanings};
-use proto_faults::NoMemory;
+use proto_base::NoMemory;
 use proto_files::{Files, Words, are_read};
-use proto_kept_lists::Meant;
-use proto_listing::listing::Listing;
-use proto_table::table::Table;
+use proto_names_outline::listing::Listing;
+use proto_names_table::Meant;
+use proto_names_table::table::Table;
 use std::alloc::Global;
 
 /// What the references of each file mean, in order; else the least that is faulty, by file, token

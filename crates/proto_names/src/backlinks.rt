@@ -4,8 +4,8 @@ ghost use Rattle.std.specs.Prelude.{◌≡◌, ℕ, ◌<◌, ◌≤◌, ◌^◌,
 ghost use Rattle.std.specs.List.{All};
 ghost use Rattle.proto_names.specs.Linking.{meant_in_file, all_meant, references_to};
 
-use proto_faults::NoMemory;
-use proto_kept_lists::{Meant, RefId};
+use proto_base::NoMemory;
+use proto_names_table::{Meant, RefId};
 use std::alloc::Global;
 
 /// For each of so many names, the references that mean it, by file and in order.

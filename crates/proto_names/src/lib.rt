@@ -18,8 +18,8 @@ mod whole_link;
 
 pub use link::{DeclaredNames, Link};
 pub use made::{MadeOfLink, Nothing};
-pub use proto_faults::SchemaFault as LinkFault;
+pub use proto_base::{SchemaFault as LinkFault, word_key};
 pub use proto_files::are_read;
-pub use proto_kept_lists::{Meant, RefId, SymbolId, word_key};
-pub use proto_meaning::Kind;
+pub use proto_names_rules::Kind;
+pub use proto_names_table::{Meant, RefId, SymbolId};
 pub use read_files::all_written;

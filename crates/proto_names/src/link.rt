@@ -7,25 +7,25 @@ ghost use Rattle.proto_text.specs.Texts.{words};
 ghost use Rattle.proto_text.specs.Tokens.{AreTokens};
 ghost use Rattle.proto_text.specs.declared.lexer.Token.{Token};
 ghost use Rattle.proto_tree.specs.References.{dotted};
-ghost use Rattle.proto_meaning.specs.Joined.{joined, ArePlain};
+ghost use Rattle.proto_names_rules.specs.Joined.{joined, ArePlain};
 ghost use Rattle.proto_names.specs.FileReferences.{declared_names};
 ghost use Rattle.proto_names.specs.LinkOfFiles.{IsLinkOf};
-ghost use Rattle.proto_meaning.specs.Linked.{is_package};
+ghost use Rattle.proto_names_rules.specs.Linked.{is_package};
 ghost use Rattle.proto_names.specs.Linking.{NameOf, declared_row, name_of_row, name_at, name_text, declaring_file, declaring_token, row_at, meant_at, shows_text, is_visible};
 ghost use Rattle.proto_files.specs.FilesRead.{ReadOf, AreRead};
-ghost use Rattle.proto_imports.specs.Links.{names_of_files};
-ghost use Rattle.proto_meaning.specs.Names.{meaning};
+ghost use Rattle.proto_names_imports.specs.Links.{names_of_files};
+ghost use Rattle.proto_names_rules.specs.Names.{meaning};
 ghost use Rattle.proto_names.specs.Scopes.{reference_in};
-ghost use Rattle.proto_table.specs.Tables.{IsTable};
+ghost use Rattle.proto_names_table.specs.Tables.{IsTable};
 
 use crate::copying::copied;
 use crate::resolve::row_in_scope;
-use proto_faults::NoMemory;
+use proto_base::NoMemory;
 use proto_files::{Files, Words};
-use proto_imports::import::FileImport;
-use proto_kept_lists::{Meant, RefId, SymbolId};
-use proto_meaning::Kind;
-use proto_table::table::{Row, Table};
+use proto_names_imports::import::FileImport;
+use proto_names_rules::Kind;
+use proto_names_table::table::{Row, Table};
+use proto_names_table::{Meant, RefId, SymbolId};
 use proto_tree::Reference;
 use std::alloc::Global;
 use std::marker::Model;
@@ -81,7 +81,7 @@ impl Model for Link {
     ghost use Rattle.std.specs.Prelude.{◌≡◌, ◌<◌, length, map};
     ghost use Rattle.std.specs.List.{All, AllPairs};
     ghost use Rattle.proto_names.specs.Linking.{LinkOf, name_of_row};
-    ghost use Rattle.proto_table.specs.Tables.{IsTable};
+    ghost use Rattle.proto_names_table.specs.Tables.{IsTable};
 
     ghost Value = { LinkOf };
 

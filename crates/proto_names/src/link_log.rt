@@ -1,18 +1,19 @@
 //! What was changed of the parts of a link, and the way back.
 
 ghost use Rattle.std.specs.Prelude.{◌≡◌, ◌≤◌, None, [], length, take};
-ghost use Rattle.proto_kept_lists.specs.Undone.{AreWithin, undone};
-ghost use Rattle.proto_kept_names.specs.NameLogs.{Fits, seen_of, undone_table};
+ghost use Rattle.proto_base.specs.Undone.{AreWithin, undone};
+ghost use Rattle.proto_names_update.specs.NameLogs.{Fits, seen_of, undone_table};
 ghost use Rattle.proto_names.specs.Renewal.{LogFits};
 ghost use Rattle.proto_names.specs.Sight.{undone_seen};
-ghost use Rattle.proto_table.specs.declared.table.Table.{Table as TableOf};
-ghost use Rattle.proto_table.specs.Tables.{IsTable, IsUnchanged};
+ghost use Rattle.proto_names_table.specs.declared.table.Table.{Table as TableOf};
+ghost use Rattle.proto_names_table.specs.Tables.{IsTable, IsUnchanged};
 
-use proto_imports::import::FileImport;
-use proto_kept_lists::{Change, Meant, RefId, roll_back};
-use proto_kept_names::name_log::NameLog;
-use proto_kept_references::renewed_references::cut_references;
-use proto_table::table::Table;
+use proto_base::{Change, roll_back};
+use proto_names_affected::renewed_references::cut_references;
+use proto_names_imports::import::FileImport;
+use proto_names_table::table::Table;
+use proto_names_table::{Meant, RefId};
+use proto_names_update::name_log::NameLog;
 use std::alloc::Global;
 
 /// What was changed of the parts of a link since the log began.

@@ -2,16 +2,16 @@
 
 ghost use Rattle.std.specs.Prelude.{◌≡◌, ◌<◌, List, length, option_map, OnOk, OnErr, IfErr};
 ghost use Rattle.std.specs.List.{All};
-ghost use Rattle.proto_faults.specs.declared.fault.SchemaFault.{SchemaFault as SchemaFaultOf};
+ghost use Rattle.proto_base.specs.declared.fault.SchemaFault.{SchemaFault as SchemaFaultOf};
 ghost use Rattle.proto_files.specs.Faults.{HasNoFault};
 ghost use Rattle.proto_files.specs.GivenFiles.{FileOf};
-ghost use Rattle.proto_imports.specs.LinkErrors.{IsLinkError};
-ghost use Rattle.proto_imports.specs.Links.{LinkFaults};
+ghost use Rattle.proto_names_imports.specs.LinkErrors.{IsLinkError};
+ghost use Rattle.proto_names_imports.specs.Links.{LinkFaults};
 ghost use Rattle.proto_names.specs.Following.{WasMadeOf};
 ghost use Rattle.proto_names.specs.LinkOfFiles.{IsLinkOf};
 
 use crate::link::Link;
-use proto_faults::SchemaFault;
+use proto_base::SchemaFault;
 use proto_files::Files;
 use std::alloc::Global;
 

@@ -2,26 +2,26 @@
 
 ghost use Rattle.std.specs.Prelude.{◌≡◌, List, length, map, IfOk};
 ghost use Rattle.std.specs.List.{All};
-ghost use Rattle.proto_listing.specs.FromTree.{items_in};
-ghost use Rattle.proto_meaning.specs.Grown.{at};
-ghost use Rattle.proto_imports.specs.Importing.{TokensAreRising, all_asked};
-ghost use Rattle.proto_table.specs.LastWords.{named_as};
+ghost use Rattle.proto_names_outline.specs.FromTree.{items_in};
+ghost use Rattle.proto_names_rules.specs.Grown.{at};
+ghost use Rattle.proto_names_imports.specs.Importing.{TokensAreRising, all_asked};
+ghost use Rattle.proto_names_table.specs.LastWords.{named_as};
 ghost use Rattle.proto_files.specs.FilesRead.{ReadOf, AreRead, read_at};
-ghost use Rattle.proto_imports.specs.Links.{AreListings, all_wanted, names_in, text_of};
+ghost use Rattle.proto_names_imports.specs.Links.{AreListings, all_wanted, names_in, text_of};
 ghost use Rattle.proto_files.specs.FilesRead.{Each};
-ghost use Rattle.proto_listing.specs.Listing.{package_first};
-ghost use Rattle.proto_table.specs.Naming.{tree_named};
-ghost use Rattle.proto_table.specs.Spelled.{AreSpelled, all_named, named_in};
+ghost use Rattle.proto_names_outline.specs.Listing.{package_first};
+ghost use Rattle.proto_names_table.specs.Naming.{tree_named};
+ghost use Rattle.proto_names_table.specs.Spelled.{AreSpelled, all_named, named_in};
 
-use proto_faults::NoMemory;
+use proto_base::NoMemory;
 use proto_files::{Files, Words, are_read};
-use proto_imports::import::WrittenImport;
-use proto_imports::written::written_imports;
-use proto_listing::file_listing::list_file;
-use proto_listing::listing::Listing;
-use proto_listing::wanted::imports;
-use proto_table::last_words::spelled_names;
-use proto_table::spelled::Spelled;
+use proto_names_imports::import::WrittenImport;
+use proto_names_imports::written::written_imports;
+use proto_names_outline::file_listing::list_file;
+use proto_names_outline::listing::Listing;
+use proto_names_outline::wanted::imports;
+use proto_names_table::last_words::spelled_names;
+use proto_names_table::spelled::Spelled;
 use std::alloc::Global;
 
 /// What each file declares and refers to.

@@ -2,21 +2,21 @@
 
 ghost use Rattle.std.specs.Prelude.{◌≡◌, ◌<◌, ◌≤◌, ℕ, List, [], length, get_or, map, option_map, is_some, Some, None, IfOk, IfErr};
 ghost use Rattle.std.specs.List.{All};
-ghost use Rattle.proto_listing.specs.Listing.{needs};
+ghost use Rattle.proto_names_outline.specs.Listing.{needs};
 ghost use Rattle.proto_text.specs.Texts.{word_at};
 ghost use Rattle.proto_tree.specs.References.{dotted, first_of};
-ghost use Rattle.proto_meaning.specs.Joined.{joined, ArePlain};
-ghost use Rattle.proto_meaning.specs.Names.{Reference as NameReference, Workspace, meaning};
+ghost use Rattle.proto_names_rules.specs.Joined.{joined, ArePlain};
+ghost use Rattle.proto_names_rules.specs.Names.{Reference as NameReference, Workspace, meaning};
 ghost use Rattle.proto_names.specs.Referring.{first_token_of_use, reference_by, kind_flaw, row_flaw, AreMeant, IsReadBy, IsReferenceError};
-ghost use Rattle.proto_table.specs.Resolved.{IsAsked};
-ghost use Rattle.proto_table.specs.Tables.{names_of, IsTable};
+ghost use Rattle.proto_names_table.specs.Resolved.{IsAsked};
+ghost use Rattle.proto_names_table.specs.Tables.{names_of, IsTable};
 
-use proto_faults::{NoMemory, OrNoMemory};
+use proto_base::{NoMemory, OrNoMemory, word_key};
 use proto_files::Words;
-use proto_kept_lists::{Meant, word_key};
-use proto_listing::listing::{Above, Use};
-use proto_meaning::Kind;
-use proto_table::table::Table;
+use proto_names_outline::listing::{Above, Use};
+use proto_names_rules::Kind;
+use proto_names_table::Meant;
+use proto_names_table::table::Table;
 use proto_tree::{Dotted, Reference};
 use std::alloc::Global;
 

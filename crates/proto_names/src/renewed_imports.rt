@@ -3,17 +3,16 @@
 ghost use Rattle.std.specs.Prelude.{◌≡◌, ◌<◌, ◌≤◌, ◌^◌, List, length, map, None, IfOk, IfSome};
 ghost use Rattle.std.specs.List.{All};
 ghost use Rattle.proto_files.specs.FilesRead.{AreRead, ReadOf};
-ghost use Rattle.proto_kept_lists.specs.Undone.{AreWithin, undone};
+ghost use Rattle.proto_base.specs.Undone.{AreWithin, undone};
 ghost use Rattle.proto_names.specs.Sight.{AreLinkImports, IsSightOf, StayBut, WasSight, undone_seen};
 
-use proto_faults::NoMemory;
+use proto_base::{Change, NoMemory, change_all_at};
 use proto_files::Files;
-use proto_imports::import::FileImport;
-use proto_imports::import_cycles::has_no_cycle;
-use proto_imports::laws::{kept_imports_stay, listed_imports_are_known};
-use proto_imports::sight::all_seen;
-use proto_kept_lists::{Change, change_all_at};
-use proto_kept_names::kept_imports::{all_imports_kept, imports_at};
+use proto_names_imports::import::FileImport;
+use proto_names_imports::import_cycles::has_no_cycle;
+use proto_names_imports::laws::{kept_imports_stay, listed_imports_are_known};
+use proto_names_imports::sight::all_seen;
+use proto_names_update::kept_imports::{all_imports_kept, imports_at};
 use std::alloc::Global;
 use std::mem;
 

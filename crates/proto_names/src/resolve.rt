@@ -3,15 +3,15 @@
 ghost use Rattle.std.specs.Prelude.{◌≡◌, ◌≢◌, ◌<◌, ℕ, [], length, get_or, map, option_map, is_some, IfSome, IfNone};
 ghost use Rattle.proto_text.specs.Texts.{word_at};
 ghost use Rattle.proto_tree.specs.References.{dotted};
-ghost use Rattle.proto_meaning.specs.Joined.{joined, ArePlain};
-ghost use Rattle.proto_meaning.specs.Names.{Reference as NameReference, Workspace, meaning};
-ghost use Rattle.proto_table.specs.Resolved.{IsIndexOf, IsTypeAt, under_all};
-ghost use Rattle.proto_meaning.specs.Marks.{MarksSeen};
-ghost use Rattle.proto_table.specs.Tables.{names_of, IsTable};
+ghost use Rattle.proto_names_rules.specs.Joined.{joined, ArePlain};
+ghost use Rattle.proto_names_rules.specs.Names.{Reference as NameReference, Workspace, meaning};
+ghost use Rattle.proto_names_table.specs.Resolved.{IsIndexOf, IsTypeAt, under_all};
+ghost use Rattle.proto_names_rules.specs.Marks.{MarksSeen};
+ghost use Rattle.proto_names_table.specs.Tables.{names_of, IsTable};
 
 use crate::scope::scope_number;
 use proto_files::Words;
-use proto_table::table::Table;
+use proto_names_table::table::Table;
 use proto_tree::{Behind, Reference};
 
 /// The row of what a reference means in a scope, where these files are seen. The scope need not be

@@ -1,11 +1,11 @@
 //! The longest front of a scope that is a name of the table.
 
 ghost use Rattle.std.specs.Prelude.{◌≡◌, ◌≤◌, ℕ, List, length};
-ghost use Rattle.proto_meaning.specs.Joined.{joined, ArePlain};
+ghost use Rattle.proto_names_rules.specs.Joined.{joined, ArePlain};
 ghost use Rattle.proto_names.specs.Scopes.{IsScopeFront};
-ghost use Rattle.proto_table.specs.Tables.{IsTable};
+ghost use Rattle.proto_names_table.specs.Tables.{IsTable};
 
-use proto_table::table::{Table, split_at_dot};
+use proto_names_table::table::{Table, split_at_dot};
 
 /// The number of the longest front of a scope, as text, that is a name of the table; 0 where none
 /// is. The number of a row is one more than its index.

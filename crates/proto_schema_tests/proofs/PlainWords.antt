@@ -1,9 +1,9 @@
 -- Words that are plain.
 use Rattle.std.proofs.Common.{◌≡◌, ℕ, Bool, true, false, ◌==◌, List, [], ◌∷◌, length, refl, sym, ◌∙◌, ap, subst, arith, not, bytes_eq}
-use Rattle.proto_faults.proofs.Common.{list_any, bytes_eq-Decides}
+use Rattle.proto_base.proofs.Common.{list_any, bytes_eq-Decides}
 use Rattle.proto_text.proofs.Common.{one_token_list, words, AreTokens}
 use Rattle.proto_text.specs.declared.lexer.Token.{Token}
-use Rattle.proto_meaning.specs.Joined.{IsPlain, ArePlain}
+use Rattle.proto_names_rules.specs.Joined.{IsPlain, ArePlain}
 
 pub plain : (b : ℕ) (w : List ℕ) → list_any (λ x. x == 46) (b ∷ w) ≡ false → IsPlain (b ∷ w)
 plain b w h = (h, λ e. absurd (omega (arith, ap length e)))

@@ -2,8 +2,8 @@
 //! one allocation this test still passes, whichever it is.
 
 use crate::calls::*;
+use proto_base::{NoMemory, SchemaFault};
 use proto_desc::{Schema, to_json};
-use proto_faults::{NoMemory, SchemaFault};
 use proto_lint::{Finding, RuleSet, lint};
 use std::alloc::Global;
 use std::fmt::Write;

@@ -1,8 +1,8 @@
 //! Compiling, with what tests say of the answers.
 
 use crate::allocations::{Row, expect_kept};
+use proto_base::{NoMemory, SchemaFault};
 use proto_desc::{Schema, to_json};
-use proto_faults::{NoMemory, SchemaFault};
 use std::alloc::Global;
 use std::process::Abort;
 

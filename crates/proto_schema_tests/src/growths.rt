@@ -9,8 +9,8 @@ ghost use Rattle.proto_tree.specs.Reads.{Reads};
 
 use crate::calls::{Given, add};
 use crate::names::calls::read;
+use proto_base::{NoMemory, SchemaFault};
 use proto_desc::{Descriptors, check};
-use proto_faults::{NoMemory, SchemaFault};
 use proto_files::Files;
 use proto_names::Link;
 use proto_text::{Source, Token, lex};

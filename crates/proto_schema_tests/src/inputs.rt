@@ -1,7 +1,7 @@
 //! Truncated and largest input.
 
 use crate::calls::*;
-use proto_faults::SchemaFault;
+use proto_base::SchemaFault;
 use std::process::Abort;
 
 const WHOLE: &str = "syntax = \"proto3\"; message A { string b_c = 1; }";

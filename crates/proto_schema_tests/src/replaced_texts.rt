@@ -4,8 +4,8 @@ ghost use Rattle.std.specs.Prelude.{◌<◌, length};
 
 use crate::allocations::are_texts;
 use crate::calls::{expect_text, fault_text, given_files};
+use proto_base::{NoMemory, SchemaFault};
 use proto_desc::{Schema, to_json};
-use proto_faults::{NoMemory, SchemaFault};
 use std::alloc::Global;
 use std::process::Abort;
 

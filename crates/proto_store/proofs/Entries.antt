@@ -1,6 +1,6 @@
 -- The entries of a map from paths to bytes, as files.
 use Rattle.std.proofs.Common.{◌≡◌, ℕ, Bool, true, false, cond, List, [], ◌∷◌, ◌++◌, map, None, Some, refl, sym, ap, ◌∙◌, reverse, String, option_map, Global, string_bytes, string_cmp, nat_cmp, bytes_eq, BTreeMap}
-use Rattle.proto_faults.proofs.Common.{Vec, AllByRecursion, IsStrictlySortedBy, slice_cmp, lookup, set_value, UpdatesBy, get_by_text, is_at, Less, btree_map_updates_text, is_eq-slice_cmp, map-append, reverse-append, file_of, files_of, paths_of}
+use Rattle.proto_base.proofs.Common.{Vec, AllByRecursion, IsStrictlySortedBy, slice_cmp, lookup, set_value, UpdatesBy, get_by_text, is_at, Less, btree_map_updates_text, is_eq-slice_cmp, map-append, reverse-append, file_of, files_of, paths_of}
 use Rattle.proto_store.specs.Common.{AreInPathOrder, bytes_at, with_bytes, files_in}
 use Rattle.proto_store.proofs.PathOrder.{same_text}
 use Rattle.proto_store.proofs.Replaced.{with_bytes-absent}

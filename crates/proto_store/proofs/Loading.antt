@@ -1,6 +1,6 @@
 -- Public for the crates above. Loading the files of a store, one path after the other.
 use Rattle.std.proofs.Common.{◌≡◌, ℕ, List, [], ◌∷◌, ◌++◌, map, Option, Some, None, refl, sym, ap, ◌∙◌, subst, append_assoc, append-nil, length, arith, String, is_some, Global, string_bytes, string_cmp, IsSorted, IsPermutation}
-use Rattle.proto_faults.proofs.Common.{Vec, map-append, FileOf, file_of, files_of, paths_of}
+use Rattle.proto_base.proofs.Common.{Vec, map-append, FileOf, file_of, files_of, paths_of}
 use Rattle.proto_store.specs.Stores.{AreInPathOrder, Held, HoldsBytes, HoldsFiles, IsListed, ListsPaths, Over, bytes_at}
 use Rattle.proto_store.proofs.PathOrder.{bytes_at_place, sorted_paths}
 

@@ -1,6 +1,6 @@
 -- Public for the crates above. Paths in order: a sorted list of the paths of a store is the list of its files' paths.
 use Rattle.std.proofs.Common.{◌≡◌, ℕ, ◌+◌, Bool, true, false, cond, List, [], ◌∷◌, ◌++◌, map, Option, None, Some, Ordering, refl, sym, ap, ◌∙◌, subst, arith, zero, suc, get_or, length, ◌<◌, zero-add, IsSome, String, is_some, sum_by, if◌then◌else◌, Global, string_bytes, string_cmp, All, Contains, IsSortedBy, IsSorted, IsPermutation, nat_cmp, is_lt, is_eq, bytes_eq}
-use Rattle.proto_faults.proofs.Common.{AllByRecursion, IsStrictlySortedBy, slice_cmp, nat_list_cmp_total, ordering_reverse, Less, Equal, Greater, is_eq-slice_cmp, same_from_decides, bytes_eq-Decides, sum_by-cons, recursion_from_All, Contains-permutation, sorted_far, ranks_by, sum_by-IsPermutation, IsPermutation-map, IsPermutation-trans, IsPermutation-sym, FileOf, paths_of}
+use Rattle.proto_base.proofs.Common.{AllByRecursion, IsStrictlySortedBy, slice_cmp, nat_list_cmp_total, ordering_reverse, Less, Equal, Greater, is_eq-slice_cmp, same_from_decides, bytes_eq-Decides, sum_by-cons, recursion_from_All, Contains-permutation, sorted_far, ranks_by, sum_by-IsPermutation, IsPermutation-map, IsPermutation-trans, IsPermutation-sym, FileOf, paths_of}
 use Rattle.proto_store.specs.Stores.{AreInPathOrder, Held, IsListed, ListsPaths, bytes_at}
 
 abbrev text_cmp : List ℕ → List ℕ → Ordering

@@ -1,6 +1,6 @@
 -- Public for the crates above. Files after one of them was replaced, and files that are told by their bytes.
 use Rattle.std.proofs.Common.{◌≡◌, ℕ, Bool, true, false, cond, List, [], ◌∷◌, Some, None, refl, sym, ap, ◌∙◌, subst, IsSome, is_some, bytes_eq, nat_cmp}
-use Rattle.proto_faults.proofs.Common.{AllByRecursion, IsStrictlySortedBy, slice_cmp, Less, bytes_eq-Decides, FileOf, paths_of}
+use Rattle.proto_base.proofs.Common.{AllByRecursion, IsStrictlySortedBy, slice_cmp, Less, bytes_eq-Decides, FileOf, paths_of}
 use Rattle.proto_store.specs.Stores.{AreInPathOrder, bytes_at, with_bytes}
 use Rattle.proto_store.proofs.PathOrder.{differs_if_less, equal_itself}
 

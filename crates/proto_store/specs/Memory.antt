@@ -2,8 +2,8 @@
 use Rattle.std.specs.Prelude.{◌≡◌, ◌⊎◌, ℕ, ◌+◌, ◌-◌, ◌≤◌, nat_le, List, reverse, String, Option, None, Some, Result, MatchResult, IsTrue, is_err, if◌then◌else◌}
 use Rattle.std.specs.Global.{Vec, Global}
 use Rattle.std.specs.BTreeMap.{BTreeMap}
-use Rattle.proto_faults.specs.Texts.{Path}
-use Rattle.proto_faults.specs.GivenFiles.{FileOf, files_of}
+use Rattle.proto_base.specs.Texts.{Path}
+use Rattle.proto_base.specs.GivenFiles.{FileOf, files_of}
 use Rattle.proto_store.specs.Stores.{Held, bytes_at}
 use Rattle.proto_store.specs.declared.memory.PlannedFailure.{PlannedFailure}
 use Rattle.proto_store.specs.declared.memory.Turn.{Turn}

@@ -4,8 +4,8 @@ use Rattle.std.specs.List.Sorted.{IsPermutation, IsStrictlySortedBy}
 use Rattle.std.specs.Cmp.Lexicographic.{slice_cmp}
 use Rattle.std.specs.Ordering.{nat_cmp}
 use Rattle.std.specs.Str.{bytes_eq}
-use Rattle.proto_faults.specs.Texts.{Path, Text}
-use Rattle.proto_faults.specs.GivenFiles.{FileOf, paths_of}
+use Rattle.proto_base.specs.Texts.{Path, Text}
+use Rattle.proto_base.specs.GivenFiles.{FileOf, paths_of}
 
 -- the files of a store, in the order of their paths, each path once, and the bytes of its journal
 pub record Held : Type 0 where

@@ -1,7 +1,7 @@
 //! All files of a store.
 
 ghost use Rattle.std.specs.Prelude.{◌≡◌, ◌-◌, ◌^◌, ◌<◌, IfOk};
-ghost use Rattle.proto_faults.specs.GivenFiles.{files_of};
+ghost use Rattle.proto_base.specs.GivenFiles.{files_of};
 ghost use Rattle.proto_store.specs.Reading.{CountsReading};
 ghost use Rattle.proto_store.specs.Stores.{AreInPathOrder, HoldsFiles, Over};
 

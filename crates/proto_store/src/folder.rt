@@ -11,7 +11,7 @@ use crate::replacing::{
     OTHER_SECOND, Place, SECOND, clear_leftover, put_file, refuse_read_only, second_named,
 };
 use crate::store::{Store, StoreFault};
-use proto_faults::{MAX_JOURNAL_LEN, MAX_LEN};
+use proto_base::{MAX_JOURNAL_LEN, MAX_LEN};
 use std::alloc::Global;
 use std::collections::BTreeMap;
 use std::fs::{File, Metadata, TryLockError};

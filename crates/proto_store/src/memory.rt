@@ -3,12 +3,12 @@
 ghost use Rattle.std.specs.Prelude.{◌≡◌, ◌⊎◌, ◌-◌, ◌^◌, ◌<◌, ◌+◌, IfOk, IfSome, IsErr, OnOk, OnErr, None, Some, map};
 ghost use Rattle.std.specs.String.{string_bytes};
 ghost use Rattle.std.specs.List.Sorted.{IsPermutation};
-ghost use Rattle.proto_faults.specs.GivenFiles.{files_of, paths_of};
+ghost use Rattle.proto_base.specs.GivenFiles.{files_of, paths_of};
 ghost use Rattle.proto_store.specs.Memory.{IsDue, IsTurn, KeepsLatest, Replaces, after_call, files_in, one_call_later};
 ghost use Rattle.proto_store.specs.Stores.{AreInPathOrder, Counts, HoldsBytes, HoldsJournal, IsListed, ListsPaths, bytes_at, with_bytes, with_file, with_journal};
 
 use crate::store::{Store, StoreFault};
-use proto_faults::NoMemory;
+use proto_base::NoMemory;
 use std::alloc::Global;
 use std::collections::BTreeMap;
 use std::marker::Model;

@@ -1,6 +1,6 @@
 -- The first piece that is scanned is one that the text begins with, and no other is (for the crates above).
 use Rattle.std.proofs.Common.{◌≡◌, ℕ, ◌+◌, ◌-◌, suc, ◌<◌, ◌≤◌, Bool, true, false, cond, eqb, ◌||◌, List, [], ◌∷◌, ◌++◌, length, take, drop, Option, Some, None, Ok, Err, refl, sym, ap, subst, ◌∙◌, arith, ◌⊎◌, inl, inr, append_assoc, IfOk, IsTrue, ◌↔◌, eqb-true, take-append-drop, take_at, length-append}
-use Rattle.proto_faults.proofs.Common.{prefix_len, length-prefix_len}
+use Rattle.proto_base.proofs.Common.{prefix_len, length-prefix_len}
 use Rattle.proto_text.specs.Common.{Class, Space, Letter, Digit, Quote, Mark, Slash, Other, Word, Number, Text, Punctuation, PieceKind, Blank, LineComment, BlockComment, Solid, LexFault, BadChar, OpenComment, OpenString, BadEscape, BadNumber, class_of, is_identifier, IsOne, IsRun, is_number, is_in_line, opens_comment, HasNoClose, IsLexeme, EndsBefore, IsFault, IsQuoted, IsAllowed, is_body, end_len, BeginsWith, EachByte, Stops, PieceFound, block_found, close_len, comment_at, scanned_number, scanned_string, string_found, piece_of, piece_at}
 use Rattle.proto_text.proofs.Ends.{quote_ends, end_found, end_sound, end_misses, end_none}
 use Rattle.proto_text.proofs.Runs.{run_len, run_passes, run_stops, close_found, close_sound, close_none, close_misses}

@@ -1,6 +1,6 @@
 -- Tokens stand in order, and are in the lexical sets; where a token stays, it has its word at its moved index (for the crates above).
 use Rattle.std.proofs.Common.{◌≡◌, ℕ, zero, suc, ◌+◌, ◌-◌, ◌<◌, ◌≤◌, ◌⊎◌, inl, inr, ltb, List, [], ◌∷◌, ◌++◌, length, get_or, take, drop, map, All, refl, sym, ap, subst, ◌∙◌, arith, lt-ltb, le-ltb, append-nil, length-append, length-take}
-use Rattle.proto_faults.proofs.Common.{AllByRecursion, cond-true, cond-false, All-from_recursion}
+use Rattle.proto_base.proofs.Common.{AllByRecursion, cond-true, cond-false, All-from_recursion}
 use Rattle.proto_text.specs.Common.{PieceKind, Blank, LineComment, BlockComment, Solid, TokenKind, Text, Token, Piece, IsLexeme, ArePieces, pieces_text, end_before, TokensAreInOrder, TokensAreMoved, TokensAreLexemes, moved, text_at, IsString, word_at, offset_at, Lexeme, lexeme_at, lexeme_if, lexemes, token_at, tokens_from, AreTokens}
 use Rattle.proto_text.proofs.Reading.{tokens_read_pieces}
 use Rattle.proto_text.proofs.WordChange.{not_empty}

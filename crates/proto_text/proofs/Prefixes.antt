@@ -1,6 +1,6 @@
 -- The loops over bytes: those that count the bytes at the front that pass a test, and those that read digits.
 use Rattle.std.proofs.Common.{◌≡◌, ℕ, ◌+◌, ◌*◌, ◌<◌, ◌≤◌, Bool, true, false, List, length, get_or, drop, sym, ap, ◌∙◌, arith}
-use Rattle.proto_faults.proofs.Common.{prefix_len, drop_more, prefix_len-drop_yes, prefix_len-drop_no, prefix_len-drop_all}
+use Rattle.proto_base.proofs.Common.{prefix_len, drop_more, prefix_len-drop_yes, prefix_len-drop_no, prefix_len-drop_all}
 use Rattle.proto_text.specs.Strings.{digit_value, number_in}
 
 module _ (test : ℕ → Bool) (xs : List ℕ) (i : ℕ) (so_far : i + prefix_len test (drop i xs) ≡ prefix_len test xs) where

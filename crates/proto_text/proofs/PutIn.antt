@@ -1,6 +1,6 @@
 -- What segments are made of.
 use Rattle.std.proofs.Common.{◌≡◌, ℕ, zero, suc, ◌<◌, ◌≤◌, Bool, true, false, not, eqb, ◌||◌, List, [], ◌∷◌, ◌++◌, length, get_or, refl, sym, ap, subst, ◌∙◌, inl, arith, decimal, append-nil}
-use Rattle.proto_faults.proofs.Common.{IsInRange, list_all, nat_tests, decimal_digit, decimal_nonempty, digits_decimal, first_decimal, IsNumeralModel, numerals_by_value, tells_by_index}
+use Rattle.proto_base.proofs.Common.{IsInRange, list_all, nat_tests, decimal_digit, decimal_nonempty, digits_decimal, first_decimal, IsNumeralModel, numerals_by_value, tells_by_index}
 use Rattle.std.specs.Str.Parse.{digits_value}
 use Rattle.proto_text.specs.Common.{Space, Digit, Quote, Step, GoesOn, Blank, Solid, TokenKind, Word, Number, Text, Punctuation, EachByte, class_of, extends_word, is_space, is_letter, is_digit, is_identifier, IsLexeme, EndsBefore, EndsByItself, is_plain, QuotedStandsForItself, TokenIsSegment, SpaceIsSegment, TokenBeforeSegment, DecimalIsNumber, Means, step_of, body_after, is_body, Lexeme}
 

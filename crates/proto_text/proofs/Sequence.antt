@@ -1,11 +1,11 @@
 -- Pieces one after the other: a front goes on by a piece, and there is one list of pieces (for the crates above).
 use Rattle.std.proofs.Common.{◌≡◌, ℕ, ◌+◌, ◌≤◌, List, [], ◌∷◌, ◌++◌, length, take, drop, zero-add, ◌⊎◌, inl, inr, Result, Ok, Err, refl, sym, ap, subst, ◌∙◌, arith, append_assoc, take_at, append-nil, length-append, drop_at, MatchResult, IsErrAnd}
-use Rattle.proto_faults.proofs.Common.{append_cancel_left, nil_from_length, same_from_push, Vec, text_limit}
+use Rattle.proto_base.proofs.Common.{append_cancel_left, nil_from_length, same_from_push, Vec, text_limit}
 use Rattle.proto_text.specs.Common.{PieceKind, LexFault, BadChar, OpenComment, OpenString, BadEscape, BadNumber, Digit, TextFault, Token, Piece, IsLexeme, EndsBefore, pieces_text, ArePieces, IsFront, IsPieces, IsFault, IsRun, PieceFound, piece_at, token_at, tokens_from, AreTokens, IsFaultAt, IsLexed, IsLexError, text_fault_of, BeginsWith, IsFirstPiece, IsQuoted, IsAllowed, Solid, Text}
 use Rattle.proto_text.specs.declared.fault.TextFault.TheVariants.{TooLarge, NotUtf8, At, NoMemory}
 use Rattle.proto_text.proofs.Begins.{raw_is, piece_again, found_at, fault_again}
-use Rattle.proto_faults.specs.declared.or_no_memory.OrNoMemory.{OrNoMemory}
-use Rattle.proto_faults.specs.declared.or_no_memory.OrNoMemory.TheVariants as or
+use Rattle.proto_base.specs.declared.or_no_memory.OrNoMemory.{OrNoMemory}
+use Rattle.proto_base.specs.declared.or_no_memory.OrNoMemory.TheVariants as or
 
 text_push : (ps : List Piece) (p : Piece) (rest : List ℕ) → pieces_text (ps ++ p ∷ []) ++ rest ≡ pieces_text ps ++ (p.bytes ++ rest)
 text_push [] p rest = ap (λ (t : List ℕ). t ++ rest) (append-nil p.bytes)

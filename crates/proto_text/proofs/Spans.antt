@@ -1,6 +1,6 @@
 -- Tokens begin and end between characters (for the crates above).
 use Rattle.std.proofs.Common.{◌≡◌, ℕ, ◌+◌, ◌<◌, ◌≤◌, false, ◌||◌, eqb, List, [], ◌∷◌, ◌++◌, length, get_or, All, refl, sym, ap, subst, ◌∙◌, arith, inl, inr, append_assoc, Result, Ok, Err, IfOk, IsCharBoundary, append-nil, length-append}
-use Rattle.proto_faults.proofs.Common.{Vec, AllByRecursion, cases_lt, nat_tests, get_or_at, All-from_recursion, IsCharBoundary-end, IsCharBoundary-before_ascii}
+use Rattle.proto_base.proofs.Common.{Vec, AllByRecursion, cases_lt, nat_tests, get_or_at, All-from_recursion, IsCharBoundary-end, IsCharBoundary-before_ascii}
 use Rattle.proto_text.specs.Common.{TextFault, Class, Space, Letter, Digit, Quote, Mark, Other, Word, Number, Text, Punctuation, PieceKind, Blank, LineComment, BlockComment, Solid, Token, class_of, is_space, is_letter, is_digit, is_mark, Piece, IsLexeme, pieces_text, ArePieces, token_at, tokens_from, AreTokens, IsLexed, IsSpan}
 use Rattle.proto_text.proofs.WordChange.{not_empty}
 

@@ -1,6 +1,6 @@
 -- What the text between the quotes stands for, byte by byte.
 use Rattle.std.proofs.Common.{◌≡◌, ℕ, ◌+◌, suc, zero, min, ◌<◌, ◌≤◌, Bool, true, false, cond, eqb, ltb, ◌&&◌, ◌||◌, List, [], ◌∷◌, ◌++◌, length, take, drop, Option, Some, None, refl, sym, ap, subst, ◌∙◌, arith, ◌⊎◌, inl, inr, append_assoc, IfSome, IsTrue, ◌↔◌, IsUtf8, eqb-true, ltb-true, lt-ltb, take-append-drop, take_at, drop_at, append-nil, length-append, length-take}
-use Rattle.proto_faults.proofs.Common.{list_any, prefix_len, cases_lt, nil_from_length, append_cancel_left, prefix_len-le-length}
+use Rattle.proto_base.proofs.Common.{list_any, prefix_len, cases_lt, nil_from_length, append_cancel_left, prefix_len-le-length}
 use Rattle.proto_text.specs.declared.escape.Escape.{Escape}
 use Rattle.proto_text.specs.declared.escape.Escape.TheVariants.{Octal, Hexadecimal, Single, Unknown}
 use Rattle.proto_text.specs.Common.{EachByte, is_backslash, is_octal, is_hex, escape_of, number_in, IsPlainByte, IsSingle, IsDigits, IsUnit, Means, IsAllowed, octal_at, hex_at, escape_after, escape_at, unit_at}

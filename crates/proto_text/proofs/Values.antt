@@ -1,6 +1,6 @@
 -- The value of a string token is the one that is found from left to right (for the crates above).
 use Rattle.std.proofs.Common.{◌≡◌, ℕ, zero, suc, ◌-◌, ◌<◌, ◌≤◌, Bool, true, eqb, eq-eqb, List, [], ◌∷◌, ◌++◌, length, take, drop, Option, Some, None, refl, sym, ap, subst, ◌∙◌, arith, IsTrue, ◌↔◌, option_map, IsUtf8, take_at, drop_at, length-append, eqb-true}
-use Rattle.proto_faults.proofs.Common.{same_from_push, nil_from_length, same_from_decides, bytes_eq-Decides}
+use Rattle.proto_base.proofs.Common.{same_from_push, nil_from_length, same_from_decides, bytes_eq-Decides}
 use Rattle.proto_text.specs.Strings.{IsString, IsUnit, Means, unit_at}
 use Rattle.proto_text.specs.Values.{StandsFor, OneValue, StringsHaveValues, unit_then, meaning_behind, value_of, ValueIsValueOf, is_value, says}
 use Rattle.proto_text.proofs.Units.{unit_sound, unit_again, unit_some, some_is, only_meaning}

@@ -1,7 +1,7 @@
 -- Tests over bytes: octal and hexadecimal digits, as the language specification has them.
 use Rattle.std.specs.Prelude.{◌≡◌, ℕ, Bool, true, false, ◌&&◌, ◌||◌, ◌==◌, List, [], ◌∷◌, nat_le}
 use Rattle.std.specs.List.{AllByRecursion}
-use Rattle.proto_faults.specs.Ascii as ascii
+use Rattle.proto_base.specs.Ascii as ascii
 use Rattle.proto_text.specs.Classes.{is_digit}
 
 -- each byte passes

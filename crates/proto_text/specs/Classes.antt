@@ -1,7 +1,7 @@
 -- The bytes of a schema by what they may begin, after the letters and digits of the language
 -- specification; `_` as a letter is a choice of this profile.
 use Rattle.std.specs.Prelude.{ℕ, Bool, true, false, ◌&&◌, ◌||◌, ◌==◌, nat_le, if◌then◌else◌}
-use Rattle.proto_faults.specs.Ascii as ascii
+use Rattle.proto_base.specs.Ascii as ascii
 use Rattle.proto_text.specs.declared.class.Class.{Class}
 use Rattle.proto_text.specs.declared.class.Class.TheVariants.{Space, Letter, Digit, Quote, Mark, Slash, Other}
 

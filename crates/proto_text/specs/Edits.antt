@@ -1,7 +1,7 @@
 -- Edits of a text, as a list of what stands where and what comes in its place: the replaced text of
 -- this product.
 use Rattle.std.specs.Prelude.{◌≡◌, ℕ, ◌+◌, ◌-◌, ◌≤◌, List, [], ◌∷◌, ◌++◌, length}
-use Rattle.proto_faults.specs.Texts.{Text, text_limit}
+use Rattle.proto_base.specs.Texts.{Text, text_limit}
 
 -- an edit: what stands at an offset, in bytes from 0, and what comes in its place
 pub record Edit : Type 0 where

@@ -1,6 +1,6 @@
 -- The numbers, names and places of the faults of a text: the table of this product.
 use Rattle.std.specs.Prelude.{ℕ, codes}
-use Rattle.proto_faults.specs.Texts.{Text}
+use Rattle.proto_base.specs.Texts.{Text}
 use Rattle.proto_text.specs.declared.fault.LexFault.{LexFault}
 use Rattle.proto_text.specs.declared.fault.LexFault.TheVariants.{BadChar, OpenComment, OpenString, BadEscape, BadNumber}
 use Rattle.proto_text.specs.declared.fault.TextFault.{TextFault}

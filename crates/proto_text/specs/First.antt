@@ -1,9 +1,9 @@
 -- The piece at the front of some bytes: what reading one piece answers.
 use Rattle.std.specs.Prelude.{◌≡◌, ℕ, ◌++◌, length, Result, Ok, Err}
-use Rattle.proto_faults.specs.Texts.{Text}
+use Rattle.proto_base.specs.Texts.{Text}
 use Rattle.proto_text.specs.declared.kind.PieceKind.{PieceKind}
-use Rattle.proto_faults.specs.declared.or_no_memory.OrNoMemory.{OrNoMemory}
-use Rattle.proto_faults.specs.declared.or_no_memory.OrNoMemory.TheVariants as or
+use Rattle.proto_base.specs.declared.or_no_memory.OrNoMemory.{OrNoMemory}
+use Rattle.proto_base.specs.declared.or_no_memory.OrNoMemory.TheVariants as or
 use Rattle.proto_text.specs.declared.fault.LexFault.{LexFault}
 use Rattle.proto_text.specs.Pieces.{IsLexeme, EndsBefore, IsFault}
 

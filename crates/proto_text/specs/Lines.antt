@@ -1,8 +1,8 @@
 -- Lines and columns of this product, both counted from 1 and in bytes.
 use Rattle.std.specs.Prelude.{ℕ, ◌+◌, ◌==◌, take}
 use Rattle.std.specs.List.{count_by, suffix_len}
-use Rattle.proto_faults.specs.Ascii as ascii
-use Rattle.proto_faults.specs.Texts.{Text}
+use Rattle.proto_base.specs.Ascii as ascii
+use Rattle.proto_base.specs.Texts.{Text}
 use Rattle.proto_text.specs.Pieces.{is_in_line}
 
 -- 1, and the line feeds among the bytes

@@ -2,7 +2,7 @@
 -- language specification. That numbers are whole is a choice of this profile.
 use Rattle.std.specs.Prelude.{◌≡◌, ℕ, Bool, true, false, not, List, [], ◌∷◌, ◌++◌, ◌==◌, ◌&&◌, ◌||◌, ◌⊎◌, if◌then◌else◌}
 use Rattle.std.specs.List.{list_all}
-use Rattle.proto_faults.specs.Ascii as ascii
+use Rattle.proto_base.specs.Ascii as ascii
 use Rattle.proto_text.specs.declared.class.Class.{Class}
 use Rattle.proto_text.specs.declared.class.Class.TheVariants.{Space, Letter, Digit, Quote, Mark, Slash, Other}
 use Rattle.proto_text.specs.declared.kind.TokenKind.TheVariants.{Word, Number, Text, Punctuation}

@@ -1,7 +1,7 @@
 -- The first piece of a text, from its first bytes: the same sets as functions.
 use Rattle.std.specs.Prelude.{ℕ, ◌+◌, suc, Bool, false, List, [], ◌∷◌, ◌==◌, ◌&&◌, take, if◌then◌else◌, Option, Some, None, option_map, Result, Ok, Err}
 use Rattle.std.specs.List.{prefix_len}
-use Rattle.proto_faults.specs.Ascii as ascii
+use Rattle.proto_base.specs.Ascii as ascii
 use Rattle.proto_text.specs.declared.class.Class.{Class}
 use Rattle.proto_text.specs.declared.class.Class.TheVariants.{Space, Letter, Digit, Quote, Mark, Slash, Other}
 use Rattle.proto_text.specs.declared.kind.TokenKind.TheVariants.{Word, Number, Text, Punctuation}

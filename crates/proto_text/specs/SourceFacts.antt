@@ -1,7 +1,7 @@
 -- What makes a text: its size and its encoding, choices of this profile.
 use Rattle.std.specs.Prelude.{◌≡◌, ◌<◌, ◌≤◌, ◌-◌, length, take, drop, Result, Ok, Err}
 use Rattle.std.specs.Str.{IsUtf8, IsCharBoundary}
-use Rattle.proto_faults.specs.Texts.{Text, text_limit}
+use Rattle.proto_base.specs.Texts.{Text, text_limit}
 use Rattle.proto_text.specs.declared.source.Source.{Source}
 use Rattle.proto_text.specs.declared.source.Span.{Span}
 use Rattle.proto_text.specs.declared.fault.TextFault.{TextFault}

@@ -2,7 +2,7 @@
 use Rattle.std.specs.Prelude.{ℕ, ◌≤◌, ◌<◌, List, length, map, codes, Option, Some, None, Result, Ok, Err}
 use Rattle.std.specs.String.{string_bytes}
 use Rattle.std.specs.Global.{Vec}
-use Rattle.proto_faults.specs.Texts.{Text, text_limit}
+use Rattle.proto_base.specs.Texts.{Text, text_limit}
 use Rattle.proto_text.specs.declared.splice.Splice.{Splice}
 use Rattle.proto_text.specs.declared.splice.SpliceFault.{SpliceFault}
 use Rattle.proto_text.specs.declared.splice.SpliceFault.TheVariants.{Stale, TooLarge, Disorder, NoMemory}

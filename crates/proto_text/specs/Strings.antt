@@ -3,8 +3,8 @@
 use Rattle.std.specs.Prelude.{◌≡◌, ℕ, ◌+◌, ◌-◌, ◌*◌, ◌<◌, ◌≤◌, suc, min, Bool, true, false, not, List, [], ◌∷◌, ◌++◌, ◌==◌, ◌&&◌, ◌||◌, ◌⊎◌, nat_le, nat_lt, length, take, if◌then◌else◌, Option, Some, None, option_map}
 use Rattle.std.specs.List.{prefix_len}
 use Rattle.std.specs.Str.{IsUtf8}
-use Rattle.proto_faults.specs.Ascii as ascii
-use Rattle.proto_faults.specs.Texts.{Text}
+use Rattle.proto_base.specs.Ascii as ascii
+use Rattle.proto_base.specs.Texts.{Text}
 use Rattle.proto_text.specs.declared.class.Class.TheVariants.{Quote}
 use Rattle.proto_text.specs.declared.ending.Step.{Step}
 use Rattle.proto_text.specs.declared.ending.Step.TheVariants.{Breaks, Ends, GoesOn}

@@ -1,12 +1,12 @@
 -- The tokens of the pieces of a text.
 use Rattle.std.specs.Prelude.{◌≡◌, ℕ, ◌+◌, ◌++◌, List, [], ◌∷◌, length, map, Result, Ok, Err}
 use Rattle.std.specs.Global.{Vec}
-use Rattle.proto_faults.specs.Texts.{Text}
+use Rattle.proto_base.specs.Texts.{Text}
 use Rattle.proto_text.specs.declared.kind.PieceKind.{PieceKind}
 use Rattle.proto_text.specs.declared.kind.PieceKind.TheVariants.{Blank, LineComment, BlockComment, Solid}
 use Rattle.proto_text.specs.declared.fault.LexFault.{LexFault}
-use Rattle.proto_faults.specs.declared.or_no_memory.OrNoMemory.{OrNoMemory}
-use Rattle.proto_faults.specs.declared.or_no_memory.OrNoMemory.TheVariants as or
+use Rattle.proto_base.specs.declared.or_no_memory.OrNoMemory.{OrNoMemory}
+use Rattle.proto_base.specs.declared.or_no_memory.OrNoMemory.TheVariants as or
 use Rattle.proto_text.specs.SourceFacts.{text_at}
 use Rattle.proto_text.specs.declared.kind.TokenKind.{TokenKind}
 use Rattle.proto_text.specs.declared.lexer.Token.{Token}

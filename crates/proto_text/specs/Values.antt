@@ -1,7 +1,7 @@
 -- The value of a string token: its text after escapes.
 use Rattle.std.specs.Prelude.{◌≡◌, ◌↔◌, ℕ, zero, suc, ◌-◌, Bool, false, List, [], ◌∷◌, ◌++◌, length, take, Option, Some, None, option_map}
 use Rattle.std.specs.Str.{IsUtf8, bytes_eq}
-use Rattle.proto_faults.specs.Texts.{Text}
+use Rattle.proto_base.specs.Texts.{Text}
 use Rattle.proto_text.specs.Strings.{IsString, Means, unit_at}
 
 -- The text of a string token is a quote, a body and a quote, and stands for what the body stands

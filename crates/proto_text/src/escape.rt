@@ -6,7 +6,7 @@ ghost use Rattle.std.specs.Str.{IsUtf8};
 ghost use Rattle.proto_text.specs.Bytes.{is_backslash, is_octal, is_hex};
 ghost use Rattle.proto_text.specs.Strings.{escape_of, digit_value, number_in, octal_at, hex_at, escape_at, unit_at, Means, IsAllowed};
 
-use proto_faults::NoMemory;
+use proto_base::NoMemory;
 use std::alloc::Global;
 
 /// What a character behind a backslash begins.

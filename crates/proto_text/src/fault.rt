@@ -142,10 +142,10 @@ impl From<AllocError> for TextFault {
     }
 }
 
-impl From<proto_faults::NoMemory> for TextFault {
+impl From<proto_base::NoMemory> for TextFault {
     ghost from_gives = { λ _ e. e ≡ NoMemory };
 
-    fn from(_e: proto_faults::NoMemory) -> TextFault {
+    fn from(_e: proto_base::NoMemory) -> TextFault {
         TextFault::NoMemory
     }
 }

@@ -15,7 +15,7 @@ use crate::ending::string_close;
 use crate::escape::is_allowed;
 use crate::fault::LexFault;
 use crate::kind::{PieceKind, TokenKind};
-use proto_faults::OrNoMemory;
+use proto_base::OrNoMemory;
 use std::alloc::Global;
 
 fn identifier_len(bytes: &[u8]) -> usize

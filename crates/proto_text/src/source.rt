@@ -2,11 +2,11 @@
 
 ghost use Rattle.std.specs.Prelude.{◌≡◌, ◌≤◌, length};
 ghost use Rattle.std.specs.Str.{IsUtf8};
-ghost use Rattle.proto_faults.specs.Texts.{text_limit};
+ghost use Rattle.proto_base.specs.Texts.{text_limit};
 ghost use Rattle.proto_text.specs.Lines.{line_behind, column_behind, line_at, column_at};
 
 use crate::fault::TextFault;
-use proto_faults::MAX_LEN;
+use proto_base::MAX_LEN;
 use std::marker::Model;
 
 /// The bytes from `start` on and before `end`, counted from 0.
@@ -27,7 +27,7 @@ pub struct Source {
 impl Model for Source {
     ghost use Rattle.std.specs.Prelude.{List, ℕ, ◌≤◌, length};
     ghost use Rattle.std.specs.String.{string_bytes};
-    ghost use Rattle.proto_faults.specs.Texts.{text_limit};
+    ghost use Rattle.proto_base.specs.Texts.{text_limit};
 
     ghost Value = { List ℕ };
 

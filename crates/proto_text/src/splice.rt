@@ -2,13 +2,13 @@
 
 ghost use Rattle.std.specs.Prelude.{◌≡◌, ◌↔◌, IsTrue, ◌≤◌, ◌+◌, ◌-◌, List, ℕ, length, IfOk, IfErr, MatchOption, MatchResult};
 ghost use Rattle.std.specs.String.{string_bytes};
-ghost use Rattle.proto_faults.specs.Texts.{text_limit};
+ghost use Rattle.proto_base.specs.Texts.{text_limit};
 ghost use Rattle.proto_text.specs.declared.splice.SpliceFault.TheVariants.{NoMemory};
 ghost use Rattle.proto_text.specs.declared.splice.SpliceFault.TheVariants as SpliceFault;
 ghost use Rattle.proto_text.specs.Edits.{IsCut, AreShort, inverse_of, inverse_from};
 ghost use Rattle.proto_text.specs.Splicing.{edit_of, edits, IsTextPut, IsApplied, splice_number, splice_name};
 
-use proto_faults::MAX_LEN;
+use proto_base::MAX_LEN;
 use std::alloc::{AllocError, Global};
 use std::marker::Model;
 use std::{fmt, mem};

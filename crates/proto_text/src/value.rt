@@ -6,7 +6,7 @@ ghost use Rattle.proto_text.specs.Strings.{IsString, Means};
 ghost use Rattle.proto_text.specs.Values.{StandsFor, says, value_of};
 
 use crate::escape::{decoded_bytes, unit};
-use proto_faults::NoMemory;
+use proto_base::NoMemory;
 use std::alloc::Global;
 
 // What stands between the first byte and the last.

@@ -6,7 +6,7 @@ use Rattle.proto_tree.specs.declared.class.Want.TheVariants as want
 use Rattle.proto_tree.specs.declared.piece.Piece.TheVariants as piece
 use Rattle.proto_tree.specs.declared.context.Context.TheVariants as context
 use Rattle.proto_tree.specs.declared.context.Kind.TheVariants as kind
-use Rattle.proto_faults.proofs.Common.{take-append-le, cases_lt}
+use Rattle.proto_base.proofs.Common.{take-append-le, cases_lt}
 use Rattle.proto_tree.proofs.Exact.{Calm, Calm-append, some_is, Fit-split, Fit-join, no_text}
 use Rattle.proto_tree.proofs.PieceRules.{HasEnd}
 use Rattle.proto_tree.proofs.Walks.{pieces, flats, flats-append, flats-pieces, last_outer, walk_tree, walk_levels, pieces_known}

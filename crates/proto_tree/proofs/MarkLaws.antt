@@ -1,6 +1,6 @@
 -- The marks of a tree, by their index (for the crates above).
 use Rattle.std.proofs.Common.{◌≡◌, ℕ, zero, suc, ◌+◌, ◌<◌, true, List, [], ◌∷◌, ◌++◌, length, get_or, refl, sym, ap, subst, ◌∙◌, arith, inl, inr, Contains}
-use Rattle.proto_faults.proofs.Common.{get_or_default, Contains-append_left, Contains-append_right}
+use Rattle.proto_base.proofs.Common.{get_or_default, Contains-append_left, Contains-append_right}
 use Rattle.proto_text.specs.Tokens.{Lexeme}
 use Rattle.proto_tree.specs.declared.class.Class.TheVariants as class
 use Rattle.proto_tree.specs.declared.class.Want.TheVariants as want

@@ -1,6 +1,6 @@
 -- The rows of a table that a word may match have its length.
 use Rattle.std.proofs.Common.{◌≡◌, ℕ, Bool, true, false, ◌==◌, List, [], ◌∷◌, length, refl, sym, ap, ◌∙◌, cond, bytes_eq}
-use Rattle.proto_faults.proofs.Common.{Decides-eqb, bytes_eq-Decides}
+use Rattle.proto_base.proofs.Common.{Decides-eqb, bytes_eq-Decides}
 use Rattle.proto_tree.specs.Common.{Class, Listed, class_in, of_length}
 
 by_row : (k : Listed) (ks front : List Listed) (other : Class) (w : List ℕ) (b t : Bool) → bytes_eq w k.word ≡ b → (b ≡ true → t ≡ true) → class_in front other w ≡ class_in ks other w

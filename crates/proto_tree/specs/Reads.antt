@@ -1,7 +1,7 @@
 -- A file as read: its tokens, and the tree that they spell; and what is wrong with a file that has
 -- none.
 use Rattle.std.specs.Prelude.{◌≡◌, ℕ, zero, suc, List, [], ◌∷◌, length, map, codes, Result, Ok, Err}
-use Rattle.proto_faults.specs.Texts.{Text}
+use Rattle.proto_base.specs.Texts.{Text}
 use Rattle.proto_text.specs.declared.lexer.Token.{Token}
 use Rattle.proto_text.specs.Tokens.{lexeme_at, AreTokens}
 use Rattle.proto_tree.specs.declared.class.Lexeme.{Lexeme}

@@ -1,13 +1,13 @@
 //! The tokens of a text as the grammar sees them.
 
 ghost use Rattle.std.specs.Prelude.{◌≡◌, ◌≤◌, All, IfOk, length};
-ghost use Rattle.proto_faults.specs.Texts.{text_limit};
+ghost use Rattle.proto_base.specs.Texts.{text_limit};
 ghost use Rattle.proto_text.specs.SourceFacts.{IsSpan};
 ghost use Rattle.proto_tree.specs.Reads.{classed, place_at};
 
 use crate::class::Lexeme;
 use crate::words::token_class;
-use proto_faults::NoMemory;
+use proto_base::NoMemory;
 use proto_text::{Source, Token};
 use std::alloc::Global;
 

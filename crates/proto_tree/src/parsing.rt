@@ -63,10 +63,10 @@ impl ParseFault {
     }
 }
 
-impl From<proto_faults::NoMemory> for ParseFault {
+impl From<proto_base::NoMemory> for ParseFault {
     ghost from_gives = { λ _ e. e ≡ NoMemory };
 
-    fn from(_error: proto_faults::NoMemory) -> Self {
+    fn from(_error: proto_base::NoMemory) -> Self {
         ParseFault::NoMemory
     }
 }

@@ -6,7 +6,7 @@ ghost use Rattle.proto_tree.specs.Reading.{Gives, token, ◌then◌, starts, may
 use crate::class::{Class, Lexeme, Want};
 use crate::list::Sequence;
 use crate::tree::{Behind, Separated};
-use proto_faults::NoMemory;
+use proto_base::NoMemory;
 use std::alloc::Global;
 
 // No `OrNoMemory`: its fault says nothing more, and it is copied.

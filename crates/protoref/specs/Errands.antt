@@ -1,9 +1,9 @@
 -- What the program does for a request, and which commands write.
-use Rattle.proto_entries.specs.declared.edit.Edit.TheVariants as edit
-use Rattle.protoref_run.specs.declared.command.Command.{Command}
-use Rattle.protoref_run.specs.declared.command.Command.TheVariants as command
-use Rattle.protoref_words.specs.declared.request.Request.{Request}
-use Rattle.protoref_words.specs.declared.request.Request.TheVariants as request
+use Rattle.proto_edit_entries.specs.declared.edit.Edit.TheVariants as edit
+use Rattle.protoref_commands.specs.declared.command.Command.{Command}
+use Rattle.protoref_commands.specs.declared.command.Command.TheVariants as command
+use Rattle.protoref_arguments.specs.declared.request.Request.{Request}
+use Rattle.protoref_arguments.specs.declared.request.Request.TheVariants as request
 use Rattle.protoref.specs.declared.errand.Errand.{Errand}
 use Rattle.protoref.specs.declared.errand.Errand.TheVariants as errand
 use Rattle.protoref.specs.declared.errand.Way.{Way}

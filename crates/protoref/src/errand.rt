@@ -3,8 +3,8 @@
 ghost use Rattle.std.specs.Prelude.{◌≡◌};
 ghost use Rattle.protoref.specs.Errands.{errand_of, way_of};
 
-use protoref_run::{Command, Edit};
-use protoref_words::Request;
+use protoref_arguments::Request;
+use protoref_commands::{Command, Edit};
 
 /// What is to be done.
 #[derive(Drop)]

@@ -6,11 +6,11 @@ mod errand;
 ghost use Rattle.std.specs.Prelude.{◌≡◌, ◌≤◌, IfOk};
 
 use errand::{Errand, Way, errand_for, way_for};
-use protoref_run::{
+use protoref_arguments::{WordsFault, read_words};
+use protoref_commands::{
     Command, FolderStore, Kept, RunFault, Status, Store, StoreFault, fault_line, run_keeping,
     write_text,
 };
-use protoref_words::{WordsFault, read_words};
 use std::fs::File;
 use std::process::ExitCode;
 use std::rt::{Env, Files};

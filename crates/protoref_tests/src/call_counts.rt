@@ -4,7 +4,7 @@
 use crate::pipe::Pipe;
 use crate::stores::{FIRST_LINE, FIRST_OPEN, LINE, OLD, OPEN_LINE, RENAME, command_of, store_of};
 use crate::three_files::{M_TO_N, files_at, step};
-use protoref_run::{MemoryStore, Store, run};
+use protoref_commands::{MemoryStore, Store, run};
 use std::process::Abort;
 
 fn expect_calls<R: AllocGlobal + Abort>(rt: &R, store: &mut MemoryStore, asked: &str, calls: u64) {

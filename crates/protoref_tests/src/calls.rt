@@ -1,7 +1,7 @@
 //! Files, and running a command over a store.
 
 use crate::pipe::Pipe;
-use protoref_run::{Command, MemoryStore, RunFault, Status, Store, run};
+use protoref_commands::{Command, MemoryStore, RunFault, Status, Store, run};
 use std::process::Abort;
 
 /// Files for a store: paths and texts.

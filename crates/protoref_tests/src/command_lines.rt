@@ -1,8 +1,8 @@
 //! Which command the words of the command line ask for.
 
 use crate::linting::rules_named;
-use protoref_run::{Rule, RuleSet};
-use protoref_words::{Request, WordsFault, read_words};
+use protoref_arguments::{Request, WordsFault, read_words};
+use protoref_commands::{Rule, RuleSet};
 use std::process::Abort;
 
 /// A line, and what it asks for: a command and its words, joined by `|`; `help` that has these words; or help that tells of

@@ -1,7 +1,7 @@
 //! What `compile` prints, and where a run stops.
 
 use crate::calls::{WIDE, expect, expect_end, given_files};
-use protoref_run::{Command, MemoryStore, RunFault, Status, StoreFault, fault_line};
+use protoref_commands::{Command, MemoryStore, RunFault, Status, StoreFault, fault_line};
 
 const ROW: &str = "a.proto syntax = \"proto3\"; message A { string b_c = 1; }";
 

@@ -3,7 +3,7 @@
 use crate::calls::{WIDE, expect, given_files};
 use crate::lint_rows;
 use crate::lint_rows::Row;
-use protoref_run::{Command, Rule, RuleSet, Status};
+use protoref_commands::{Command, Rule, RuleSet, Status};
 use std::process::Abort;
 
 /// The rules of these names, with spaces between them, or `all`.

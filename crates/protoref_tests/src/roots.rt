@@ -1,7 +1,7 @@
 //! Roots that name no folder.
 
 use crate::calls::{WIDE, expect_end};
-use protoref_run::{Command, FolderStore, RuleSet, RunFault};
+use protoref_commands::{Command, FolderStore, RuleSet, RunFault};
 use std::process::Abort;
 use std::rt::Files;
 

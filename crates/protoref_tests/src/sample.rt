@@ -2,7 +2,7 @@
 
 use crate::calls::{WIDE, add, expect_end};
 use crate::shop::{DESCRIPTORS, FILES, FINDINGS};
-use protoref_run::{Command, MemoryStore, RuleSet, Status};
+use protoref_commands::{Command, MemoryStore, RuleSet, Status};
 
 #[test]
 fn compiles_and_lints_as_protoc_tells(rt: HostRuntime) {

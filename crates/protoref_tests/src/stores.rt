@@ -1,7 +1,7 @@
 //! Stores with a journal, and what is asked of the program.
 
 use crate::calls::given_files;
-use protoref_run::{Command, Edit, MemoryStore, RuleSet};
+use protoref_commands::{Command, Edit, MemoryStore, RuleSet};
 use std::process::Abort;
 
 /// A file with one field, of 48 bytes.

@@ -3,7 +3,7 @@
 use crate::calls::{End, expect_end, given_files};
 use crate::stores::{command_of, joined_text, store_of};
 use crate::three_files::{Step, files_at};
-use protoref_run::{MemoryStore, RunFault, Status, Store, all_files};
+use protoref_commands::{MemoryStore, RunFault, Status, Store, all_files};
 use std::process::Abort;
 
 /// What is asked and printed, or what the store has then.

@@ -3,8 +3,8 @@
 
 use super::calls::*;
 use crate::calls::{is_held, store_of};
-use proto_faults::NoMemory;
-use proto_records::{State, migrate, read_records};
+use proto_base::NoMemory;
+use proto_journal_records::{State, migrate, read_records};
 use proto_store::{MemoryStore, Store};
 use std::process::Abort;
 

@@ -1,8 +1,8 @@
 //! The calls of these tests, and what each says of the answer.
 
-use proto_entries::{Change, Edit, Entry, one_splice};
-use proto_faults::NoMemory;
-use proto_records::{
+use proto_base::NoMemory;
+use proto_edit_entries::{Change, Edit, Entry, one_splice};
+use proto_journal_records::{
     JournalFault, Record, State, Version, entry_text, read_entry, read_records, with_record,
 };
 use std::process::Abort;

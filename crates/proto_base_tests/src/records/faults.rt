@@ -1,9 +1,9 @@
 //! The table of the faults of a journal.
 
 use super::calls::expect_fault;
-use proto_entries::Refusal;
-use proto_faults::NoMemory;
-use proto_records::JournalFault;
+use proto_base::NoMemory;
+use proto_edit_entries::Refusal;
+use proto_journal_records::JournalFault;
 
 #[test]
 fn numbers_and_names(rt: HostRuntime) {

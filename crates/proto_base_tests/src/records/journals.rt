@@ -1,7 +1,7 @@
 //! Journals: which bytes are one, and one record more or less.
 
 use super::calls::*;
-use proto_records::{State, last_is_open, read_records, without_last};
+use proto_journal_records::{State, last_is_open, read_records, without_last};
 use std::process::Abort;
 
 #[test]

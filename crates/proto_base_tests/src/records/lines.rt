@@ -1,8 +1,8 @@
 //! Lines: what is written for a record, and which lines are read.
 
 use super::calls::*;
-use proto_entries::Edit;
-use proto_records::{Record, State, entry_text};
+use proto_edit_entries::Edit;
+use proto_journal_records::{Record, State, entry_text};
 use std::process::Abort;
 
 // The line of one splice, of which no edit is known.

@@ -2,7 +2,7 @@
 
 use super::calls::*;
 use crate::calls::{is_held, store_of};
-use proto_records::{JournalFault, migrate};
+use proto_journal_records::{JournalFault, migrate};
 use proto_store::{MemoryStore, Store};
 use std::process::Abort;
 

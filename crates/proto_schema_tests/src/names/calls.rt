@@ -1,7 +1,7 @@
 //! The public calls, with what tests say of their answers.
 
 use crate::calls::{self, Given};
-use proto_faults::SchemaFault;
+use proto_base::SchemaFault;
 use proto_files::{Files, Paths};
 use proto_names::{Kind, Link, RefId, SymbolId};
 use std::fmt::Write;

@@ -7,7 +7,7 @@ ghost use Rattle.proto_tree.specs.File.{tree_of_file};
 ghost use Rattle.proto_tree.specs.Reads.{Reads};
 
 use super::calls::{Ask, Told, expect_fault, expect_rows, expect_text, given_files, read};
-use proto_faults::SchemaFault;
+use proto_base::SchemaFault;
 use proto_files::Files;
 use proto_names::Link;
 use proto_text::{Source, Token, lex};

@@ -1,11 +1,11 @@
 //! What a reference means in scopes that are given, declared or not.
 
 ghost use Rattle.std.specs.Prelude.{◌≡◌, ℕ, List};
-ghost use Rattle.proto_meaning.specs.Joined.{joined, ArePlain};
+ghost use Rattle.proto_names_rules.specs.Joined.{joined, ArePlain};
 ghost use Rattle.proto_names.specs.LinkOfFiles.{IsLinkOf};
 
 use super::calls::{expect_text, given_files, read};
-use proto_faults::NoMemory;
+use proto_base::NoMemory;
 use proto_files::{Files, Words};
 use proto_names::Link;
 use proto_tree::{Behind, Reference, Separated, Sequence};

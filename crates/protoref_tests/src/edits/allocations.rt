@@ -5,7 +5,7 @@ use super::calls::{Flat, difference_of, expect_none};
 use super::deletions::{ONEOF, PLAIN};
 use super::imports::{EMPTY, IMPORT};
 use super::rows::{FIRST_MAP, VALUE, WIDE};
-use proto_faults::NoMemory;
+use proto_base::NoMemory;
 use std::process::Abort;
 
 // The row's edits and the way back, whatever is refused.

@@ -1,7 +1,7 @@
 //! Rows that are written as texts, and how they are asserted.
 
-use proto_edit_rows::{Row, Step, Undo, difference};
-use proto_faults::NoMemory;
+use proto_base::NoMemory;
+use protoref_test_cases::{Row, Step, Undo, difference};
 use std::alloc::Global;
 use std::process::Abort;
 

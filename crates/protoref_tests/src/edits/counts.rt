@@ -3,7 +3,7 @@
 use super::calls::{Flat, step, texts};
 use super::rows::{MEMBERS, WIDE};
 use proto_edit::{Entry, Refusal, Steps, Workspace, to_json};
-use proto_edit_rows::{are_texts, edit_of, is_said, open};
+use protoref_test_cases::{are_texts, edit_of, is_said, open};
 use std::process::Abort;
 
 // The files are these, and the descriptors those of a workspace that is opened from them.

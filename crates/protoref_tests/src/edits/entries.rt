@@ -2,9 +2,9 @@
 
 use super::calls::texts;
 use super::rows::{DONE, ONE};
-use proto_edit_rows::{Said, Step, are_texts, edit_of, is_said, open};
 use proto_journal::{Change, Entry};
 use proto_text::{Splice, Splices};
+use protoref_test_cases::{Said, Step, are_texts, edit_of, is_said, open};
 use std::process::Abort;
 
 /// A change: the path of a file, its lengths before and after, and where its one splice stands, with the old and the new text.

@@ -1,7 +1,7 @@
 //! Edits of extensions and beside them, with their answers by the rules of docs/edits.md. Places are counted in the texts.
 
 use super::calls::{Flat, difference_of, expect_none, expect_rows};
-use proto_edit_rows::{Said, Undo};
+use protoref_test_cases::{Said, Undo};
 
 /// A message and its extension are renamed, one after the other.
 const BOTH: &[Flat] = &[[

@@ -1,7 +1,7 @@
 //! Edits of all kinds one after another, with refused ones among them. Places are counted in the texts.
 
 use super::calls::{Flat, difference_of, expect_none};
-use proto_edit_rows::{Said, Undo};
+use protoref_test_cases::{Said, Undo};
 
 pub(crate) const LISTS: &[Flat] = &[[
     "a.proto syntax = \"proto3\"; import \"b.proto\"; message A { oneof o { B x = 1; int32 y = 2; } string b_c = 3; }|b.proto syntax = \"proto3\"; message B {}|c.proto",

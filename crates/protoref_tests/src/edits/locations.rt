@@ -1,9 +1,9 @@
 //! Where references and faults stand: the path, the line and the column in bytes, counted by hand.
 
 use crate::calls::{add, given_files};
-use proto_faults::SchemaFault;
+use proto_base::SchemaFault;
 use proto_journal::Workspace;
-use proto_output::{Location, locations_of_references, place_of_fault, schema_line};
+use protoref_output::{Location, locations_of_references, place_of_fault, schema_line};
 use std::process::Abort;
 
 /// Files; a name; other files, in which its references are looked up, if they are not the same;

@@ -2,7 +2,7 @@
 //! lowest file is needed, and fifty edits in a list.
 
 use proto_edit::{Edit, Entry, Refusal, Steps, Workspace};
-use proto_edit_rows::{are_texts, open};
+use protoref_test_cases::{are_texts, open};
 use std::process::Abort;
 
 /// The numbers of the files that use the message of the first; their paths have them.

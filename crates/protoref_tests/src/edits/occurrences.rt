@@ -1,10 +1,10 @@
 //! The tokens that stand for a name, file by file, which a rename of it changes. Places are counted in the texts.
 
 use super::calls::texts;
+use proto_base::NoMemory;
 use proto_edit::{Files, Workspace};
-use proto_edit_rows::open;
-use proto_faults::NoMemory;
-use proto_rename::{FileOccurrences, occurrences};
+use proto_edit_rename::{FileOccurrences, occurrences};
+use protoref_test_cases::open;
 use std::alloc::Global;
 use std::fmt::Write;
 use std::process::Abort;

@@ -1,9 +1,9 @@
 //! What `Workspace::open` answers: descriptors, or the least fault.
 
 use super::calls::texts;
-use proto_edit_rows::{are_texts, open};
-use proto_faults::SchemaFault;
+use proto_base::SchemaFault;
 use proto_journal::to_json;
+use protoref_test_cases::{are_texts, open};
 use std::process::Abort;
 
 // The descriptors of files, or their fault as `path:offset: number name`.

@@ -2,7 +2,7 @@
 
 use super::calls::{Flat, difference_of, expect_none, expect_rows};
 use super::rows::{CAPTURES, DONE, LAST, MAPS, MEMBERS, NAMES, ONE, RUNS, TEXT, TYPES};
-use proto_edit_rows::{Step, Undo, difference_of_answers, padded_text};
+use protoref_test_cases::{Step, Undo, difference_of_answers, padded_text};
 
 #[test]
 fn of_members_are_answered_and_undone(rt: HostRuntime) {

@@ -1,7 +1,7 @@
 //! Renames with their answers by the rules of docs/edits.md. Places are counted in the texts.
 
 use super::calls::Flat;
-use proto_edit_rows::Texts;
+use protoref_test_cases::Texts;
 
 /// The text of `ONE`.
 pub(crate) const TEXT: &str = "syntax = \"proto3\"; message A { string b_c = 1; }";

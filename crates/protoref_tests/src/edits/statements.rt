@@ -5,7 +5,7 @@ use super::deletions::{DELETIONS, Deletion, FIELDS, MEMBERS, ONEOF};
 use super::imports::{ADDED, DROPPED, IMPORT, MORE_PLACES, NEEDED, OVERTAKEN, PLACES, Place};
 use super::lists::LISTS;
 use super::rows::TEXT;
-use proto_edit_rows::{Row, difference, difference_of_answers, padded_text};
+use protoref_test_cases::{Row, difference, difference_of_answers, padded_text};
 use std::process::Abort;
 
 fn expect_deletions<R: AllocGlobal + Abort>(rt: &R, rows: &[Deletion]) {

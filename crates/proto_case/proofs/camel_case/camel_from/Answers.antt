@@ -1,5 +1,5 @@
 use Rattle.std.proofs.Common.{◌≡◌, ◌++◌, IsUtf8, ap, append-nil, arith, false, sym, subst, ◌∙◌}
-use Rattle.proto_faults.proofs.Common.{nil_from_length}
+use Rattle.proto_base.proofs.Common.{nil_from_length}
 use Rattle.proto_case.specs.Camel.{camel_from}
 use Rattle.proto_case.proofs.Camel.{IsUtf8-camel_from}
 use Rattle.proto_case.proofs.camel_case.camel_from.Goals as goal

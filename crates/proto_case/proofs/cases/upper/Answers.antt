@@ -1,5 +1,5 @@
 use Rattle.std.proofs.Common.{◌≡◌, List, ℕ, [], ◌∷◌, ◌++◌, true, false, ap, sym, ◌∙◌, if◌then◌else◌, arith, string_bytes, append-nil}
-use Rattle.proto_faults.proofs.Common.{chars_rest, encode_ascii}
+use Rattle.proto_base.proofs.Common.{chars_rest, encode_ascii}
 use lib.Utf8.{encode}
 use Rattle.proto_case.specs.Cases.{begins_word, upper}
 use Rattle.proto_case.proofs.Uppers.{letter_step}

@@ -1,5 +1,5 @@
 use Rattle.std.proofs.Common.{◌≡◌, ℕ, ◌<◌, length, subst, inl, inr, arith}
-use Rattle.proto_faults.proofs.Common.{cases_lt, err_from_is_err_and}
+use Rattle.proto_base.proofs.Common.{cases_lt, err_from_is_err_and}
 use Rattle.proto_desc.specs.CheckSteps.{HasNoFlaw}
 use Rattle.proto_desc.proofs.LeastCheckFault.{check_error, no_fault}
 use Rattle.proto_desc.proofs.checking.check_each.Goals as goal

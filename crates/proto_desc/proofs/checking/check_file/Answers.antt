@@ -1,7 +1,7 @@
 use Rattle.std.proofs.Common.{◌++◌, Some, None, subst, Contains}
 use Rattle.proto_tree.specs.File.{tree_of_file}
-use Rattle.proto_checks.specs.FileFlaws.{file_flaws}
-use Rattle.proto_numbers.specs.Flaws.{IsLeastOfFlaws}
+use Rattle.proto_desc_checks.specs.FileFlaws.{file_flaws}
+use Rattle.proto_desc_numbers.specs.Flaws.{IsLeastOfFlaws}
 use Rattle.proto_desc.proofs.CheckedFiles.{file_error, least_of_file}
 use Rattle.proto_desc.proofs.checking.check_file.Goals as goal
 

@@ -1,8 +1,8 @@
 use Rattle.std.proofs.Common.{◌≡◌, ℕ, ◌<◌, List, [], ◌∷◌, length, length-append, sym, ap, subst, ◌∙◌, arith}
 use Rattle.proto_tree.specs.File.{tree_of_file}
 use Rattle.proto_files.proofs.Common.{read_at, each_pushed}
-use Rattle.proto_scenes.specs.Scenes.{IsSceneOf}
-use Rattle.proto_described.specs.Described.{file_described}
+use Rattle.proto_resolved.specs.Scenes.{IsSceneOf}
+use Rattle.proto_desc_build.specs.Described.{file_described}
 use Rattle.proto_descriptors.specs.Views.{file_desc}
 use Rattle.proto_desc.proofs.CheckedFiles.{all_described, described_at, described_of_file}
 use Rattle.proto_desc.proofs.checking.descriptors.Goals as goal

@@ -1,7 +1,7 @@
 use Rattle.std.proofs.Common.{◌≡◌, List, length, None}
 use Rattle.proto_files.proofs.Common.{file_at, Each, ReadOf, AreRead, read_at}
-use Rattle.proto_described.specs.Described.{file_described}
-use Rattle.proto_scenes.specs.SceneOf.{scene_of}
+use Rattle.proto_desc_build.specs.Described.{file_described}
+use Rattle.proto_resolved.specs.SceneOf.{scene_of}
 use Rattle.proto_descriptors.specs.Views.{file_desc}
 use Rattle.proto_desc.proofs.checking.descriptors.Given as goal
 

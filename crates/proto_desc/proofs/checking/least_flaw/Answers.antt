@@ -1,6 +1,6 @@
 use Rattle.std.proofs.Common.{◌++◌, List, ap, ◌∙◌, subst, Contains}
-use Rattle.proto_numbers.specs.Flaws.{IsLeastOfFlaws}
-use Rattle.proto_numbers.specs.declared.flaw.Flaw.{Flaw}
+use Rattle.proto_desc_numbers.specs.Flaws.{IsLeastOfFlaws}
+use Rattle.proto_desc_numbers.specs.declared.flaw.Flaw.{Flaw}
 use Rattle.proto_desc.proofs.checking.least_flaw.Goals as goal
 
 pub returns : goal.returns

@@ -1,6 +1,6 @@
 use Rattle.std.proofs.Common.{refl, arith, map, ap, ◌∙◌}
 use Rattle.proto_tree.specs.File.{item_tree}
-use Rattle.proto_described.proofs.Common.{enums_described, enums_joined, described_turn, described_none}
+use Rattle.proto_desc_build.proofs.Common.{enums_described, enums_joined, described_turn, described_none}
 use Rattle.proto_descriptors.specs.Views.{enum_desc}
 use Rattle.proto_desc.proofs.described_items.enum_descriptors.Goals as goal
 

@@ -1,6 +1,6 @@
 use Rattle.std.proofs.Common.{◌≡◌, ◌++◌, map, drop}
 use Rattle.proto_tree.specs.File.{trees, item_tree}
-use Rattle.proto_described.specs.Described.{enums_described}
+use Rattle.proto_desc_build.specs.Described.{enums_described}
 use Rattle.proto_descriptors.specs.Views.{enum_desc}
 use Rattle.proto_desc.proofs.described_items.enum_descriptors.Given as goal
 

@@ -1,6 +1,6 @@
 use Rattle.std.proofs.Common.{◌≡◌, ◌++◌, map, drop}
 use Rattle.proto_tree.specs.File.{trees, item_tree}
-use Rattle.proto_described.specs.Described.{extensions_described}
+use Rattle.proto_desc_build.specs.Described.{extensions_described}
 use Rattle.proto_descriptors.specs.Views.{field_desc}
 use Rattle.proto_desc.proofs.described_items.extension_descriptors.Given as goal
 

@@ -1,6 +1,6 @@
 use Rattle.std.proofs.Common.{◌+◌, List, Some, None, drop, sym, ap, ◌∙◌, arith, Vec, Global, option_to_list, append-nil}
 use Rattle.proto_tree.specs.File.{trees, item_tree}
-use Rattle.proto_described.proofs.Common.{messages_described, messages_then, described_more, described_all}
+use Rattle.proto_desc_build.proofs.Common.{messages_described, messages_then, described_more, described_all}
 use Rattle.proto_descriptors.specs.Views.{messages_desc}
 use Rattle.proto_descriptors.specs.declared.message.MessageDescriptor.{MessageDescriptor}
 use Rattle.proto_desc.proofs.described_items.message_descriptors.Goals as goal

@@ -1,6 +1,6 @@
 use Rattle.std.proofs.Common.{◌≡◌, drop}
 use Rattle.proto_tree.specs.File.{trees, item_tree}
-use Rattle.proto_described.proofs.Common.{messages_described, messages_then}
+use Rattle.proto_desc_build.proofs.Common.{messages_described, messages_then}
 use Rattle.proto_descriptors.specs.Views.{messages_desc}
 use Rattle.proto_desc.proofs.described_items.message_descriptors.Given as goal
 

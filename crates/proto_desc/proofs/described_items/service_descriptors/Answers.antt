@@ -1,6 +1,6 @@
 use Rattle.std.proofs.Common.{refl, arith}
 use Rattle.proto_tree.specs.File.{item_tree}
-use Rattle.proto_described.proofs.Common.{services_described, services_joined, described_turn, described_none}
+use Rattle.proto_desc_build.proofs.Common.{services_described, services_joined, described_turn, described_none}
 use Rattle.proto_desc.proofs.described_items.service_descriptors.Goals as goal
 
 pub loop-item-preserved : goal.loop-item-preserved

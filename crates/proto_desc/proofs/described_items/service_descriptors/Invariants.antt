@@ -1,6 +1,6 @@
 use Rattle.std.proofs.Common.{◌≡◌, ◌++◌, map, drop}
 use Rattle.proto_tree.specs.File.{trees, item_tree}
-use Rattle.proto_described.specs.Described.{services_described}
+use Rattle.proto_desc_build.specs.Described.{services_described}
 use Rattle.proto_descriptors.specs.Views.{service_desc}
 use Rattle.proto_desc.proofs.described_items.service_descriptors.Given as goal
 

@@ -1,6 +1,6 @@
 use Rattle.std.proofs.Common.{◌≡◌, map, take, string_bytes}
-use Rattle.proto_listing.specs.Listing.{wanted_of}
-use Rattle.proto_parts.specs.Scenes.{value}
+use Rattle.proto_names_outline.specs.Listing.{wanted_of}
+use Rattle.proto_ast.specs.Scenes.{value}
 use Rattle.proto_desc.proofs.head.dependencies.Given as goal
 
 abbrev pub invariant-loop-import : goal.invariant-loop-import

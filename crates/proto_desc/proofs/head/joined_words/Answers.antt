@@ -1,7 +1,7 @@
 use Rattle.std.proofs.Common.{◌∷◌, ◌++◌, List, ℕ, map, refl, string_bytes, sym, ap, ◌∙◌, flat_map}
-use Rattle.proto_faults.proofs.Turns.{all_listed, given_turn}
-use Rattle.proto_listing.proofs.JoinedWords.{joined_words, word_behind}
-use Rattle.proto_parts.specs.Scenes.{text}
+use Rattle.proto_base.proofs.Turns.{all_listed, given_turn}
+use Rattle.proto_names_outline.proofs.JoinedWords.{joined_words, word_behind}
+use Rattle.proto_ast.specs.Scenes.{text}
 use Rattle.proto_desc.proofs.head.joined_words.Goals as goal
 
 pub loop-word-init : goal.loop-word-init

@@ -1,6 +1,6 @@
 use Rattle.std.proofs.Common.{◌≡◌, ◌∷◌, ◌++◌, map, drop, string_bytes, flat_map}
-use Rattle.proto_meaning.specs.Joined.{joined}
-use Rattle.proto_parts.specs.Scenes.{text}
+use Rattle.proto_names_rules.specs.Joined.{joined}
+use Rattle.proto_ast.specs.Scenes.{text}
 use Rattle.proto_desc.proofs.head.joined_words.Given as goal
 
 abbrev pub invariant-loop-word : goal.invariant-loop-word

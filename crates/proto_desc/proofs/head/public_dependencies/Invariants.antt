@@ -1,6 +1,6 @@
 use Rattle.std.proofs.Common.{◌≡◌, ◌++◌, map, drop}
-use Rattle.proto_listing.specs.Listing.{wanted_of}
-use Rattle.proto_described.specs.Described.{public_places}
+use Rattle.proto_names_outline.specs.Listing.{wanted_of}
+use Rattle.proto_desc_build.specs.Described.{public_places}
 use Rattle.proto_desc.proofs.head.public_dependencies.Given as goal
 
 abbrev pub invariant-loop-place : goal.invariant-loop-place

@@ -1,5 +1,5 @@
 use Rattle.std.proofs.Common.{ℕ, List, sym, subst, ◌∙◌}
-use Rattle.proto_faults.specs.declared.fault.SchemaFault.{SchemaFault}
+use Rattle.proto_base.specs.declared.fault.SchemaFault.{SchemaFault}
 use Rattle.proto_files.proofs.Common.{IsText, IsTextFault, file_at}
 use Rattle.proto_files.proofs.FileErrors.{lex_error, no_text_fault}
 use Rattle.proto_files.specs.Reading.{IsFileError, text_error}

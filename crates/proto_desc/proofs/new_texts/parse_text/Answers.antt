@@ -2,7 +2,7 @@ use Rattle.std.proofs.Common.{List, sym, subst, ◌∙◌}
 use Rattle.proto_text.proofs.Common.{AreTokens}
 use Rattle.proto_text.specs.declared.lexer.Token.{Token}
 use Rattle.proto_tree.proofs.Common.{Reads, tree_of_file}
-use Rattle.proto_faults.specs.declared.fault.SchemaFault.{SchemaFault}
+use Rattle.proto_base.specs.declared.fault.SchemaFault.{SchemaFault}
 use Rattle.proto_files.proofs.Common.{IsGrammarFault}
 use Rattle.proto_files.proofs.FileErrors.{no_grammar_fault, parse_error}
 use Rattle.proto_files.specs.Reading.{IsFileError}

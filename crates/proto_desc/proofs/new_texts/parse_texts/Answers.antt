@@ -1,5 +1,5 @@
 use Rattle.std.proofs.Common.{◌<◌, length, arith, rules}
-use Rattle.proto_faults.proofs.Common.{YieldsList-from_vec, YieldsList-so_far, YieldsList-turn, err_from_is_err_and, length_push}
+use Rattle.proto_base.proofs.Common.{YieldsList-from_vec, YieldsList-so_far, YieldsList-turn, err_from_is_err_and, length_push}
 use Rattle.proto_files.proofs.Common.{IsGrammarFault}
 use Rattle.proto_files.proofs.FirstErrors.{all_push, first_error, given_at}
 use Rattle.proto_desc.specs.NewTexts.{IsLexedText, IsParsedText, file_with, lexed_text, read_text}

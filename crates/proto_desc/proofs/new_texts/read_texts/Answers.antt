@@ -1,9 +1,9 @@
 use Rattle.std.proofs.Common.{◌≡◌, ◌<◌, ◌≤◌, ◌+◌, ◌∙◌, length, map, ap, All, arith}
 use Rattle.std.proofs.lemmas.Result.{on_err_weaker, on_ok_weaker}
-use Rattle.proto_faults.proofs.Common.{All-weaker, IfErr-weaker, IfOk-weaker, Vec, err_from_is_err_and, length-map}
+use Rattle.proto_base.proofs.Common.{All-weaker, IfErr-weaker, IfOk-weaker, Vec, err_from_is_err_and, length-map}
 use Rattle.proto_files.proofs.Common.{IsGrammarFault}
 use Rattle.proto_files.specs.Reading.{IsFirstError}
-use Rattle.proto_entries.specs.Putting.{with_texts}
+use Rattle.proto_edit_entries.specs.Putting.{with_texts}
 use Rattle.proto_desc.specs.NewTexts.{IsParsedText, IsReadText, given_text, lexed_text, read_text, texts_at}
 use Rattle.proto_desc.specs.Opening.{IsOpenError}
 use Rattle.proto_desc.specs.declared.texts.ReadText.{ReadText}

@@ -1,5 +1,5 @@
 use Rattle.std.proofs.Common.{◌≡◌, ℕ, ◌<◌, List, [], ◌∷◌, ◌++◌, get_or, length, map, sym, ap, ◌∙◌, arith, rules}
-use Rattle.proto_faults.proofs.Common.{Vec, YieldsList-from_vec, YieldsList-turn, get_or_default, length-map, length_push, map_push}
+use Rattle.proto_base.proofs.Common.{Vec, YieldsList-from_vec, YieldsList-turn, get_or_default, length-map, length_push, map_push}
 use Rattle.proto_desc.specs.NewTexts.{TextAt, given_text, texts_at}
 use Rattle.proto_desc.specs.declared.texts.GivenText.{GivenText}
 use Rattle.proto_desc.proofs.WithTexts.{no_texts, one_more_text}

@@ -1,5 +1,5 @@
 use Rattle.std.proofs.Common.{◌<◌, ◌∙◌, length, map, ap, arith, sym}
-use Rattle.proto_faults.proofs.Common.{map_push}
+use Rattle.proto_base.proofs.Common.{map_push}
 use Rattle.proto_desc.specs.NewTexts.{IsReadText, read_text, with_old}
 use Rattle.proto_desc.specs.declared.texts.ReadText.{ReadText}
 use Rattle.proto_desc.proofs.WithTexts.{all_but_last, length-with_text, with_older}

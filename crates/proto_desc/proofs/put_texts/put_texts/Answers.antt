@@ -1,6 +1,6 @@
 use Rattle.std.proofs.Common.{◌≡◌, ◌<◌, ◌+◌, List, [], ◌∷◌, ◌++◌, length, map, sym, ap, ◌∙◌, subst, arith, rules, is_ok, if◌then◌else◌, All}
 use Rattle.std.specs.Prelude.{vec_len}
-use Rattle.proto_faults.proofs.Common.{All-push, YieldsList-from_vec, YieldsList-turn, length_push, map_push}
+use Rattle.proto_base.proofs.Common.{All-push, YieldsList-from_vec, YieldsList-turn, length_push, map_push}
 use Rattle.proto_files.proofs.Common.{file_at, FileOf}
 use Rattle.proto_files.proofs.FirstErrors.{given_at}
 use Rattle.proto_desc.specs.NewTexts.{IsReadText, TextAt, read_text, with_all, with_old, with_text}

@@ -1,7 +1,7 @@
 use Rattle.std.proofs.Common.{◌≡◌, length, ap, ◌∙◌, sym, rules}
-use Rattle.proto_faults.proofs.Common.{nil_from_length}
+use Rattle.proto_base.proofs.Common.{nil_from_length}
 use Rattle.proto_tree.specs.File.{tree_of_file}
-use Rattle.proto_described.specs.Described.{file_described}
+use Rattle.proto_desc_build.specs.Described.{file_described}
 use Rattle.proto_desc.proofs.CheckedFiles.{described_of_file, none_of_file}
 use Rattle.proto_desc.proofs.renewing.check_again.Goals as goal
 

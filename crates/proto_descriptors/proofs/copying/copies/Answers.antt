@@ -1,5 +1,5 @@
 use Rattle.std.proofs.Common.{[], ◌∷◌, ◌++◌, map, take, sym, ◌∙◌, ap, take_all}
-use Rattle.proto_faults.proofs.Common.{map-append, map_more}
+use Rattle.proto_base.proofs.Common.{map-append, map_more}
 use Rattle.proto_descriptors.proofs.copying.copies.Goals as goal
 
 pub loop-value-init : goal.loop-value-init

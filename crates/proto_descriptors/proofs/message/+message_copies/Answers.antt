@@ -1,5 +1,5 @@
 use Rattle.std.proofs.Common.{List, [], ◌∷◌, ◌++◌, map, take, sym, ◌∙◌, ap, take_all}
-use Rattle.proto_faults.proofs.Common.{IfOk-weaker, map-append, map_more}
+use Rattle.proto_base.proofs.Common.{IfOk-weaker, map-append, map_more}
 use Rattle.proto_descriptors.specs.Views.{descriptor_tree}
 use Rattle.proto_descriptors.specs.declared.message.MessageDescriptor.{MessageDescriptor}
 use Rattle.proto_descriptors.proofs.Copied.{nested_copied}

@@ -1,4 +1,4 @@
-use Rattle.proto_entries.proofs.Puts.{puts_are_once}
+use Rattle.proto_edit_entries.proofs.Puts.{puts_are_once}
 use Rattle.proto_edit.proofs.EditSteps.{runs_are_undone, undone_once}
 use Rattle.proto_edit.proofs.laws.runs_are_undone.Goals as goal
 

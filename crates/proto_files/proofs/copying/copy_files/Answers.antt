@@ -1,5 +1,5 @@
 use Rattle.std.proofs.Common.{◌∷◌, [], ◌++◌, take, sym, ◌∙◌, ap, subst, take_all}
-use Rattle.proto_faults.proofs.Common.{take_more}
+use Rattle.proto_base.proofs.Common.{take_more}
 use Rattle.proto_files.specs.Common.{ReadFile, IsReadFile, read_file, read_files}
 use Rattle.proto_files.proofs.FirstErrors.{same_push, all_push}
 use Rattle.proto_files.proofs.copying.copy_files.Goals as goal

@@ -1,5 +1,5 @@
 use Rattle.std.proofs.Common.{◌≤◌, ℕ, List, length, Err, sym, ◌∙◌, subst, arith, IsUtf8}
-use Rattle.proto_faults.proofs.Common.{text_limit}
+use Rattle.proto_base.proofs.Common.{text_limit}
 use Rattle.proto_text.specs.SourceFacts.{NewSource}
 use Rattle.proto_text.specs.declared.fault.TextFault.{TextFault}
 use Rattle.proto_text.specs.declared.fault.TextFault.TheVariants as text

@@ -1,4 +1,4 @@
-use Rattle.proto_faults.proofs.Common.{codes, ends_text}
+use Rattle.proto_base.proofs.Common.{codes, ends_text}
 use Rattle.proto_files.proofs.path.has_proto_ending.Goals as goal
 
 pub returns : goal.returns

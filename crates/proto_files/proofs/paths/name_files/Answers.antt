@@ -1,5 +1,5 @@
 use Rattle.std.proofs.Common.{◌≡◌, rules, ap, ◌∙◌}
-use Rattle.proto_faults.proofs.Common.{YieldsList-from_map, items_from_collect, YieldsList-from_vec, IfOk-weaker}
+use Rattle.proto_base.proofs.Common.{YieldsList-from_map, items_from_collect, YieldsList-from_vec, IfOk-weaker}
 use Rattle.proto_files.specs.Common.{files_of, named_files}
 use Rattle.proto_files.proofs.NamedLists.{name_pair, named_files-map}
 use Rattle.proto_files.proofs.paths.name_files.Goals as goal

@@ -1,5 +1,5 @@
 use Rattle.std.proofs.Common.{ℕ, List, sym, subst, refl, string_bytes}
-use Rattle.proto_faults.specs.declared.fault.SchemaFault.{SchemaFault}
+use Rattle.proto_base.specs.declared.fault.SchemaFault.{SchemaFault}
 use Rattle.proto_files.specs.Common.{IsText, IsTextFault, IsFileError, text_error, named_file}
 use Rattle.proto_files.proofs.FileErrors.{lex_error, no_text_fault}
 use Rattle.proto_files.proofs.reading.lex_file.Goals as goal

@@ -1,5 +1,5 @@
 use Rattle.std.proofs.Common.{rules}
-use Rattle.proto_faults.proofs.Common.{YieldsList-from_vec, YieldsList-so_far, YieldsList-turn, err_from_is_err_and}
+use Rattle.proto_base.proofs.Common.{YieldsList-from_vec, YieldsList-so_far, YieldsList-turn, err_from_is_err_and}
 use Rattle.proto_files.specs.Common.{IsTextFault, IsLexedFile, named_file, lexed_file, lexed_files}
 use Rattle.proto_files.proofs.FirstErrors.{first_error, none_lexed, same_push, all_push}
 use Rattle.proto_files.proofs.reading.lex_files.Goals as goal

@@ -2,7 +2,7 @@ use Rattle.std.proofs.Common.{List, sym, subst, refl}
 use Rattle.proto_text.specs.declared.lexer.Token.{Token}
 use Rattle.proto_text.specs.Tokens.{AreTokens}
 use Rattle.proto_tree.proofs.Common.{tree_of_file, Reads}
-use Rattle.proto_faults.specs.declared.fault.SchemaFault.{SchemaFault}
+use Rattle.proto_base.specs.declared.fault.SchemaFault.{SchemaFault}
 use Rattle.proto_files.specs.Common.{IsGrammarFault, IsFileError, lexed_file}
 use Rattle.proto_files.proofs.FileErrors.{parse_error, no_grammar_fault}
 use Rattle.proto_files.proofs.reading.parse_file.Goals as goal

@@ -1,5 +1,5 @@
 use Rattle.std.proofs.Common.{length, rules}
-use Rattle.proto_faults.proofs.Common.{YieldsList-from_vec, YieldsList-so_far, YieldsList-turn, err_from_is_err_and}
+use Rattle.proto_base.proofs.Common.{YieldsList-from_vec, YieldsList-so_far, YieldsList-turn, err_from_is_err_and}
 use Rattle.proto_files.specs.Common.{IsGrammarFault, IsLexedFile, IsReadFile, lexed_file, read_file, read_files}
 use Rattle.proto_files.proofs.FirstErrors.{first_error, none_read, same_push, all_push, given_at}
 use Rattle.proto_files.proofs.reading.parse_files.Goals as goal

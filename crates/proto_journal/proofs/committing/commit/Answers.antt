@@ -1,9 +1,9 @@
 use Rattle.std.proofs.Common.{ℕ, List, map, refl, sym, subst, Option, Some}
 use Rattle.std.proofs.lemmas.Result.{err_from_is_err_and}
 use Rattle.proto_files.specs.GivenFiles.{FileOf}
-use Rattle.proto_entries.proofs.Common.{ChangeOf, Asked, change_of}
+use Rattle.proto_edit_entries.proofs.Common.{ChangeOf, Asked, change_of}
 use Rattle.proto_edit.specs.Answers.{asked}
-use Rattle.proto_records.proofs.Common.{done, opened, Over}
+use Rattle.proto_journal_records.proofs.Common.{done, opened, Over}
 use Rattle.proto_store.specs.Stores.{Held, HoldsFiles}
 use Rattle.proto_journal.specs.Written.{AddsTo, Passes, IsReadyText}
 use Rattle.proto_journal.proofs.Committed.{commit_cut, committed, counts_unprepared, not_ready, unprepared}

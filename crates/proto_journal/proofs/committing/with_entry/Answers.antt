@@ -1,8 +1,8 @@
 use Rattle.std.proofs.Common.{arith, ◌≤◌, ◌<◌, ℕ, List, length, subst, Some}
-use Rattle.proto_records.specs.declared.record.Version.TheVariants.{Second}
-use Rattle.proto_records.proofs.Common.{done, opened, journal_limit}
+use Rattle.proto_journal_records.specs.declared.record.Version.TheVariants.{Second}
+use Rattle.proto_journal_records.proofs.Common.{done, opened, journal_limit}
 use Rattle.proto_journal.proofs.Grown.{adds, as_long_open}
-use Rattle.proto_entries.specs.EditsAsked.{asked}
+use Rattle.proto_edit_entries.specs.EditsAsked.{asked}
 use Rattle.proto_journal.proofs.committing.with_entry.Goals as goal
 
 pub returns-then-len-gt-MAX_JOURNAL_LEN-clause-err : goal.returns-then-len-gt-MAX_JOURNAL_LEN-clause-err

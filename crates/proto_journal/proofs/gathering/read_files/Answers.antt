@@ -1,6 +1,6 @@
 -- The loop of `all_files` of proto_store, over paths that were asked before.
 use Rattle.std.proofs.Common.{◌≡◌, ℕ, List, ◌++◌, [], ◌∷◌, sym, ◌∙◌, ap, subst, rules, map, Option, String, Global, string_bytes}
-use Rattle.proto_faults.proofs.Common.{Vec}
+use Rattle.proto_base.proofs.Common.{Vec}
 use Rattle.std.specs.Vec.Iter.{into_iter_items}
 use Rattle.proto_store.specs.Stores.{Held, HoldsBytes, IsListed}
 use Rattle.proto_store.proofs.Loading.{Loads, empty_if_short, loads_all, loads_more, next_is_listed}

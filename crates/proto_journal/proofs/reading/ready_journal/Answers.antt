@@ -1,6 +1,6 @@
 use Rattle.std.proofs.Common.{◌≡◌, List, ℕ, true, false, sym, ap, ◌∙◌, subst, Err}
 use Rattle.std.proofs.lemmas.Result.{err_from_is_err_and}
-use Rattle.proto_records.proofs.Common.{RecordOf, is_last_open}
+use Rattle.proto_journal_records.proofs.Common.{RecordOf, is_last_open}
 use Rattle.proto_store.specs.Stores.{HoldsJournal}
 use Rattle.proto_journal.proofs.Recorded.{counts_unread, last_open_there, not_read, ready_there}
 use Rattle.proto_journal.proofs.reading.ready_journal.Goals as goal

@@ -1,7 +1,7 @@
 use Rattle.std.proofs.Common.{arith, length, ◌≡◌, List, true, false, sym, ap, ◌∙◌}
 use Rattle.std.specs.Prelude.{Err}
 use Rattle.std.proofs.lemmas.Result.{err_from_is_err_and}
-use Rattle.proto_records.proofs.Common.{RecordOf, is_last_open}
+use Rattle.proto_journal_records.proofs.Common.{RecordOf, is_last_open}
 use Rattle.proto_journal.proofs.Recorded.{last_there, no_last, nothing_there}
 use Rattle.proto_journal.proofs.undoing.last_record.Goals as goal
 

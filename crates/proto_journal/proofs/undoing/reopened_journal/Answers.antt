@@ -1,7 +1,7 @@
 use Rattle.std.proofs.Common.{sym, subst}
 use Rattle.std.specs.Prelude.{Option}
-use Rattle.proto_entries.specs.EditsAsked.{Asked}
-use Rattle.proto_records.specs.Journals.{IsTold}
+use Rattle.proto_edit_entries.specs.EditsAsked.{Asked}
+use Rattle.proto_journal_records.specs.Journals.{IsTold}
 use Rattle.proto_journal.proofs.Grown.{both_ok, reopens_same}
 use Rattle.proto_journal.proofs.undoing.reopened_journal.Goals as goal
 

@@ -1,10 +1,10 @@
 use Rattle.std.proofs.Common.{◌≡◌, ℕ, List, map, refl, sym, ◌∙◌, subst, Option}
 use Rattle.std.proofs.lemmas.Result.{err_from_is_err_and}
 use Rattle.proto_files.specs.GivenFiles.{FileOf}
-use Rattle.proto_entries.proofs.Common.{Asked, ChangeOf, IsEntry, change_of}
+use Rattle.proto_edit_entries.proofs.Common.{Asked, ChangeOf, IsEntry, change_of}
 use Rattle.proto_edit.specs.Workspaces.{IsUndo}
-use Rattle.proto_records.specs.declared.record.Version.{Version}
-use Rattle.proto_records.proofs.Common.{done}
+use Rattle.proto_journal_records.specs.declared.record.Version.{Version}
+use Rattle.proto_journal_records.proofs.Common.{done}
 use Rattle.proto_journal.proofs.Grown.{last_record}
 use Rattle.proto_store.specs.Stores.{Held, HoldsFiles, HoldsJournal}
 use Rattle.proto_journal.specs.Undoing.{IsUndone}

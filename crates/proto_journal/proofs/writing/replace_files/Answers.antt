@@ -1,6 +1,6 @@
 use Rattle.std.proofs.Common.{arith, ◌≡◌, ◌<◌, ◌∙◌, length, map, refl}
 use Rattle.proto_files.specs.GivenFiles.{paths_of}
-use Rattle.proto_entries.specs.Entries.{change_of}
+use Rattle.proto_edit_entries.specs.Entries.{change_of}
 use Rattle.proto_journal.proofs.Between.{as_long}
 use Rattle.proto_journal.proofs.Replacing.{all_replaced, err_of, next_cut, next_left, next_listed, next_replaced, none_replaced, same_paths}
 use Rattle.proto_journal.proofs.writing.replace_files.Goals as goal

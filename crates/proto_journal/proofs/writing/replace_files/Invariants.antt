@@ -1,5 +1,5 @@
 use Rattle.std.proofs.Common.{◌≡◌, drop, map, option_map}
-use Rattle.proto_entries.specs.Entries.{change_of}
+use Rattle.proto_edit_entries.specs.Entries.{change_of}
 use Rattle.proto_journal.specs.Written.{DifferBy, with_these_files}
 use Rattle.proto_journal.proofs.Between.{up_to}
 use Rattle.proto_journal.proofs.writing.replace_files.Given as goal

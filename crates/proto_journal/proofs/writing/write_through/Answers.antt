@@ -1,5 +1,5 @@
 use Rattle.std.proofs.Common.{map, sym, subst, Option}
-use Rattle.proto_entries.specs.Entries.{change_of}
+use Rattle.proto_edit_entries.specs.Entries.{change_of}
 use Rattle.proto_store.specs.Stores.{Held, HoldsFiles}
 use Rattle.proto_journal.proofs.Holdings.{cut_files, cut_first, cut_last, files_stay, went_through}
 use Rattle.proto_journal.proofs.Replacing.{err_of, on_err, on_ok, same_paths}

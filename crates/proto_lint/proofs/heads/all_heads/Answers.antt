@@ -1,6 +1,6 @@
 use Rattle.std.proofs.Common.{◌≡◌, ◌<◌, List, [], ◌∷◌, ◌++◌, length, length-append, take, get_or, sym, ◌∙◌, ap, arith, take_all}
 use Rattle.proto_files.specs.FilesRead.{ReadOf}
-use Rattle.proto_imports.proofs.Turned.{take_more}
+use Rattle.proto_names_imports.proofs.Turned.{take_more}
 use Rattle.proto_lint.proofs.FileHeads.{heads_at, heads_count}
 use Rattle.proto_lint.specs.Common.{heads, Head}
 use Rattle.proto_lint.proofs.heads.all_heads.Goals as goal

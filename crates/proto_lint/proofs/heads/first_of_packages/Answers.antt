@@ -1,6 +1,6 @@
 use Rattle.std.proofs.Common.{List, ℕ, [], ◌∷◌, ◌++◌, length, map, ◌∙◌, ap, subst, arith, take_all, IfOk}
-use Rattle.proto_faults.proofs.Common.{length-map, map-append, pushed_more}
-use Rattle.proto_imports.specs.ImportSteps.{IsFileIndex}
+use Rattle.proto_base.proofs.Common.{length-map, map-append, pushed_more}
+use Rattle.proto_names_imports.specs.ImportSteps.{IsFileIndex}
 use Rattle.proto_lint.specs.Packages.{package_name}
 use Rattle.proto_lint.proofs.heads.first_of_packages.Goals as goal
 

@@ -1,5 +1,5 @@
 use Rattle.std.proofs.Common.{◌≡◌, ◌∷◌, ◌++◌, map, drop, string_bytes, flat_map}
-use Rattle.proto_meaning.specs.Joined.{joined}
+use Rattle.proto_names_rules.specs.Joined.{joined}
 use Rattle.proto_lint.proofs.heads.joined_behind.Given as goal
 
 abbrev pub invariant-loop-word : goal.invariant-loop-word

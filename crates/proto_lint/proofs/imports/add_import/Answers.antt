@@ -1,6 +1,6 @@
 use Rattle.std.proofs.Common.{List}
 use Rattle.proto_files.specs.FilesRead.{ReadOf}
-use Rattle.proto_faults.proofs.Turns.{then_added}
+use Rattle.proto_base.proofs.Turns.{then_added}
 use Rattle.proto_lint.proofs.imports.add_import.Goals as goal
 
 pub returns : goal.returns

@@ -1,9 +1,9 @@
 use Rattle.std.proofs.Common.{◌≡◌, List, false, map, sym, ◌∙◌, ap, rules, is_some}
-use Rattle.proto_faults.specs.Texts.{or_nothing}
+use Rattle.proto_base.specs.Texts.{or_nothing}
 use Rattle.proto_text.specs.Values.{value_of}
 use Rattle.proto_files.proofs.Common.{paths_of, ReadOf}
-use Rattle.proto_imports.specs.Links.{names_of_files}
-use Rattle.proto_findings.proofs.Common.{reading_of, found_of}
+use Rattle.proto_names_imports.specs.Links.{names_of_files}
+use Rattle.proto_lint_names.proofs.Common.{reading_of, found_of}
 use Rattle.proto_lint.proofs.UsedFinds.{leads_is_used, used_found}
 use Rattle.proto_lint.specs.Imports.{import_path}
 use Rattle.proto_lint.proofs.imports.add_import_used.Goals as goal

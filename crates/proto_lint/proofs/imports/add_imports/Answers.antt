@@ -1,11 +1,11 @@
 use Rattle.std.proofs.Common.{◌≡◌, ◌++◌, List, map, get_or, sym, ◌∙◌, ap, subst, Contains, flat_map}
-use Rattle.proto_faults.proofs.Common.{Contains-get_or, on_ok_weaker, contains_map}
+use Rattle.proto_base.proofs.Common.{Contains-get_or, on_ok_weaker, contains_map}
 use Rattle.proto_text.specs.Strings.{IsString}
 use Rattle.proto_tree.specs.File.{tree_of_file}
 use Rattle.proto_tree.specs.declared.tree.Import.{Import}
 use Rattle.proto_files.proofs.Common.{file_at, paths_of, ReadOf, read_at, same_tree}
-use Rattle.proto_imports.specs.Links.{names_of_files}
-use Rattle.proto_findings.proofs.Common.{Reading, reading_of, word_in, found_of}
+use Rattle.proto_names_imports.specs.Links.{names_of_files}
+use Rattle.proto_lint_names.proofs.Common.{Reading, reading_of, word_in, found_of}
 use Rattle.proto_lint.proofs.ImportLists.{paths_are_strings}
 use Rattle.proto_lint.specs.Imports.{import_finds, import_statements_in}
 use Rattle.proto_lint.proofs.imports.add_imports.Goals as goal

@@ -1,9 +1,9 @@
 use Rattle.std.proofs.Common.{◌++◌, None, Bor, List, map, sym, ◌∙◌, ap, take_all, flat_map}
 use Rattle.proto_tree.specs.declared.tree.Import.{Import}
 use Rattle.proto_files.proofs.Common.{paths_of, ReadOf}
-use Rattle.proto_imports.specs.Links.{names_of_files}
-use Rattle.proto_findings.proofs.Common.{Found, reading_of, found_of}
-use Rattle.proto_faults.proofs.Turns.{then_added}
+use Rattle.proto_names_imports.specs.Links.{names_of_files}
+use Rattle.proto_lint_names.proofs.Common.{Found, reading_of, found_of}
+use Rattle.proto_base.proofs.Turns.{then_added}
 use Rattle.proto_lint.proofs.ImportLists.{finds_more}
 use Rattle.proto_lint.specs.Imports.{import_finds}
 use Rattle.proto_lint.proofs.imports.add_statements.Goals as goal

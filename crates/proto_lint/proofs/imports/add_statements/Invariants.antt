@@ -1,7 +1,7 @@
 use Rattle.std.proofs.Common.{◌≡◌, ◌++◌, List, map, take, flat_map}
 use Rattle.proto_files.proofs.Common.{paths_of, ReadOf, AreRead}
-use Rattle.proto_imports.specs.Links.{names_of_files}
-use Rattle.proto_findings.proofs.Common.{reading_of, found_of}
+use Rattle.proto_names_imports.specs.Links.{names_of_files}
+use Rattle.proto_lint_names.proofs.Common.{reading_of, found_of}
 use Rattle.proto_lint.specs.Imports.{import_finds}
 use Rattle.proto_lint.proofs.imports.add_statements.Given as goal
 

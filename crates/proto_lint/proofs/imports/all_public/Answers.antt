@@ -1,8 +1,8 @@
 use Rattle.std.proofs.Common.{◌≡◌, ℕ, List, length, arith}
-use Rattle.proto_meaning.specs.Grown.{at}
-use Rattle.proto_listing.specs.FromTree.{imports_in}
+use Rattle.proto_names_rules.specs.Grown.{at}
+use Rattle.proto_names_outline.specs.FromTree.{imports_in}
 use Rattle.proto_files.proofs.Common.{ReadOf, read_at, each_pushed}
-use Rattle.proto_imports.specs.Links.{text_of}
+use Rattle.proto_names_imports.specs.Links.{text_of}
 use Rattle.proto_lint.specs.ImportTables.{public_targets}
 use Rattle.proto_lint.proofs.imports.all_public.Goals as goal
 

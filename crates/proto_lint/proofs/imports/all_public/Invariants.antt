@@ -1,7 +1,7 @@
 use Rattle.std.proofs.Common.{◌≡◌, ℕ, List, length}
-use Rattle.proto_meaning.specs.Grown.{at}
-use Rattle.proto_listing.specs.FromTree.{imports_in}
-use Rattle.proto_imports.proofs.Common.{IsFileIndex, text_of}
+use Rattle.proto_names_rules.specs.Grown.{at}
+use Rattle.proto_names_outline.specs.FromTree.{imports_in}
+use Rattle.proto_names_imports.proofs.Common.{IsFileIndex, text_of}
 use Rattle.proto_files.specs.FilesRead.{ReadOf, AreRead, Each, read_at}
 use Rattle.proto_lint.specs.ImportTables.{public_targets}
 use Rattle.proto_lint.proofs.imports.all_public.Given as goal

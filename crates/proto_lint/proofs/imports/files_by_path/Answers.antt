@@ -1,6 +1,6 @@
 use Rattle.std.proofs.Common.{map, length, ◌∙◌, ap, subst, arith}
 use Rattle.std.proofs.lemmas.List.{length-map}
-use Rattle.proto_imports.specs.ImportSteps.{IsFileIndex}
+use Rattle.proto_names_imports.specs.ImportSteps.{IsFileIndex}
 use Rattle.proto_lint.proofs.imports.files_by_path.Goals as goal
 
 pub first_places-requires : goal.first_places-requires

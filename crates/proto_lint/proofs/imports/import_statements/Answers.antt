@@ -1,5 +1,5 @@
 use Rattle.std.proofs.Common.{◌≡◌, List, Vec, [], ◌∷◌, ◌++◌, map, refl, sym, ap, ◌∙◌, append-nil}
-use Rattle.proto_faults.proofs.Common.{map-append, all_listed, listed_turn}
+use Rattle.proto_base.proofs.Common.{map-append, all_listed, listed_turn}
 use Rattle.proto_tree.specs.declared.tree.Item.{Item}
 use Rattle.proto_tree.specs.File.{item_tree, trees}
 use Rattle.proto_lint.specs.Imports.{import_statements_in}

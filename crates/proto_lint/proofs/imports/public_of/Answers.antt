@@ -2,9 +2,9 @@ use Rattle.std.proofs.Common.{ℕ, List, map, sym, ◌∙◌, ap, subst, All}
 use Rattle.proto_text.proofs.Common.{IsString, word_at, Lexeme, lexeme_at}
 use Rattle.proto_tree.specs.File.{tree_of_file}
 use Rattle.proto_files.proofs.Common.{file_at, ReadOf, read_at, AreWordsAt, same_tree, same_words}
-use Rattle.proto_listing.proofs.Common.{imports_in, wanted_of}
-use Rattle.proto_listing.specs.declared.wanted.Wanted.{Wanted}
-use Rattle.proto_names.proofs.FileLists.{strings_at}
+use Rattle.proto_names_outline.proofs.Common.{imports_in, wanted_of}
+use Rattle.proto_names_outline.specs.declared.wanted.Wanted.{Wanted}
+use Rattle.proto_names_update.proofs.FileLists.{strings_at}
 use Rattle.proto_lint.specs.ImportTables.{public_targets}
 use Rattle.proto_lint.proofs.imports.public_of.Goals as goal
 

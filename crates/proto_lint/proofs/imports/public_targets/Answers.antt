@@ -1,7 +1,7 @@
 use Rattle.std.proofs.Common.{◌++◌, ℕ, List, Option, false, map, take, sym, ◌∙◌, ap, option_to_list}
 use Rattle.proto_text.specs.Texts.{word_at}
-use Rattle.proto_listing.specs.Listing.{wanted_of}
-use Rattle.proto_listing.specs.declared.wanted.Wanted.{Wanted}
+use Rattle.proto_names_outline.specs.Listing.{wanted_of}
+use Rattle.proto_names_outline.specs.declared.wanted.Wanted.{Wanted}
 use Rattle.proto_lint.specs.ImportTables.{public_targets}
 use Rattle.proto_lint.proofs.PublicImports.{targets_more}
 use Rattle.proto_lint.proofs.imports.public_targets.Goals as goal

@@ -1,7 +1,7 @@
 use Rattle.std.proofs.Common.{◌≡◌, ℕ, List, map, take}
 use Rattle.proto_text.specs.Texts.{word_at}
-use Rattle.proto_listing.specs.Listing.{wanted_of}
-use Rattle.proto_imports.specs.ImportSteps.{IsFileIndex}
+use Rattle.proto_names_outline.specs.Listing.{wanted_of}
+use Rattle.proto_names_imports.specs.ImportSteps.{IsFileIndex}
 use Rattle.proto_lint.specs.ImportTables.{public_targets}
 use Rattle.proto_lint.proofs.imports.public_targets.Given as goal
 

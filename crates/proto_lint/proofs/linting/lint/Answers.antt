@@ -1,7 +1,7 @@
 use Rattle.std.proofs.Common.{List, map, subst, sym, ap, ◌∙◌}
 use Rattle.proto_files.proofs.Common.{FileOf, AreRead}
-use Rattle.proto_findings.proofs.Common.{FindingOf, IsListingOf, finding_of}
-use Rattle.proto_rules.specs.declared.rule_set.RuleSet.{RuleSet}
+use Rattle.proto_lint_names.proofs.Common.{FindingOf, IsListingOf, finding_of}
+use Rattle.proto_lint_rules.specs.declared.rule_set.RuleSet.{RuleSet}
 use Rattle.proto_lint.specs.Findings.{findings}
 use Rattle.proto_lint.proofs.linting.lint.Goals as goal
 

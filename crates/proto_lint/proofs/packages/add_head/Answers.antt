@@ -1,7 +1,7 @@
 use Rattle.std.proofs.Common.{◌≡◌, ◌++◌, List, map, subst}
-use Rattle.proto_findings.proofs.Common.{Found, found_of}
-use Rattle.proto_rules.specs.declared.rule.Rule.TheVariants as rule
-use Rattle.proto_faults.proofs.Turns.{then_added}
+use Rattle.proto_lint_names.proofs.Common.{Found, found_of}
+use Rattle.proto_lint_rules.specs.declared.rule.Rule.TheVariants as rule
+use Rattle.proto_base.proofs.Turns.{then_added}
 use Rattle.proto_lint.specs.Packages.{Head, file_name, found_unless, has_directory_like_package, has_directory_of_package, has_lower_snake_file, has_lower_snake_package, has_package, has_package_of_directory, has_version, head_finds, package_unless}
 use Rattle.proto_lint.proofs.packages.add_head.Goals as goal
 

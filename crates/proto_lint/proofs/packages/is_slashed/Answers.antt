@@ -1,5 +1,5 @@
 use Rattle.std.proofs.Common.{◌≡◌, ℕ, get_or, sym, ◌∙◌, ap, subst, inl, inr, arith, ◌==◌, if◌then◌else◌}
-use Rattle.proto_faults.proofs.Common.{cases_lt, get_or-map, length-map, same_from_word}
+use Rattle.proto_base.proofs.Common.{cases_lt, get_or-map, length-map, same_from_word}
 use Rattle.proto_lint.proofs.HeadLists.{differs, same_lists}
 use Rattle.proto_lint.specs.Packages.{slashed}
 use Rattle.proto_lint.proofs.packages.is_slashed.Goals as goal

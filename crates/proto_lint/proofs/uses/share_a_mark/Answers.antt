@@ -1,6 +1,6 @@
 use Rattle.std.proofs.Common.{◌&&◌, false, get_or, refl, sym, ◌∙◌, subst, inl, inr, arith, true≢false}
 use Rattle.std.proofs.lemmas.Bool.{and_from, and_parts, both_ways, cases_eq}
-use Rattle.proto_imports.proofs.Common.{IsMarked, marked_within}
+use Rattle.proto_names_imports.proofs.Common.{IsMarked, marked_within}
 use Rattle.proto_lint.proofs.uses.share_a_mark.Goals as goal
 
 pub returns-then-is_shared : goal.returns-then-is_shared

@@ -1,5 +1,5 @@
 use Rattle.std.proofs.Common.{ℕ, ◌<◌}
-use Rattle.proto_imports.specs.Walks.{IsMarked}
+use Rattle.proto_names_imports.specs.Walks.{IsMarked}
 use Rattle.proto_lint.proofs.uses.share_a_mark.Given as goal
 
 abbrev pub invariant-loop-file : goal.invariant-loop-file

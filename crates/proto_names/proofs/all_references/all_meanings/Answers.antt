@@ -1,9 +1,9 @@
 use Rattle.std.proofs.Common.{◌<◌, ℕ, List, [], ◌∷◌, ◌++◌, length, get_or, map, sym, ◌∙◌, ap, subst, arith, is_ok, length-append}
-use Rattle.proto_faults.proofs.Common.{cond-true, get_or-map, length-map, map-append, err_from_is_err_and}
+use Rattle.proto_base.proofs.Common.{cond-true, get_or-map, length-map, map-append, err_from_is_err_and}
 use Rattle.proto_names.specs.Common.{AreFileMeant, Meant}
 use Rattle.proto_files.specs.FilesRead.{read_at}
-use Rattle.proto_imports.proofs.Common.{IsListing, pushed}
-use Rattle.proto_listing.specs.declared.listing.Listing.{Listing}
+use Rattle.proto_names_imports.proofs.Common.{IsListing, pushed}
+use Rattle.proto_names_outline.specs.declared.listing.Listing.{Listing}
 use Rattle.proto_names.proofs.FileMeanings.{linked_at}
 use Rattle.proto_names.proofs.LeastFlaws.{all_clean, least_error}
 use Rattle.proto_names.proofs.all_references.all_meanings.Goals as goal

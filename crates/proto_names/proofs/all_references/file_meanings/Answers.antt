@@ -4,9 +4,9 @@ use Rattle.proto_text.proofs.Common.{one_token_list, word_at, Lexeme, lexeme_at}
 use Rattle.proto_files.specs.GivenFiles.{file_at}
 use Rattle.proto_names.specs.FileReferences.{declared_names}
 use Rattle.proto_tree.specs.References.{dotted}
-use Rattle.proto_meaning.specs.Joined.{ArePlain}
-use Rattle.proto_imports.specs.Links.{names_of_files}
-use Rattle.proto_listing.specs.declared.listing.Use.{Use}
+use Rattle.proto_names_rules.specs.Joined.{ArePlain}
+use Rattle.proto_names_imports.specs.Links.{names_of_files}
+use Rattle.proto_names_outline.specs.declared.listing.Use.{Use}
 use Rattle.proto_names.proofs.FileMeanings.{words_plain, listed_meant, listed_error}
 use Rattle.proto_names.proofs.all_references.file_meanings.Goals as goal
 

@@ -1,5 +1,5 @@
 use Rattle.std.proofs.Common.{◌≡◌, [], ◌∷◌, ◌++◌, map, replicate, ◌∙◌, ap, arith}
-use Rattle.proto_faults.proofs.Common.{map_push, replicate_more, IfOk-from_err}
+use Rattle.proto_base.proofs.Common.{map_push, replicate_more, IfOk-from_err}
 use Rattle.proto_names.proofs.backlinks.empty_lists.Goals as goal
 
 pub loop-preserved : goal.loop-preserved

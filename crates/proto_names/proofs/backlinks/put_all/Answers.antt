@@ -1,5 +1,5 @@
 use Rattle.std.proofs.Common.{[], ◌++◌, get_or, length, map, refl, ◌∙◌, ap, arith, length-set, take_all}
-use Rattle.proto_faults.proofs.Common.{length-map, IfOk-from_err}
+use Rattle.proto_base.proofs.Common.{length-map, IfOk-from_err}
 use Rattle.proto_names.specs.Common.{meant_in_file, references_to, Meant}
 use Rattle.proto_names.proofs.MeantBy.{more_put}
 use Rattle.proto_names.proofs.backlinks.put_all.Goals as goal

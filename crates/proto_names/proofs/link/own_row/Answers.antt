@@ -1,6 +1,6 @@
 use Rattle.std.proofs.Common.{None, Some, true, false, if◌then◌else◌, option_map, slice_get, sym, ◌∙◌, ap, option_and_then}
-use Rattle.proto_meaning.specs.Linked.{is_package}
-use Rattle.proto_table.specs.declared.table.Row.{Row}
+use Rattle.proto_names_rules.specs.Linked.{is_package}
+use Rattle.proto_names_table.specs.declared.table.Row.{Row}
 use Rattle.proto_names.specs.Linking.{declared_row}
 use Rattle.proto_names.proofs.Linking.{from_declared, unless_package}
 use Rattle.proto_names.proofs.link.own_row.Goals as goal

@@ -1,6 +1,6 @@
 use Rattle.std.proofs.Common.{◌∙◌, ap}
 use Rattle.std.proofs.lemmas.Option.{none-some}
-use Rattle.proto_table.specs.Search.{is_seen}
+use Rattle.proto_names_table.specs.Search.{is_seen}
 use Rattle.proto_names.proofs.Linking.{shows_none, shows_row}
 use Rattle.proto_names.proofs.link.shows.Goals as goal
 

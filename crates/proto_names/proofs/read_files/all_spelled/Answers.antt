@@ -1,14 +1,14 @@
 use Rattle.std.proofs.Common.{◌≡◌, ℕ, ◌≤◌, ◌<◌, List, length, get_or, map, Some, sym, subst, arith}
 use Rattle.proto_text.specs.Texts.{word_at}
-use Rattle.proto_listing.proofs.Common.{items_in, last_token, needs, package_first, read, whole}
-use Rattle.proto_meaning.specs.Grown.{at}
-use Rattle.proto_table.proofs.Common.{AreListed, named_as, AreSpelled, named_in}
+use Rattle.proto_names_outline.proofs.Common.{items_in, last_token, needs, package_first, read, whole}
+use Rattle.proto_names_rules.specs.Grown.{at}
+use Rattle.proto_names_table.proofs.Common.{AreListed, named_as, AreSpelled, named_in}
 use Rattle.proto_files.proofs.Common.{ReadOf, AreRead, read_at, each_pushed, AreWordsAt}
-use Rattle.proto_imports.specs.Links.{IsListing, text_of}
-use Rattle.proto_listing.specs.declared.listing.Listed.{Listed}
-use Rattle.proto_listing.specs.declared.listing.Listing.{Listing}
+use Rattle.proto_names_imports.specs.Links.{IsListing, text_of}
+use Rattle.proto_names_outline.specs.declared.listing.Listed.{Listed}
+use Rattle.proto_names_outline.specs.declared.listing.Listing.{Listing}
 use Rattle.proto_names.proofs.EachFile.{all_pushed, named_files}
-use Rattle.proto_names.proofs.FileLists.{listed_at, named_at}
+use Rattle.proto_names_update.proofs.FileLists.{listed_at, named_at}
 use Rattle.proto_names.proofs.read_files.all_spelled.Goals as goal
 
 pub spelled_names-requires-clause-ordered : goal.spelled_names-requires-clause-ordered

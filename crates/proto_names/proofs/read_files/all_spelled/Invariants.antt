@@ -1,9 +1,9 @@
 use Rattle.std.proofs.Common.{◌≡◌, List, length, map, All}
-use Rattle.proto_listing.proofs.Common.{items_in, package_first}
-use Rattle.proto_meaning.specs.Grown.{at}
-use Rattle.proto_table.proofs.Common.{named_as, AreSpelled, named_in}
+use Rattle.proto_names_outline.proofs.Common.{items_in, package_first}
+use Rattle.proto_names_rules.specs.Grown.{at}
+use Rattle.proto_names_table.proofs.Common.{named_as, AreSpelled, named_in}
 use Rattle.proto_files.specs.FilesRead.{ReadOf, AreRead, read_at, Each}
-use Rattle.proto_imports.specs.Links.{text_of}
+use Rattle.proto_names_imports.specs.Links.{text_of}
 use Rattle.proto_names.proofs.read_files.all_spelled.Given as goal
 
 abbrev pub invariant-loop-file : goal.invariant-loop-file

@@ -1,12 +1,12 @@
 use Rattle.std.proofs.Common.{◌≡◌, List, length, map, sym, subst, arith, All}
 use Rattle.proto_text.proofs.Common.{IsString, word_at}
 use Rattle.proto_tree.specs.File.{tree_of_file}
-use Rattle.proto_listing.specs.FromTree.{imports_in}
-use Rattle.proto_imports.proofs.Common.{asked_by, TokensAreRising, asked_as, text_of, AreWritten}
+use Rattle.proto_names_outline.specs.FromTree.{imports_in}
+use Rattle.proto_names_imports.proofs.Common.{asked_by, TokensAreRising, asked_as, text_of, AreWritten}
 use Rattle.proto_files.proofs.Common.{ReadOf, read_at, each_pushed, AreWordsAt}
-use Rattle.proto_listing.specs.declared.wanted.Wanted.{Wanted}
+use Rattle.proto_names_outline.specs.declared.wanted.Wanted.{Wanted}
 use Rattle.proto_names.proofs.EachFile.{all_pushed, asked_files}
-use Rattle.proto_names.proofs.FileLists.{asked_at, rising_at, strings_at}
+use Rattle.proto_names_update.proofs.FileLists.{asked_at, rising_at, strings_at}
 use Rattle.proto_names.proofs.read_files.all_written.Goals as goal
 
 pub written_imports-requires : goal.written_imports-requires

@@ -1,6 +1,6 @@
 use Rattle.std.proofs.Common.{◌≡◌, List, length, map, All}
-use Rattle.proto_listing.specs.FromTree.{imports_in}
-use Rattle.proto_imports.proofs.Common.{asked_by, TokensAreRising, asked_as, text_of}
+use Rattle.proto_names_outline.specs.FromTree.{imports_in}
+use Rattle.proto_names_imports.proofs.Common.{asked_by, TokensAreRising, asked_as, text_of}
 use Rattle.proto_files.specs.FilesRead.{ReadOf, AreRead, read_at, Each}
 use Rattle.proto_names.proofs.read_files.all_written.Given as goal
 

@@ -1,8 +1,8 @@
 use Rattle.std.proofs.Common.{◌≡◌, List, length, arith}
 use Rattle.proto_tree.specs.File.{tree_of_file}
 use Rattle.proto_files.proofs.Common.{ReadOf, read_at, each_pushed}
-use Rattle.proto_imports.specs.Links.{IsListing}
-use Rattle.proto_names.proofs.FileLists.{listing_at}
+use Rattle.proto_names_imports.specs.Links.{IsListing}
+use Rattle.proto_names_update.proofs.FileLists.{listing_at}
 use Rattle.proto_names.proofs.read_files.listings.Goals as goal
 
 pub loop-file-preserved : goal.loop-file-preserved

@@ -1,6 +1,6 @@
 use Rattle.std.proofs.Common.{◌≡◌, List, length}
 use Rattle.proto_files.specs.FilesRead.{ReadOf, AreRead, read_at, Each}
-use Rattle.proto_imports.specs.Links.{IsListing}
+use Rattle.proto_names_imports.specs.Links.{IsListing}
 use Rattle.proto_names.proofs.read_files.listings.Given as goal
 
 abbrev pub invariant-loop-file : goal.invariant-loop-file

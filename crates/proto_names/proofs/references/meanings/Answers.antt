@@ -1,9 +1,9 @@
 use Rattle.std.proofs.Common.{◌≡◌, ◌≤◌, ◌+◌, take, ◌∷◌, ◌++◌, [], length, get_or, map, option_map, refl, sym, ◌∙◌, ap, subst, is_ok, take_all}
 use Rattle.std.proofs.lemmas.Bool.{cond-true}
 use Rattle.proto_text.specs.Texts.{word_at}
-use Rattle.proto_listing.specs.Listing.{needs}
-use Rattle.proto_table.specs.Filling.{number_above}
-use Rattle.proto_table.specs.Tables.{names_of}
+use Rattle.proto_names_outline.specs.Listing.{needs}
+use Rattle.proto_names_table.specs.Filling.{number_above}
+use Rattle.proto_names_table.specs.Tables.{names_of}
 use Rattle.proto_names.specs.Referring.{first_token_of_use, reference_by, row_flaw, word_key, AreMeant}
 use Rattle.proto_names.proofs.Referring.{asked_in, row_flawed, row_faultless, meant_step, first_bad}
 use Rattle.proto_names.proofs.references.meanings.Goals.{in-Outermost, in-Below, After-row_meant}

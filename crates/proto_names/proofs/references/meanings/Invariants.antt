@@ -1,6 +1,6 @@
 use Rattle.std.proofs.Common.{ℕ, List, map, take}
 use Rattle.proto_text.specs.Texts.{word_at}
-use Rattle.proto_meaning.specs.Names.{Workspace}
+use Rattle.proto_names_rules.specs.Names.{Workspace}
 use Rattle.proto_names.specs.Referring.{first_token_of_use, reference_by, AreMeant, IsReadBy}
 use Rattle.proto_names.proofs.references.meanings.Given as goal
 

@@ -1,8 +1,8 @@
 use Rattle.std.proofs.Common.{[], get_or, map, option_map, is_some, sym, ◌∙◌, ap, subst}
 use Rattle.std.proofs.lemmas.Simd.{map-map}
 use Rattle.proto_text.specs.Texts.{word_at}
-use Rattle.proto_meaning.specs.Joined.{ArePlain}
-use Rattle.proto_table.specs.Tables.{names_of}
+use Rattle.proto_names_rules.specs.Joined.{ArePlain}
+use Rattle.proto_names_table.specs.Tables.{names_of}
 use Rattle.proto_names.proofs.Referring.{same_words}
 use Rattle.proto_names.proofs.references.row_meant.Goals as goal
 use Rattle.proto_names.proofs.references.row_meant.Goals.{in-Some, in-None}

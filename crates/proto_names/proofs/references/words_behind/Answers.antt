@@ -1,5 +1,5 @@
 use Rattle.std.proofs.Common.{ℕ, [], ◌∷◌, ◌++◌, map, take, sym, ◌∙◌, ap, take_all}
-use Rattle.proto_faults.proofs.Common.{map_more, map_push, IfOk-from_err}
+use Rattle.proto_base.proofs.Common.{map_more, map_push, IfOk-from_err}
 use Rattle.proto_text.specs.Texts.{word_at}
 use Rattle.proto_tree.specs.declared.tree.Behind.{Behind}
 use Rattle.proto_names.proofs.references.words_behind.Goals as goal

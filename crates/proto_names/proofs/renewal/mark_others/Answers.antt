@@ -1,6 +1,6 @@
 use Rattle.std.proofs.Common.{Bool, List, length, map, ◌∙◌, ap, subst, All, OnOk}
-use Rattle.proto_faults.proofs.Common.{Vec}
-use Rattle.proto_kept_references.specs.Sight.{IsSightMarked}
+use Rattle.proto_base.proofs.Common.{Vec}
+use Rattle.proto_names_affected.specs.Sight.{IsSightMarked}
 use Rattle.proto_names.proofs.renewal.mark_others.Goals as goal
 
 pub mark_by_sight-requires-clause-before : goal.mark_by_sight-requires-clause-before

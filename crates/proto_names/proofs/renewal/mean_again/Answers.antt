@@ -1,7 +1,7 @@
 use Rattle.std.proofs.Common.{◌≡◌, ◌≢◌, ◌<◌, ◌+◌, ℕ, true, false, List, [], length, get_or, map, sym, ◌∙◌, ap, subst, arith, below_more}
-use Rattle.proto_faults.proofs.Common.{Vec, both_ways, length-map}
-use Rattle.proto_kept_lists.specs.Undone.{AreWithin, undone}
-use Rattle.proto_kept_lists.specs.declared.changes.Change.{Change}
+use Rattle.proto_base.proofs.Common.{Vec, both_ways, length-map}
+use Rattle.proto_base.specs.Undone.{AreWithin, undone}
+use Rattle.proto_base.specs.declared.changes.Change.{Change}
 use Rattle.proto_names.specs.Common.{AreFileMeant, Meant}
 use Rattle.proto_names.specs.Renewal.{AreMeantBelow, AreOfMarked}
 use Rattle.proto_names.proofs.renewal.mean_again.Goals as goal

@@ -1,7 +1,7 @@
 use Rattle.std.proofs.Common.{◌≡◌, ℕ, ◌<◌, true, List, [], length, get_or, map, false}
 use Rattle.proto_files.specs.FilesRead.{AreRead, ReadOf}
-use Rattle.proto_kept.specs.Marked.{IsUnmarked}
-use Rattle.proto_kept_lists.specs.Undone.{AreWithin, undone}
+use Rattle.proto_names_rules.specs.Marked.{IsUnmarked}
+use Rattle.proto_base.specs.Undone.{AreWithin, undone}
 use Rattle.proto_names.specs.FileReferences.{AreFileMeant}
 use Rattle.proto_names.specs.Renewal.{AreMeantBelow, AreOfMarked}
 use Rattle.proto_names.proofs.renewal.mean_again.Given as goal

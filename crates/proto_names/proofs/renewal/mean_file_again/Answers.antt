@@ -2,7 +2,7 @@ use Rattle.std.proofs.Common.{List, length, refl, sym, subst, arith}
 use Rattle.proto_tree.specs.File.{tree_of_file}
 use Rattle.proto_files.specs.FilesRead.{read_at}
 use Rattle.proto_names.specs.Common.{AreFileMeant, Meant}
-use Rattle.proto_names.proofs.FileLists.{listing_at}
+use Rattle.proto_names_update.proofs.FileLists.{listing_at}
 use Rattle.proto_names.proofs.RenewedLists.{below_more, linked_by, marked_more, others_there, own_there, rows_at, rows_listed, undone_same, within_more}
 use Rattle.proto_names.proofs.renewal.mean_file_again.Goals as goal
 

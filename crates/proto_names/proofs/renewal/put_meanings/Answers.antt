@@ -1,6 +1,6 @@
 use Rattle.std.proofs.Common.{[], ◌∷◌, ◌++◌, List, get_or, ◌∙◌, ap, sym, is_ok, if◌then◌else◌}
 use Rattle.std.specs.Global.{Vec}
-use Rattle.proto_kept_lists.specs.declared.changes.Change.{Change}
+use Rattle.proto_base.specs.declared.changes.Change.{Change}
 use Rattle.proto_names.specs.Common.{Meant}
 use Rattle.proto_names.proofs.renewal.put_meanings.Goals as goal
 

@@ -1,11 +1,11 @@
 use Rattle.std.proofs.Common.{ℕ, ◌<◌, Bool, false, List, [], length, get_or, map, take, sym, ◌∙◌, ap, subst, arith, All}
-use Rattle.proto_faults.proofs.Common.{Vec, length-map}
-use Rattle.proto_kept_lists.specs.Undone.{undone}
-use Rattle.proto_kept_lists.specs.declared.changes.Change.{Change}
-use Rattle.proto_kept_references.specs.ChangedFiles.{AreChangesMarked, outer_rows_of}
-use Rattle.proto_kept_references.specs.Renewed.{AreReferencesOf}
-use Rattle.proto_kept_references.specs.Sight.{IsSightMarked}
-use Rattle.proto_kept_references.specs.declared.outer_rows.KindRow.{KindRow}
+use Rattle.proto_base.proofs.Common.{Vec, length-map}
+use Rattle.proto_base.specs.Undone.{undone}
+use Rattle.proto_base.specs.declared.changes.Change.{Change}
+use Rattle.proto_names_affected.specs.ChangedFiles.{AreChangesMarked, outer_rows_of}
+use Rattle.proto_names_affected.specs.Renewed.{AreReferencesOf}
+use Rattle.proto_names_affected.specs.Sight.{IsSightMarked}
+use Rattle.proto_names_affected.specs.declared.outer_rows.KindRow.{KindRow}
 use Rattle.proto_names.proofs.MarksMore.{changes_stay_marked}
 use Rattle.proto_names.proofs.GrownLists.{cut_grown, not_less, paired_now}
 use Rattle.proto_names.proofs.OuterRows.{outer_count, outer_within}

@@ -1,14 +1,14 @@
 use Rattle.std.proofs.Common.{◌≡◌, ℕ, Bool, List, map, sym, ◌∙◌, ap, subst, IfSome}
 use Rattle.std.proofs.lemmas.Option.{IfSome_then}
 use Rattle.std.proofs.lemmas.Result.{IfOk-weaker}
-use Rattle.proto_faults.proofs.Common.{Vec}
+use Rattle.proto_base.proofs.Common.{Vec}
 use Rattle.proto_files.specs.FilesRead.{AreRead, ReadOf}
 use Rattle.proto_names.proofs.PartsBefore.{was_sight}
 use Rattle.proto_names.specs.Following.{TellWhatToLook}
 use Rattle.proto_names.specs.LinkOfFiles.{IsLinkOf}
 use Rattle.proto_names.specs.Renewal.{link_of_parts}
 use Rattle.proto_names.specs.Sight.{AreLinkImports, IsSightOf, StayBut, undone_seen}
-use Rattle.proto_relink.specs.Relinked.{WasLink}
+use Rattle.proto_names_update.specs.Relinked.{WasLink}
 use Rattle.proto_names.proofs.renewal.renew_parts.Goals as goal
 
 pub renew_imports-requires-clause-was : goal.renew_imports-requires-clause-was

@@ -1,5 +1,5 @@
 use Rattle.std.proofs.Common.{◌≡◌, ◌+◌, ◌<◌, Bool, ℕ, [], length, get_or, map, sym, ◌∙◌, ap, subst, arith, All}
-use Rattle.proto_faults.proofs.Common.{All-push, Vec, get_or-map}
+use Rattle.proto_base.proofs.Common.{All-push, Vec, get_or-map}
 use Rattle.proto_names.proofs.OtherMarks.{FirstStay, all_stay, one_same, one_told, same_marks}
 use Rattle.proto_names.proofs.renewed_imports.other_marks.Goals.{then-ne+in_ok-push, else-ne}
 use Rattle.proto_names.proofs.renewed_imports.other_marks.Goals as goal

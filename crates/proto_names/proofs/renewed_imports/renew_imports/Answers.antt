@@ -1,12 +1,12 @@
 use Rattle.std.proofs.Common.{◌≡◌, ◌<◌, ℕ, Bool, List, length, map, sym, ◌∙◌, ap, subst, arith, All, IfSome}
-use Rattle.proto_faults.proofs.Common.{Vec}
+use Rattle.proto_base.proofs.Common.{Vec}
 use Rattle.proto_files.specs.FilesRead.{AreRead, ReadOf}
 use Rattle.proto_files.specs.GivenFiles.{FileOf}
-use Rattle.proto_imports.specs.Laws.{KeepImports}
-use Rattle.proto_imports.specs.declared.import.FileImport.{FileImport}
-use Rattle.proto_kept_names.specs.KeptImports.{AreImportsAt, WereImports}
-use Rattle.proto_imports.proofs.Common.{all_imports}
-use Rattle.proto_meaning.proofs.Common.{IsAcyclic}
+use Rattle.proto_names_imports.specs.Laws.{KeepImports}
+use Rattle.proto_names_imports.specs.declared.import.FileImport.{FileImport}
+use Rattle.proto_names_update.specs.KeptImports.{AreImportsAt, WereImports}
+use Rattle.proto_names_imports.proofs.Common.{all_imports}
+use Rattle.proto_names_rules.proofs.Common.{IsAcyclic}
 use Rattle.proto_names.specs.Sight.{IsSightOf}
 use Rattle.proto_names.proofs.RenewedImports.{imports_are, imports_count, imports_stay, now_count, now_within, sight_is, sight_stays}
 use Rattle.proto_names.proofs.renewed_imports.renew_imports.Goals as goal

@@ -1,6 +1,6 @@
 use Rattle.std.proofs.Common.{◌≢◌, ℕ, ◌+◌, ◌<◌, [], length, get_or, map, sym, ◌∙◌, ap}
 use Rattle.proto_text.specs.Texts.{word_at}
-use Rattle.proto_table.proofs.Common.{under_all, names_of, look, if_none}
+use Rattle.proto_names_table.proofs.Common.{under_all, names_of, look, if_none}
 use Rattle.proto_names.proofs.InScope.{drop_behind, behind_step}
 use Rattle.proto_names.proofs.resolve.follow.Goals as goal
 

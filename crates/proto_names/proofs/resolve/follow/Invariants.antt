@@ -1,6 +1,6 @@
 use Rattle.std.proofs.Common.{◌≡◌, ◌<◌, [], length, get_or, drop, map}
 use Rattle.proto_text.specs.Texts.{word_at}
-use Rattle.proto_table.proofs.Common.{names_of, under_all}
+use Rattle.proto_names_table.proofs.Common.{names_of, under_all}
 use Rattle.proto_names.proofs.resolve.follow.Given as goal
 
 abbrev pub invariant-loop-behind : goal.invariant-loop-behind

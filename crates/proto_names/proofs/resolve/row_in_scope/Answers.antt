@@ -1,8 +1,8 @@
 use Rattle.std.proofs.Common.{◌∷◌, [], get_or, option_map, is_some, None, sym, ◌∙◌, ap, subst, arith, string_bytes}
-use Rattle.proto_faults.proofs.Common.{length-map, MatchOption-from_none, map-map}
+use Rattle.proto_base.proofs.Common.{length-map, MatchOption-from_none, map-map}
 use Rattle.proto_text.specs.Texts.{word_at}
-use Rattle.proto_meaning.specs.Joined.{IsPlain, ArePlain}
-use Rattle.proto_table.proofs.Common.{IsTypeAt, under_all, names_of, absolute_is, absolute_none}
+use Rattle.proto_names_rules.specs.Joined.{IsPlain, ArePlain}
+use Rattle.proto_names_table.proofs.Common.{IsTypeAt, under_all, names_of, absolute_is, absolute_none}
 use Rattle.proto_names.proofs.InScope.{empty_behind, type_within, words_by, scoped_is, scoped_none}
 use Rattle.proto_names.proofs.Referring.{same_words}
 use Rattle.proto_names.proofs.resolve.row_in_scope.Goals as goal

@@ -1,6 +1,6 @@
 use Rattle.std.proofs.Common.{◌≡◌, Bool, true, false, ◌&&◌, refl, sym, ◌∙◌, ap}
-use Rattle.proto_meaning.specs.Names.{is_type}
-use Rattle.proto_table.proofs.Common.{is_seen, passes, other_fails}
+use Rattle.proto_names_rules.specs.Names.{is_type}
+use Rattle.proto_names_table.proofs.Common.{is_seen, passes, other_fails}
 use Rattle.proto_names.proofs.resolve.visible_type.Goals as goal
 use Rattle.proto_names.proofs.resolve.visible_type.Goals.{else-is_type-via-then-is_type+else-is_seen, else-is_type-via-else-is_type}
 

@@ -1,5 +1,5 @@
 use Rattle.std.proofs.Common.{◌≡◌, ◌≤◌, ℕ, List, length, IsUtf8}
-use Rattle.proto_meaning.specs.Joined.{joined, ArePlain}
+use Rattle.proto_names_rules.specs.Joined.{joined, ArePlain}
 use Rattle.proto_names.proofs.Scopes.{IsInScope}
 use Rattle.proto_names.proofs.scope.scope_number.Given as goal
 

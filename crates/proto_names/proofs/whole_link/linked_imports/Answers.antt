@@ -1,9 +1,9 @@
 use Rattle.std.proofs.Common.{◌≡◌, ℕ, ◌<◌, List, length, map, sym, ◌∙◌, ap, subst, arith, All}
-use Rattle.proto_faults.proofs.Common.{length-map, IfOk-from_err}
-use Rattle.proto_meaning.specs.Faults.{AskedImport, Fault, ImportFault, imports_of}
-use Rattle.proto_faults.specs.declared.fault.SchemaFault.TheVariants.{NoMemory}
+use Rattle.proto_base.proofs.Common.{length-map, IfOk-from_err}
+use Rattle.proto_names_rules.specs.Faults.{AskedImport, Fault, ImportFault, imports_of}
+use Rattle.proto_base.specs.declared.fault.SchemaFault.TheVariants.{NoMemory}
 use Rattle.proto_files.specs.GivenFiles.{paths_of}
-use Rattle.proto_imports.proofs.Common.{TokensAreRising, IsImportError, all_asked, fault_of, all_wanted, text_of}
+use Rattle.proto_names_imports.proofs.Common.{TokensAreRising, IsImportError, all_asked, fault_of, all_wanted, text_of}
 use Rattle.proto_names.proofs.LinkErrors.{error_is, import_error, import_file, least_as_read}
 use Rattle.proto_names.proofs.whole_link.linked_imports.Goals as goal
 

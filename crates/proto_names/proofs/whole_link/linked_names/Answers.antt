@@ -1,7 +1,7 @@
 use Rattle.std.proofs.Common.{length, map, sym, ◌∙◌, ap, subst, arith, All}
-use Rattle.proto_faults.proofs.Common.{length-map, err_from_is_err_and}
-use Rattle.proto_table.proofs.Common.{IsNameError, AreSpelled, ClashFault, all_named}
-use Rattle.proto_table.specs.declared.filling.NameError.TheVariants.{Clash}
+use Rattle.proto_base.proofs.Common.{length-map, err_from_is_err_and}
+use Rattle.proto_names_table.proofs.Common.{IsNameError, AreSpelled, ClashFault, all_named}
+use Rattle.proto_names_table.specs.declared.filling.NameError.TheVariants.{Clash}
 use Rattle.proto_names.proofs.NameErrors.{clash_error, clash_within, no_name_fault}
 use Rattle.proto_names.proofs.TableNames.{spelled_of, names_of_table, rows_listed, rows_within}
 use Rattle.proto_names.proofs.whole_link.linked_names.Goals as goal

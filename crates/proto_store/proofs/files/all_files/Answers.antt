@@ -1,5 +1,5 @@
 use Rattle.std.proofs.Common.{◌≡◌, List, ℕ, ◌++◌, [], ◌∷◌, sym, ◌∙◌, subst, rules, map, Option, String, Global, string_bytes}
-use Rattle.proto_faults.proofs.Common.{Vec, files_of}
+use Rattle.proto_base.proofs.Common.{Vec, files_of}
 use Rattle.std.specs.Vec.Iter.{into_iter_items}
 use Rattle.proto_store.specs.Stores.{Held, HoldsBytes, HoldsFiles, IsListed, ListsPaths}
 use Rattle.proto_store.proofs.Loading.{Loads, empty_if_short, in_order, loads_all, loads_more, loads_none, next_is_listed}

@@ -1,5 +1,5 @@
 use Rattle.std.proofs.Common.{◌≡◌, ◌++◌, map, sym, ap, ◌∙◌, subst, append-nil, string_bytes, IsPermutation}
-use Rattle.proto_faults.proofs.Common.{IsPermutation-refl, paths_of}
+use Rattle.proto_base.proofs.Common.{IsPermutation-refl, paths_of}
 use Rattle.proto_store.specs.Memory.{files_in}
 use Rattle.proto_store.proofs.Entries.{entries_in_order, paths_of_keys}
 use Rattle.proto_store.proofs.memory.paths_in.Goals as goal

@@ -1,5 +1,5 @@
 use Rattle.std.proofs.Common.{◌≡◌, ◌∙◌, None, ap, rules}
-use Rattle.proto_faults.proofs.Common.{get_by_text, files_of}
+use Rattle.proto_base.proofs.Common.{get_by_text, files_of}
 use Rattle.proto_store.specs.Memory.{files_in}
 use Rattle.proto_store.proofs.Entries.{files_after_set, files_without}
 use Rattle.proto_store.proofs.memory.put_bytes.Goals as goal

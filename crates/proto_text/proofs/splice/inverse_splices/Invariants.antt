@@ -1,5 +1,5 @@
 use Rattle.std.proofs.Common.{◌≡◌, ◌≤◌, ◌++◌, drop, take}
-use Rattle.proto_faults.specs.Texts.{text_limit}
+use Rattle.proto_base.specs.Texts.{text_limit}
 use Rattle.proto_text.specs.Common.{inverse_from, AreShort, edits}
 use Rattle.proto_text.proofs.splice.inverse_splices.Given as goal
 

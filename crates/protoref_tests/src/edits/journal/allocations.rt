@@ -2,7 +2,7 @@
 //! In a run that refuses one allocation this test still passes, whichever it is.
 
 use super::calls::*;
-use proto_faults::NoMemory;
+use proto_base::NoMemory;
 use proto_journal::MemoryStore;
 use std::process::Abort;
 

@@ -2,7 +2,7 @@
 
 ghost use Rattle.std.specs.Prelude.{◌≡◌, ◌-◌, ◌^◌, ◌<◌};
 
-use proto_faults::NoMemory;
+use proto_base::NoMemory;
 use proto_journal::*;
 use std::alloc::Global;
 use std::process::Abort;

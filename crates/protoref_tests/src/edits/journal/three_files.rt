@@ -1,7 +1,7 @@
 //! A rename of three files: each store call of its commit fails in turn, and a recovery leads back.
 
 use super::calls::said_of;
-use proto_faults::NoMemory;
+use proto_base::NoMemory;
 use proto_journal::*;
 use std::alloc::Global;
 use std::process::Abort;

@@ -1,5 +1,5 @@
 use Rattle.std.proofs.Common.{subst, arith}
-use Rattle.proto_faults.proofs.Common.{length_push}
+use Rattle.proto_base.proofs.Common.{length_push}
 use Rattle.proto_desc.specs.Renewing.{IsPutAlone}
 use Rattle.proto_desc.proofs.MadePut.{one_more_put}
 use Rattle.proto_desc.proofs.descriptors.Descriptors.put.Goals as goal

@@ -1,10 +1,10 @@
 use Rattle.std.proofs.Common.{List, Bool, Option, option_map, IfSome, sym, subst, ◌∙◌}
 use Rattle.std.specs.Global.{Box}
-use Rattle.proto_faults.proofs.Common.{Vec}
+use Rattle.proto_base.proofs.Common.{Vec}
 use Rattle.proto_files.proofs.Common.{HasNoFault}
-use Rattle.proto_scenes.specs.Enums.{IsEnumTableOf}
-use Rattle.proto_spared_files.specs.Common.{AreEnumsMarked, HasNoMarkedExtends, kept_files_of}
-use Rattle.proto_spared_files.specs.declared.kept_file.KeptFile.{KeptFile}
+use Rattle.proto_resolved.specs.Enums.{IsEnumTableOf}
+use Rattle.proto_desc_affected.specs.Common.{AreEnumsMarked, HasNoMarkedExtends, kept_files_of}
+use Rattle.proto_desc_affected.specs.declared.kept_file.KeptFile.{KeptFile}
 use Rattle.proto_desc.specs.Checked.{CheckFaults}
 use Rattle.proto_desc.specs.Edited.{AreDescriptorsOf}
 use Rattle.proto_desc.specs.Renewing.{AreMade}

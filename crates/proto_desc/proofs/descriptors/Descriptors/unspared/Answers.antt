@@ -1,7 +1,7 @@
 use Rattle.std.proofs.Common.{Bor, Bool, IfOk, List, Option, option_map, subst}
 use Rattle.std.proofs.lemmas.Result.{IfOk-weaker}
-use Rattle.proto_spared_files.specs.Common.{AreOthersKept, AreOthersKeptAsTold, kept_files_of}
-use Rattle.proto_spared_files.specs.declared.kept_file.KeptFile.{KeptFile}
+use Rattle.proto_desc_affected.specs.Common.{AreOthersKept, AreOthersKeptAsTold, kept_files_of}
+use Rattle.proto_desc_affected.specs.declared.kept_file.KeptFile.{KeptFile}
 use Rattle.proto_desc.specs.Views.{files_kept}
 use Rattle.proto_desc.proofs.Renewed.{WasMade, kept_as_told}
 use Rattle.proto_desc.proofs.descriptors.Descriptors.unspared.Goals as goal

@@ -1,5 +1,5 @@
 use Rattle.std.proofs.Common.{length, map, refl, ap, arith, inl, inr}
-use Rattle.proto_entries.specs.Putting.{with_texts}
+use Rattle.proto_edit_entries.specs.Putting.{with_texts}
 use Rattle.proto_desc.specs.NewTexts.{read_text}
 use Rattle.proto_desc.specs.Whole.FileFaults.{of_check, of_link}
 use Rattle.proto_desc.proofs.Opened.{checking_error, linking_error, none_of_files}

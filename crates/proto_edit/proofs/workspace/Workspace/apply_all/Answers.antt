@@ -1,6 +1,6 @@
 use Rattle.std.proofs.Common.{◌≢◌, ◌+◌, List, map, take, sym, subst, refl, rules}
 use Rattle.proto_edit.specs.Common.{asked, Run}
-use Rattle.proto_entries.specs.declared.refusal.Refusal.TheVariants as refusal
+use Rattle.proto_edit_entries.specs.declared.refusal.Refusal.TheVariants as refusal
 use Rattle.proto_edit.proofs.Chains.{Answer, run_accepted, run_refused, run_next}
 use Rattle.proto_edit.proofs.workspace.Workspace.apply_all.Goals.{in-Ok, in-Err}
 use Rattle.proto_edit.proofs.workspace.Workspace.apply_all.Goals as goal

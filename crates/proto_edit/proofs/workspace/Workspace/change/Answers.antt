@@ -1,6 +1,6 @@
 use Rattle.std.proofs.Common.{ap, ap₂, map, subst, sym, ◌∙◌, IfOk}
 use Rattle.proto_edit.specs.Common.{asked, Asked, rename, delete_field, add_import, drop_import, AreChanges, IsAdmissible}
-use Rattle.proto_entries.specs.Entries.{change_of}
+use Rattle.proto_edit_entries.specs.Entries.{change_of}
 use Rattle.proto_edit.proofs.workspace.Workspace.change.Goals as goal
 
 pub returns-in-Rename-clause-ok : goal.returns-in-Rename-clause-ok

@@ -1,9 +1,9 @@
 use Rattle.std.proofs.Common.{List, map, sym, subst}
 use Rattle.std.proofs.lemmas.Result.{IfOk-weaker, IfErr-weaker}
 use Rattle.proto_files.proofs.Common.{HasNoFault, FileOf}
-use Rattle.proto_imports.specs.Links.{LinkFaults}
-use Rattle.proto_entries.specs.Entries.{change_of}
-use Rattle.proto_statement_edits.specs.Edits.{HasAdditionChanges, IsAdditionRefusal}
+use Rattle.proto_names_imports.specs.Links.{LinkFaults}
+use Rattle.proto_edit_entries.specs.Entries.{change_of}
+use Rattle.proto_edit_statements.specs.Edits.{HasAdditionChanges, IsAdditionRefusal}
 use Rattle.proto_edit.proofs.Refusals.{compiled_is_linked, addition_made, addition_refused}
 use Rattle.proto_edit.proofs.workspace.Workspace.changes_of_addition.Goals as goal
 

@@ -1,10 +1,10 @@
 use Rattle.std.proofs.Common.{List, map, sym, subst}
 use Rattle.std.proofs.lemmas.Result.{IfOk-weaker, IfErr-weaker}
 use Rattle.proto_files.proofs.Common.{HasNoFault, FileOf}
-use Rattle.proto_imports.specs.Links.{LinkFaults}
-use Rattle.proto_entries.specs.Entries.{change_of}
+use Rattle.proto_names_imports.specs.Links.{LinkFaults}
+use Rattle.proto_edit_entries.specs.Entries.{change_of}
 use Rattle.proto_desc.specs.Whole.{of_check}
-use Rattle.proto_statement_edits.specs.Edits.{HaveSmallNumbers, HasDeletionChanges, IsDeletionRefusal}
+use Rattle.proto_edit_statements.specs.Edits.{HaveSmallNumbers, HasDeletionChanges, IsDeletionRefusal}
 use Rattle.proto_edit.proofs.Refusals.{compiled_is_linked, deletion_made, deletion_refused}
 use Rattle.proto_edit.proofs.workspace.Workspace.changes_of_deletion.Goals as goal
 

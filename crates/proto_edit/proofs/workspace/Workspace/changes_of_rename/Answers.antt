@@ -1,9 +1,9 @@
 use Rattle.std.proofs.Common.{List, map, sym, subst}
 use Rattle.std.proofs.lemmas.Result.{IfOk-weaker, IfErr-weaker}
 use Rattle.proto_files.proofs.Common.{HasNoFault, FileOf}
-use Rattle.proto_imports.specs.Links.{LinkFaults}
-use Rattle.proto_entries.specs.Entries.{change_of}
-use Rattle.proto_rename.specs.Renames.{IsRenamed, IsRenameRefusal}
+use Rattle.proto_names_imports.specs.Links.{LinkFaults}
+use Rattle.proto_edit_entries.specs.Entries.{change_of}
+use Rattle.proto_edit_rename.specs.Renames.{IsRenamed, IsRenameRefusal}
 use Rattle.proto_edit.proofs.Refusals.{compiled_is_linked, rename_made, rename_refused}
 use Rattle.proto_edit.proofs.workspace.Workspace.changes_of_rename.Goals as goal
 

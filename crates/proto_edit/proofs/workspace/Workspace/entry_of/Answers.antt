@@ -1,6 +1,6 @@
 use Rattle.std.proofs.Common.{List, map, sym, subst}
 use Rattle.proto_edit.specs.Common.{asked, AreChanges, IsAdmissible}
-use Rattle.proto_entries.specs.Entries.{ChangeOf, change_of}
+use Rattle.proto_edit_entries.specs.Entries.{ChangeOf, change_of}
 use Rattle.proto_edit.proofs.EditSteps.{entry_is}
 use Rattle.proto_edit.proofs.workspace.Workspace.entry_of.Goals as goal
 

@@ -1,7 +1,7 @@
 use Rattle.std.proofs.Common.{ℕ, List, length, map, sym, ap, subst, arith}
 use Rattle.proto_files.proofs.Common.{fault_at, FileOf}
-use Rattle.proto_entries.proofs.Common.{AreChangedTexts, ArePut, IsPut, change_of}
-use Rattle.proto_entries.specs.declared.refusal.Refusal.TheVariants as refusal
+use Rattle.proto_edit_entries.proofs.Common.{AreChangedTexts, ArePut, IsPut, change_of}
+use Rattle.proto_edit_entries.specs.declared.refusal.Refusal.TheVariants as refusal
 use Rattle.proto_edit.specs.Common.{IsPutRefusal}
 use Rattle.proto_edit.proofs.Reopening.{few_places, none_put, texts_faulty, texts_made}
 use Rattle.proto_edit.proofs.workspace.Workspace.put.Goals.{In-Some}

@@ -1,7 +1,7 @@
 use Rattle.std.proofs.Common.{List, reverse, length, subst}
-use Rattle.proto_faults.proofs.Common.{YieldsList-from_rev_slice, YieldsList-so_far, YieldsList-turn, YieldsList-end}
+use Rattle.proto_base.proofs.Common.{YieldsList-from_rev_slice, YieldsList-so_far, YieldsList-turn, YieldsList-end}
 use Rattle.proto_edit.specs.Common.{IsUndoAllRefusal, Undone}
-use Rattle.proto_entries.specs.Entries.{ChangeOf}
+use Rattle.proto_edit_entries.specs.Entries.{ChangeOf}
 use Rattle.proto_edit.proofs.Chains.{undone_next, stuck_so, back_ok, back_err}
 use Rattle.proto_edit.proofs.workspace.Workspace.undo_all.Goals.{In-Err}
 use Rattle.proto_edit.proofs.workspace.Workspace.undo_all.Goals as goal

@@ -1,6 +1,6 @@
 use Rattle.std.proofs.Common.{◌+◌, ◌∙◌, map, sym, ap, subst}
 use Rattle.std.proofs.lemmas.Result.{on_ok_weaker}
-use Rattle.proto_entries.proofs.Common.{change_of, AreRising, inverted, rising_back}
+use Rattle.proto_edit_entries.proofs.Common.{change_of, AreRising, inverted, rising_back}
 use Rattle.proto_edit.proofs.Reopening.{count_back, undo_made, undo_not_made}
 use Rattle.proto_edit.proofs.workspace.Workspace.undo_counted.Goals as goal
 

@@ -1,7 +1,7 @@
 use Rattle.std.proofs.Common.{◌≢◌, List, sym, subst, rules}
 use Rattle.proto_edit.specs.Common.{asked, IsPutRefusal}
-use Rattle.proto_entries.proofs.Common.{AreRising, ChangeOf, IsPut}
-use Rattle.proto_entries.specs.declared.refusal.Refusal.TheVariants as refusal
+use Rattle.proto_edit_entries.proofs.Common.{AreRising, ChangeOf, IsPut}
+use Rattle.proto_edit_entries.specs.declared.refusal.Refusal.TheVariants as refusal
 use Rattle.proto_edit.proofs.Chains.{never_stale, step_made}
 use Rattle.proto_edit.proofs.workspace.Workspace.with_edit.Goals as goal
 

@@ -1,5 +1,5 @@
 use Rattle.std.proofs.Common.{◌∙◌, map, sym, ap, subst}
-use Rattle.proto_entries.proofs.Common.{change_of, AreRising, inverted, rising_back}
+use Rattle.proto_edit_entries.proofs.Common.{change_of, AreRising, inverted, rising_back}
 use Rattle.proto_edit.proofs.Reopening.{undo_taken, undo_not_taken}
 use Rattle.proto_edit.proofs.workspace.Workspace.without_entry.Goals as goal
 

@@ -1,5 +1,5 @@
 use Rattle.std.proofs.Common.{◌≡◌, ◌<◌, List, length, string_bytes, sym, ◌∙◌, ap, subst, arith, slice_set, ◌≤◌, ℕ, IsUtf8}
-use Rattle.proto_faults.proofs.Common.{map-set, text_limit}
+use Rattle.proto_base.proofs.Common.{map-set, text_limit}
 use Rattle.proto_text.specs.declared.lexer.Token.{Token}
 use Rattle.proto_tree.proofs.Common.{tree_of_file, Reads, Tree}
 use Rattle.proto_files.specs.Common.{ReadFile, FileOf, file_at, IsText, read_file, read_files}

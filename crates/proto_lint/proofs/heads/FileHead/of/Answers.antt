@@ -2,9 +2,9 @@ use Rattle.std.proofs.Common.{◌≡◌, List, map, ◌∙◌, ap, is_some}
 use Rattle.proto_text.proofs.Common.{word_at, Lexeme, lexeme_at}
 use Rattle.proto_tree.specs.File.{tree_of_file}
 use Rattle.proto_files.proofs.Common.{file_at, ReadOf}
-use Rattle.proto_meaning.specs.Tree.{package_of}
-use Rattle.proto_listing.specs.FromTree.{items_in}
-use Rattle.proto_parts.specs.Parts.{syntax_texts_in}
+use Rattle.proto_names_rules.specs.Tree.{package_of}
+use Rattle.proto_names_outline.specs.FromTree.{items_in}
+use Rattle.proto_ast.specs.Parts.{syntax_texts_in}
 use Rattle.proto_lint.proofs.HeadLists.{head_same, some_first}
 use Rattle.proto_lint.specs.Heads.{first_offset}
 use Rattle.proto_lint.proofs.heads.FileHead.of.Goals as goal

@@ -1,7 +1,7 @@
 use Rattle.std.proofs.Common.{◌≡◌, ◌<◌, ◌↔◌, ℕ, List, Option, Some, length, map, true, sym, ◌∙◌, ap, subst, arith, All}
 use Rattle.proto_files.proofs.Common.{paths_of, ReadOf}
-use Rattle.proto_meaning.specs.Faults.{file_with_path}
-use Rattle.proto_imports.proofs.Common.{link_imports, IsMarked}
+use Rattle.proto_names_rules.specs.Faults.{file_with_path}
+use Rattle.proto_names_imports.proofs.Common.{link_imports, IsMarked}
 use Rattle.proto_lint.proofs.Reached.{reach_walks, walk_reaches}
 use Rattle.proto_lint.proofs.UsedFinds.{place_within}
 use Rattle.proto_lint.specs.ImportTables.{ArePublic, LeadsToMarked}

@@ -1,10 +1,10 @@
 use Rattle.std.proofs.Common.{◌≡◌, ◌<◌, List, [], length, get_or, map, sym, ◌∙◌, subst, arith, All}
 use Rattle.std.proofs.lemmas.List.{get_or-map, length-map}
 use Rattle.proto_files.proofs.Common.{paths_of, ReadOf, read_at}
-use Rattle.proto_meaning.specs.Grown.{at}
-use Rattle.proto_listing.specs.FromTree.{imports_in}
-use Rattle.proto_imports.proofs.Common.{IsFileIndex, text_of}
-use Rattle.proto_table.proofs.Search.{pick}
+use Rattle.proto_names_rules.specs.Grown.{at}
+use Rattle.proto_names_outline.specs.FromTree.{imports_in}
+use Rattle.proto_names_imports.proofs.Common.{IsFileIndex, text_of}
+use Rattle.proto_names_table.proofs.Search.{pick}
 use Rattle.proto_lint.proofs.PublicImports.{are_public, targets_within}
 use Rattle.proto_lint.proofs.imports.Imports.new.Goals as goal
 

@@ -1,6 +1,6 @@
 use Rattle.std.proofs.Common.{ℕ, ◌++◌, List, map, ap, ◌∙◌, arith}
 use Rattle.proto_files.specs.GivenFiles.{file_at}
-use Rattle.proto_findings.proofs.Common.{found_in, Found, finding_of, found_of}
+use Rattle.proto_lint_names.proofs.Common.{found_in, Found, finding_of, found_of}
 use Rattle.proto_lint.specs.Findings.{findings}
 use Rattle.proto_lint.proofs.FileFindings.{findings_more}
 use Rattle.proto_lint.proofs.linting.Linter.findings.Goals as goal

@@ -1,6 +1,6 @@
 use Rattle.std.proofs.Common.{◌≡◌, ◌++◌, List, map, drop}
 use Rattle.proto_files.specs.FilesRead.{AreRead, ReadOf}
-use Rattle.proto_findings.specs.Views.{finding_of}
+use Rattle.proto_lint_names.specs.Views.{finding_of}
 use Rattle.proto_lint.specs.Findings.{findings, findings_from}
 use Rattle.proto_lint.proofs.linting.Linter.findings.Given as goal
 

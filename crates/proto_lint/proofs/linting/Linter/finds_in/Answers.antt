@@ -1,8 +1,8 @@
 use Rattle.std.proofs.Common.{ℕ, ap, map}
 use Rattle.proto_tree.specs.File.{tree_of_file}
 use Rattle.proto_files.proofs.Common.{paths_of, read_at}
-use Rattle.proto_imports.specs.Links.{names_of_files}
-use Rattle.proto_findings.proofs.Common.{reading_of, found_of}
+use Rattle.proto_names_imports.specs.Links.{names_of_files}
+use Rattle.proto_lint_names.proofs.Common.{reading_of, found_of}
 use Rattle.proto_lint.specs.Imports.{imports_finds}
 use Rattle.proto_lint.proofs.Linters.{finds_are, is_headed, moved, scope_is}
 use Rattle.proto_lint.proofs.linting.Linter.finds_in.Goals as goal

@@ -1,5 +1,5 @@
 use Rattle.std.proofs.Common.{◌<◌, length, map, ◌∙◌, ap, arith, AllPairs}
-use Rattle.proto_faults.proofs.Common.{length-map}
+use Rattle.proto_base.proofs.Common.{length-map}
 use Rattle.proto_names.specs.Common.{name_of_row}
 use Rattle.proto_names.proofs.Copies.{all_items, names_alike}
 use Rattle.proto_names.proofs.link.Link.copy.Goals as goal

@@ -1,11 +1,11 @@
 use Rattle.std.proofs.Common.{Bool, List, [], ℕ, ◌<◌, length, get_or, map, sym, ◌∙◌, ap, subst, ◌≡◌, arith, All}
-use Rattle.proto_faults.proofs.Common.{Vec, length-map, err_from_is_err_and}
+use Rattle.proto_base.proofs.Common.{Vec, length-map, err_from_is_err_and}
 use Rattle.proto_files.specs.FilesRead.{Each}
-use Rattle.proto_imports.specs.declared.import.FileImport.{FileImport}
-use Rattle.proto_listing.specs.declared.listing.Listing.{Listing}
+use Rattle.proto_names_imports.specs.declared.import.FileImport.{FileImport}
+use Rattle.proto_names_outline.specs.declared.listing.Listing.{Listing}
 use Rattle.proto_names.specs.Common.{AreFileMeant, AreNamesOf, LinkOf, all_meant, name_of_row, references_to, Meant}
-use Rattle.proto_imports.proofs.Common.{all_imports, AreListings, names_of_files, no_fault}
-use Rattle.proto_meaning.specs.Marks.{MarksSeen}
+use Rattle.proto_names_imports.proofs.Common.{all_imports, AreListings, names_of_files, no_fault}
+use Rattle.proto_names_rules.specs.Marks.{MarksSeen}
 use Rattle.proto_names.proofs.LinkMeanings.{all_tokens_rise, is_meant_in}
 use Rattle.proto_names.proofs.LinkParts.{files_between, is_link, marks_seen}
 use Rattle.proto_names.proofs.NamesOfRows.{declared_by}

@@ -1,17 +1,17 @@
 use Rattle.std.proofs.Common.{◌≡◌, ◌<◌, Bool, true, false, List, length, map, refl, sym, ◌∙◌, ap, subst, arith, inl, inr, All, AllPairs, IfSome}
-use Rattle.proto_faults.proofs.Common.{Vec, both_ways}
-use Rattle.proto_faults.specs.declared.fault.SchemaFault.{SchemaFault}
-use Rattle.proto_faults.specs.declared.fault.SchemaFault.TheVariants.{NoMemory}
+use Rattle.proto_base.proofs.Common.{Vec, both_ways}
+use Rattle.proto_base.specs.declared.fault.SchemaFault.{SchemaFault}
+use Rattle.proto_base.specs.declared.fault.SchemaFault.TheVariants.{NoMemory}
 use Rattle.proto_names.specs.declared.whole_link.Renewal.{Renewal}
 use Rattle.proto_names.specs.declared.whole_link.Renewal.TheVariants.{Done, GivenUp, Refused}
 use Rattle.proto_files.proofs.Common.{AreRead, HasNoFault, ReadOf}
-use Rattle.proto_imports.proofs.Common.{LinkFaults}
-use Rattle.proto_imports.specs.LinkErrors.{IsLinkError}
+use Rattle.proto_names_imports.proofs.Common.{LinkFaults}
+use Rattle.proto_names_imports.specs.LinkErrors.{IsLinkError}
 use Rattle.proto_names.specs.Common.{Meant}
 use Rattle.proto_names.specs.Following.{HaveToLook, TellWhatToLook}
 use Rattle.proto_names.specs.LinkOfFiles.{IsLinkOf}
 use Rattle.proto_names.specs.Renewal.{link_of_parts}
-use Rattle.proto_relink.specs.Relinked.{IsCleanLink, WasLink}
+use Rattle.proto_names_update.specs.Relinked.{IsCleanLink, WasLink}
 use Rattle.proto_names.proofs.WaysBack.{lists_rise, meant_back, names_unchanged, references_back, rows_back, size_unchanged, table_back}
 use Rattle.proto_names.proofs.link.Link.renew.Goals.{in-Ok-Some+in-Err-follow, in-Ok-None, in-Err}
 use Rattle.proto_names.proofs.link.Link.renew.Goals as goal

@@ -1,5 +1,5 @@
 use Rattle.std.proofs.Common.{Bool, true, false, refl, sym, ◌∙◌, ap, subst}
-use Rattle.proto_faults.proofs.Common.{both_ways}
+use Rattle.proto_base.proofs.Common.{both_ways}
 use Rattle.proto_names.specs.declared.whole_link.Renewal.{Renewal}
 use Rattle.proto_names.specs.declared.whole_link.Renewal.TheVariants.{Done, GivenUp, Refused}
 use Rattle.proto_names.proofs.link.Link.replace_with.Goals as goal

@@ -1,10 +1,10 @@
 use Rattle.std.proofs.Common.{[], get_or, option_map, refl, sym, ◌∙◌, ap, option_and_then}
 use Rattle.std.proofs.lemmas.Option.{none-some}
 use Rattle.proto_files.specs.GivenFiles.{file_at}
-use Rattle.proto_meaning.specs.Joined.{joined}
+use Rattle.proto_names_rules.specs.Joined.{joined}
 use Rattle.proto_names.specs.Linking.{name_text}
-use Rattle.proto_table.specs.Tables.{names_of}
-use Rattle.proto_imports.proofs.Common.{names_are_plain, names_of_files}
+use Rattle.proto_names_table.specs.Tables.{names_of}
+use Rattle.proto_names_imports.proofs.Common.{names_are_plain, names_of_files}
 use Rattle.proto_names.specs.Scopes.{reference_in}
 use Rattle.proto_names.proofs.LinkIndex.{link_index, marks_at, meant_in, none_meant}
 use Rattle.proto_names.proofs.NamesThere.{text_there}

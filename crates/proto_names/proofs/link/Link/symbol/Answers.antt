@@ -3,8 +3,8 @@ use Rattle.std.proofs.lemmas.Option.{none-some}
 use Rattle.proto_names.specs.Linking.{name_text}
 use Rattle.proto_names.proofs.Linking.{text_forgotten, text_none, text_once}
 use Rattle.proto_names.proofs.NamesThere.{text_from}
-use Rattle.proto_table.specs.declared.table.Row.{Row}
-use Rattle.proto_table.proofs.Resolved.{if_none}
+use Rattle.proto_names_table.specs.declared.table.Row.{Row}
+use Rattle.proto_names_table.proofs.Resolved.{if_none}
 use Rattle.proto_names.proofs.link.Link.symbol.Goals as goal
 
 pub returns-in_err-row-clause-none : goal.returns-in_err-row-clause-none

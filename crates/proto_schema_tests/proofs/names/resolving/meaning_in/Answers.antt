@@ -2,7 +2,7 @@ use Rattle.std.proofs.Common.{ℕ, List, [], ◌∷◌, map, refl, sym, ◌∙�
 use Rattle.proto_files.specs.GivenFiles.{file_at}
 use Rattle.proto_text.specs.Texts.{words, word_at}
 use Rattle.proto_tree.specs.declared.tree.Behind.{Behind}
-use Rattle.proto_meaning.specs.Joined.{ArePlain}
+use Rattle.proto_names_rules.specs.Joined.{ArePlain}
 use Rattle.proto_schema_tests.proofs.PlainWords.{plain, plain_at, word_is}
 use Rattle.proto_schema_tests.proofs.names.resolving.meaning_in.Goals as goal
 

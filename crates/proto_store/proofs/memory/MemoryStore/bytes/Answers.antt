@@ -1,5 +1,5 @@
 use Rattle.std.proofs.Common.{◌≡◌, Some, sym, ap, ◌∙◌, rules, option_map}
-use Rattle.proto_faults.proofs.Common.{get_by_text, same_from_all_zip}
+use Rattle.proto_base.proofs.Common.{get_by_text, same_from_all_zip}
 use Rattle.proto_store.specs.Common.{MemoryOf, bytes_at}
 use Rattle.proto_store.proofs.Entries.{bytes_of_lookup}
 use Rattle.proto_store.proofs.memory.MemoryStore.bytes.Goals as goal

@@ -1,6 +1,6 @@
 use Rattle.std.proofs.Common.{◌≡◌, ℕ, List, reverse}
 use Rattle.proto_store.specs.Common.{bytes_at, files_in}
-use Rattle.proto_faults.specs.GivenFiles.{files_of}
+use Rattle.proto_base.specs.GivenFiles.{files_of}
 use Rattle.proto_store.proofs.memory.MemoryStore.new.Given as goal
 
 -- the map holds the latest bytes of each path so far

@@ -2,7 +2,7 @@ use Rattle.std.proofs.Common.{List, sym, subst}
 use Rattle.proto_desc.specs.Whole.FileFaults.{of_link}
 use Rattle.proto_files.specs.Faults.{HasNoFault}
 use Rattle.proto_files.specs.GivenFiles.{FileOf}
-use Rattle.proto_imports.specs.Links.{LinkFaults}
+use Rattle.proto_names_imports.specs.Links.{LinkFaults}
 use Rattle.protoref_tests.proofs.edits.occurrences.told.Goals as goal
 
 pub occurrences-requires-clause-linked : goal.occurrences-requires-clause-linked

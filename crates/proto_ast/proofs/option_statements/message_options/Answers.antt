@@ -1,0 +1,11 @@
+use Rattle.std.proofs.Common.{arith}
+use Rattle.proto_ast.specs.Parts.{statement_options}
+use Rattle.proto_tree.specs.File.{member_tree}
+use Rattle.proto_ast.proofs.Statements.{all_parts, parts_turn}
+use Rattle.proto_ast.proofs.option_statements.message_options.Goals as goal
+
+pub loop-member-preserved : goal.loop-member-preserved
+loop-member-preserved c = parts_turn statement_options member_tree c.args.members.now c.loop-member.member-index c.member-item.result _ _ _ c.loop-member-test.true c.member-item.is c.in_ok-push_message_option.ensures c.loop-member.invariant
+
+pub returns : goal.returns
+returns c = all_parts statement_options member_tree c.args.members.now c.loop-member.member-index _ _ (omega arith) c.loop-member.invariant

@@ -1,0 +1,7 @@
+use Rattle.std.proofs.Common.{◌≡◌, ◌++◌, map, drop, flat_map}
+use Rattle.proto_tree.specs.File.{trees, member_tree}
+use Rattle.proto_ast.specs.Parts.{closed_ranges, statements}
+use Rattle.proto_ast.proofs.ranges.closed_ranges.Given as goal
+
+abbrev pub invariant-loop-member : goal.invariant-loop-member
+invariant-loop-member l = map (λ r. r.now) l.found.items ++ flat_map closed_ranges (statements (trees member_tree (drop l.member-index l.members))) ≡ flat_map closed_ranges (statements (trees member_tree l.members))

@@ -1,0 +1,66 @@
+//! The options of the language.
+
+ghost use Rattle.std.specs.Prelude.{◌≡◌};
+ghost use Rattle.proto_ast.specs.Options.{value_kind_of};
+ghost use Rattle.proto_ast.specs.declared.options.Element.TheVariants as element;
+
+/// What an option may stand at.
+#[derive(Clone, Copy, PartialEq, Eq)]
+pub enum Element {
+    File,
+    Message,
+    Service,
+    EnumValue,
+    Field,
+    /// A field of an `extend` block.
+    Extension,
+    Enum,
+    Method,
+}
+
+/// What the value of an option is.
+#[derive(Clone, Copy, PartialEq, Eq)]
+pub enum ValueKind {
+    /// Strings.
+    Text,
+    /// `true` or `false`.
+    Truth,
+    /// `SPEED`, `CODE_SIZE` or `LITE_RUNTIME`.
+    OptimizeMode,
+    /// `IDEMPOTENCY_UNKNOWN`, `NO_SIDE_EFFECTS` or `IDEMPOTENT`.
+    IdempotencyLevel,
+    /// What a field's type says.
+    Default,
+}
+
+fn file_option(name: &str) -> Option<ValueKind>
+    ensures { result ≡ value_kind_of element.File name.now }
+{
+    match name {
+        "java_package"
+        | "java_outer_classname"
+        | "go_package"
+        | "csharp_namespace"
+        | "objc_class_prefix"
+        | "php_namespace" => Some(ValueKind::Text),
+        "java_multiple_files" | "cc_enable_arenas" | "deprecated" => Some(ValueKind::Truth),
+        "optimize_for" => Some(ValueKind::OptimizeMode),
+        _ => None,
+    }
+}
+
+/// The kind of the value of an element's option, where the element may have the option.
+pub(crate) fn value_kind(element: Element, name: &str) -> Option<ValueKind>
+    ensures { result ≡ value_kind_of element name.now }
+{
+    match (element, name) {
+        (Element::File, _) => file_option(name),
+        (Element::Field | Element::Extension, "packed") => Some(ValueKind::Truth),
+        (Element::Field | Element::Extension, "default") => Some(ValueKind::Default),
+        (Element::Field, "json_name") => Some(ValueKind::Text),
+        (Element::Enum, "allow_alias") => Some(ValueKind::Truth),
+        (Element::Method, "idempotency_level") => Some(ValueKind::IdempotencyLevel),
+        (_, "deprecated") => Some(ValueKind::Truth),
+        _ => None,
+    }
+}

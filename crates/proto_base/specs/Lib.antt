@@ -1,0 +1,6 @@
+pub mod Ascii
+pub mod FaultTable
+pub mod GivenFiles
+pub mod Texts
+pub mod Undone
+pub mod Words

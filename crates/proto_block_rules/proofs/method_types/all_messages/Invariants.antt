@@ -1,7 +1,0 @@
-use Rattle.std.proofs.Common.{◌≡◌, ◌++◌, List, map, drop}
-use Rattle.proto_files.specs.FilesRead.{AreRead, ReadOf}
-use Rattle.proto_block_rules.specs.BlockFinds.{all_messages, messages_from}
-use Rattle.proto_block_rules.proofs.method_types.all_messages.Given as goal
-
-abbrev pub invariant-loop-file : goal.invariant-loop-file
-invariant-loop-file l = (reads : List ReadOf) → AreRead l.files reads → map (λ s. s.now) l.all.items ++ messages_from l.files reads l.file (drop l.file reads) ≡ all_messages l.files reads

@@ -1,5 +1,0 @@
-use Rattle.proto_faults.proofs.Common.{codes, ends_text}
-use Rattle.proto_block_rules.proofs.services.has_service_suffix.Goals as goal
-
-pub returns : goal.returns
-returns c = ends_text c.ends_with.result (codes "Service") c.args.word.now c.ends_with.ensures.cases

@@ -1,5 +1,0 @@
-use Rattle.proto_captures.proofs.NewlyShown.{shown_is_anew}
-use Rattle.proto_captures.proofs.laws.shown_is_anew.Goals as goal
-
-pub returns : goal.returns
-returns c = shown_is_anew

@@ -1,5 +1,0 @@
-use Rattle.proto_checks.proofs.laws.caps_keep_the_least.Goals as goal
-use Rattle.proto_checks.proofs.CappedFlaws.{caps_keep_the_least}
-
-pub returns : goal.returns
-returns c = caps_keep_the_least

@@ -1,5 +1,0 @@
-use Rattle.proto_checks_laws.proofs.laws.imports_move_flaws.Goals as goal
-use Rattle.proto_checks_laws.proofs.MovedFlaws.{imports_move_flaws}
-
-pub returns : goal.returns
-returns c = imports_move_flaws

@@ -1,0 +1,21 @@
+mod Checked
+mod Declared
+mod EnumsByLink
+mod Extensions
+mod KeptEnums
+mod Linked
+mod Listed
+mod Marked
+mod MeantStill
+mod MessageBlocks
+pub mod SameScenes
+mod Scenes
+mod StillEnums
+mod ToldMarks
+mod Unedited
+mod ValueDescriptors
+mod ValueExtensions
+mod ValueFlaws
+mod ValueNames
+mod WantedEnums
+mod WantedMarks

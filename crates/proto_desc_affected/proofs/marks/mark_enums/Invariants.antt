@@ -1,0 +1,10 @@
+use Rattle.std.proofs.Common.{All, take}
+use Rattle.proto_names_affected.specs.Marking.{MarksStay}
+use Rattle.proto_desc_affected.specs.Common.{IsEnumMarked}
+use Rattle.proto_desc_affected.proofs.marks.mark_enums.Given as goal
+
+abbrev pub invariant-loop-one : goal.invariant-loop-one
+invariant-loop-one l = record {
+  stay : MarksStay l.initial.wanted.items l.wanted.items;
+  marked : All (IsEnumMarked l.link l.wanted.items) (take l.one-index l.meant);
+}

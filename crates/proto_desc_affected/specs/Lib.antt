@@ -1,0 +1,8 @@
+pub mod Checked
+pub mod Common
+pub mod Extended
+pub mod Kept
+pub mod Marks
+pub mod Spared
+pub mod StillEnums
+pub mod Values

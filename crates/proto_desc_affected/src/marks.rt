@@ -1,0 +1,381 @@
+//! The files that an edit does not spare, and those whose enums they mean, as marks: one for each
+//! file.
+
+ghost use Rattle.std.specs.Prelude.{◌≡◌, ◌↔◌, ◌⊎◌, ◌||◌, ℕ, ◌<◌, List, [], true, false, length, get_or, map, nat_eq, option_map, slice_get, Some, IfOk, IfSome};
+ghost use Rattle.std.specs.List.{All};
+ghost use Rattle.indexmap.specs.IndexMap.{get};
+ghost use Rattle.proto_desc_extensions.specs.Extends.{has_extend};
+ghost use Rattle.proto_files.specs.FilesRead.{AreRead, ReadOf, read_at};
+ghost use Rattle.proto_files.specs.GivenFiles.{FileOf};
+ghost use Rattle.proto_desc_affected.specs.Checked.{AreMeantStill, IsElsewhere, IsEnumAtRow, IsKeptStill, IsMeantStill, KeptFileOf, is_message_kind, nothing_kept};
+ghost use Rattle.proto_names_affected.specs.Marking.{ArePlacesMarked, IsMarked, MarksStay};
+ghost use Rattle.proto_names.specs.LinkOfFiles.{IsLinkOf};
+ghost use Rattle.proto_names.specs.Linking.{name_at, name_text};
+ghost use Rattle.proto_desc_affected.specs.Kept.{kept_file_of, kept_files_of, kept_name_of};
+ghost use Rattle.proto_desc_affected.specs.Marks.{AreEnumsMarked, AreOthersKept, AreOthersKeptAsTold, AreUnsureKept, AreUsersMarked, AreUsersOfFilesMarked, HasNoMarkedExtends, IsEnumMarked, IsUserMarked};
+ghost use Rattle.proto_desc_affected.specs.StillEnums.{AreStillEnums};
+
+use crate::kept_file::{KeptFile, KeptName, has_extend_at, is_message};
+use crate::laws::{links_have_what_is_kept, marks_tell_kept};
+use crate::still_enums::{is_still, still_enums};
+use indexmap::IndexMap;
+use proto_base::NoMemory;
+use proto_files::{Files, are_read};
+use proto_names::{DeclaredNames, Link, Meant, RefId, SymbolId};
+use proto_names_affected::marking::mark_places;
+use proto_names_rules::marks::is_marked;
+use std::alloc::Global;
+
+/// Whether a name stands in no file that is marked as edited.
+fn is_elsewhere(link: &Link, edited: &[bool], name: SymbolId) -> bool
+    ensures { result ≡ true → (places : List ℕ) → ArePlacesMarked edited.now places
+        → IsElsewhere places link.now name.row }
+{
+    match link.file_of(name) {
+        Some(file) => !is_marked(edited, file),
+        None => true,
+    }
+}
+
+/// Whether a name has this text.
+fn has_text(link: &Link, name: SymbolId, text: &str) -> bool
+    ensures { result ≡ true → name_text link.now name.row ≡ Some text.now }
+{
+    link.name_of(name) == Some(text)
+}
+
+/// Whether a name is a message's, as the one that is kept was, or an enum's that is to the file
+/// what is kept of it.
+fn is_type_still(
+    link: &Link,
+    still: &IndexMap<usize, bool>,
+    file: &KeptFile,
+    kept: &KeptName,
+    name: SymbolId,
+) -> bool
+    ensures { result ≡ true → (files : List FileOf) (ks : List KeptFileOf)
+        → AreStillEnums files link.now ks (get nat_eq still.now)
+        → ((kept.now.is_message ≡ true)
+        × (is_message_kind (option_map (λ n. n.kind) (name_at link.now name.row)) ≡ true))
+        ⊎ IsEnumAtRow files link.now ks file.now.is_proto3 name.row }
+{
+    let is_message_still = kept.is_message && is_message(link.kind_of(name));
+    is_message_still || is_still(still, file.is_proto3, name)
+}
+
+/// Whether a reference of a file means what is kept of it, which is to stand in a file that is not
+/// edited, or, where the file extends nothing, to be a message's and have been one, or an enum's
+/// that is to the file what is kept of it.
+fn is_meant_still(
+    link: &Link,
+    edited: &[bool],
+    still: &IndexMap<usize, bool>,
+    file: &KeptFile,
+    kept: &KeptName,
+    meant: Meant,
+) -> bool
+    ensures { result ≡ true → (places : List ℕ) → ArePlacesMarked edited.now places
+        → (files : List FileOf) (ks : List KeptFileOf)
+        → AreStillEnums files link.now ks (get nat_eq still.now)
+        → IsMeantStill places files link.now ks (kept_file_of file.now) (kept_name_of kept.now)
+        meant }
+{
+    let name = meant.symbol();
+    has_text(link, name, &kept.name)
+        && (is_elsewhere(link, edited, name)
+            || (!file.has_extend && is_type_still(link, still, file, kept, name)))
+}
+
+/// Whether the references of a file mean what is kept of them.
+fn are_meant_still(
+    link: &Link,
+    edited: &[bool],
+    still: &IndexMap<usize, bool>,
+    kept: &KeptFile,
+    meant: &[Meant],
+) -> bool
+    ensures { result ≡ true → (places : List ℕ) → ArePlacesMarked edited.now places
+        → (files : List FileOf) (ks : List KeptFileOf)
+        → AreStillEnums files link.now ks (get nat_eq still.now)
+        → AreMeantStill places files link.now ks (kept_file_of kept.now)
+        (map kept_name_of kept.now.means.items) meant.now }
+{
+    if kept.means.len() != meant.len() {
+        return false;
+    }
+    for k in 0..meant.len() {
+        if !is_meant_still(link, edited, still, kept, &kept.means[k], meant[k]) {
+            return false;
+        }
+    }
+    true
+}
+
+/// Whether a file is not marked as edited, and its references mean what is kept of them.
+#[tactic(auto, using(crate::proofs::MeantStill::kept_still))]
+fn is_kept_still(
+    link: &Link,
+    edited: &[bool],
+    still: &IndexMap<usize, bool>,
+    kept: &KeptFile,
+    file: u32,
+) -> bool
+    ensures { result ≡ true → (places : List ℕ) → ArePlacesMarked edited.now places
+        → (files : List FileOf) (ks : List KeptFileOf)
+        → AreStillEnums files link.now ks (get nat_eq still.now)
+        → file < length files → get_or ks file nothing_kept ≡ kept_file_of kept.now
+        → IsKeptStill places files link.now ks file }
+{
+    !is_marked(edited, file) && are_meant_still(link, edited, still, kept, link.meant_in(file))
+}
+
+/// Whether a file is not marked as unsure, or is not edited and its references mean what is kept of
+/// them.
+fn is_left_out(
+    link: &Link,
+    edited: &[bool],
+    still: &IndexMap<usize, bool>,
+    unsure: &[bool],
+    kept: &KeptFile,
+    file: u32,
+) -> bool
+    ensures { result ≡ true → (get_or unsure.now file false ≡ false) ⊎ ((places : List ℕ)
+        → ArePlacesMarked edited.now places → (files : List FileOf) (ks : List KeptFileOf)
+        → AreStillEnums files link.now ks (get nat_eq still.now)
+        → file < length files → get_or ks file nothing_kept ≡ kept_file_of kept.now
+        → IsKeptStill places files link.now ks file) }
+{
+    if !is_marked(unsure, file) {
+        return true;
+    }
+    is_kept_still(link, edited, still, kept, file)
+}
+
+/// Marks of those of the unsure files that are edited, at these places, or of which a reference, by
+/// the link now, does not mean what is kept of it, or means what stands in an edited file. If the
+/// file has no `extend` block, a message may stand there, where it was one, and an enum, where it
+/// is to the file what is kept of it. The link is that of the files. Refused for want of memory
+/// alone.
+fn unsure_to_check(
+    alloc: Global,
+    files: &Files,
+    link: &Link,
+    places: &[u32],
+    kept: &[KeptFile],
+    unsure: &[bool],
+) -> Result<Vec<bool>, NoMemory>
+    requires link { IsLinkOf files.now link.now }
+    requires places { All (λ place. place < length files.now) places.now }
+    requires paired { length kept.now ≡ length files.now }
+    ensures len { IfOk result (λ marks. length marks.items ≡ length files.now) }
+    ensures others { IfOk result (λ marks. AreUnsureKept places.now files.now link.now
+        (kept_files_of kept.now) unsure.now marks.items) }
+{
+    let mut edited = vec![in alloc; false; files.len()]?;
+    mark_places(&mut edited, places);
+    let still = still_enums(alloc, files, link, kept, places)?;
+    let mut marks = Vec::with_capacity(alloc, files.len())?;
+    for file in 0..files.len() as u32 {
+        let stays = is_left_out(link, &edited, &still, unsure, &kept[file as usize], file);
+        marks.push(!stays)?;
+    }
+    Ok(marks)
+}
+
+/// Marks of the files that an edit of the files at these places does not spare: these, and each of
+/// which a reference, by the link now, does not mean what is kept of it, or means what stands in an
+/// edited file. If the file has no `extend` block, a message may stand there, where it was one, and
+/// an enum, where it is to the file what is kept of it. The link is that of the files. Refused for
+/// want of memory alone.
+pub fn files_to_check(
+    alloc: Global,
+    files: &Files,
+    link: &Link,
+    places: &[u32],
+    kept: &[KeptFile],
+) -> Result<Vec<bool>, NoMemory>
+    requires link { IsLinkOf files.now link.now }
+    requires places { All (λ place. place < length files.now) places.now }
+    requires paired { length kept.now ≡ length files.now }
+    ensures len { IfOk result (λ marks. length marks.items ≡ length files.now) }
+    ensures others { IfOk result (λ marks. AreOthersKept places.now files.now link.now
+        (kept_files_of kept.now) marks.items) }
+{
+    let unsure = vec![in alloc; true; files.len()]?;
+    unsure_to_check(alloc, files, link, places, kept, &unsure)
+}
+
+/// Whether a file had an `extend` block, by what is kept of it; false where nothing is.
+fn had_extend(kept: &[KeptFile], file: u32) -> bool
+    ensures { result ≡ (get_or (kept_files_of kept.now) file nothing_kept).has_extend }
+{
+    match kept.get(file as usize) {
+        Some(kept) => kept.has_extend,
+        None => false,
+    }
+}
+
+/// Marks a file that refers to a name, unless that is a message's and the file had no `extend`
+/// block.
+fn mark_user(marks: &mut Vec<bool>, link: &Link, kept: &[KeptFile], name: SymbolId, user: RefId)
+    ensures stay { MarksStay marks.old.items marks.new.items }
+    ensures marked { IsUserMarked link.now (kept_files_of kept.now) marks.new.items name.row user }
+{
+    if !is_message(link.kind_of(name)) || had_extend(kept, user.file) {
+        mark_file(marks, Some(user.file));
+    }
+}
+
+/// Marks so the files that refer to a name.
+fn mark_users_of_name(marks: &mut Vec<bool>, link: &Link, kept: &[KeptFile], name: SymbolId)
+    ensures stay { MarksStay marks.old.items marks.new.items }
+    ensures marked { AreUsersMarked link.now (kept_files_of kept.now) marks.new.items name.row }
+{
+    for user in link.references(name) {
+        mark_user(marks, link, kept, name, *user);
+    }
+}
+
+/// The same of the name at a place among these, if there is one.
+fn mark_users_at(
+    marks: &mut Vec<bool>,
+    link: &Link,
+    kept: &[KeptFile],
+    names: &DeclaredNames<'_>,
+    place: usize,
+)
+    ensures stay { MarksStay marks.old.items marks.new.items }
+    ensures marked { IfSome (slice_get names.now.rows.now place)
+        (AreUsersMarked link.now (kept_files_of kept.now) marks.new.items) }
+{
+    if let Some(name) = names.get(place) {
+        mark_users_of_name(marks, link, kept, name);
+    }
+}
+
+/// The same of each name that a file declares.
+fn mark_users_of_file(marks: &mut Vec<bool>, link: &Link, kept: &[KeptFile], file: u32)
+    ensures stay { MarksStay marks.old.items marks.new.items }
+    ensures marked { All (AreUsersMarked link.now (kept_files_of kept.now) marks.new.items)
+        (get_or link.now.rows file []) }
+{
+    let names = link.declared_in(file);
+    for place in 0..names.len() {
+        mark_users_at(marks, link, kept, &names, place);
+    }
+}
+
+/// The same of each name that the files at these places declare.
+fn mark_users(marks: &mut Vec<bool>, link: &Link, kept: &[KeptFile], places: &[u32])
+    ensures stay { MarksStay marks.old.items marks.new.items }
+    ensures marked { AreUsersOfFilesMarked
+        places.now link.now (kept_files_of kept.now) marks.new.items }
+{
+    for place in places {
+        mark_users_of_file(marks, link, kept, *place);
+    }
+}
+
+/// Marks of the files that an edit of the files at these places does not spare, by the marks of
+/// those that have to be looked at again, which are told. Of these, and of the files that refer to a
+/// name of an edited file, where it is no message's or they had an `extend` block, it is asked what
+/// their references mean; no other file is asked. Refused for want of memory alone.
+pub fn told_files_to_check(
+    alloc: Global,
+    files: &Files,
+    link: &Link,
+    places: &[u32],
+    kept: &[KeptFile],
+    told: &[bool],
+) -> Result<Vec<bool>, NoMemory>
+    requires link { IsLinkOf files.now link.now }
+    requires places { All (λ place. place < length files.now) places.now }
+    requires paired { length kept.now ≡ length files.now }
+    requires told { length told.now ≡ length files.now }
+    ensures len { IfOk result (λ marks. length marks.items ≡ length files.now) }
+    ensures others { IfOk result (λ marks. AreOthersKeptAsTold places.now files.now link.now
+        (kept_files_of kept.now) told.now marks.items) }
+{
+    // By these laws a file that is not asked means what it meant, and each reference is in the
+    // lists that are walked here.
+    marks_tell_kept();
+    links_have_what_is_kept();
+    let mut unsure = Vec::from_slice(alloc, told)?;
+    mark_users(&mut unsure, link, kept, places);
+    unsure_to_check(alloc, files, link, places, kept, &unsure)
+}
+
+/// Whether a file has an `extend` block, or had one, by what is kept of it.
+fn has_or_had_extend(files: &Files, kept: &KeptFile, file: u32) -> bool
+    requires { file < length files.now }
+    ensures { (reads : List ReadOf) → AreRead files.now reads
+        → result ≡ (kept.now.has_extend || has_extend (read_at reads file).tree) }
+{
+    kept.has_extend || has_extend_at(files, file)
+}
+
+/// Whether no marked file has an `extend` block, and none had one, by what is kept of them. Takes
+/// no memory.
+pub fn has_no_marked_extends(files: &Files, marks: &[bool], kept: &[KeptFile]) -> bool
+    requires paired { length kept.now ≡ length files.now }
+    ensures { (result ≡ true) ↔ HasNoMarkedExtends files.now (kept_files_of kept.now) marks.now }
+{
+    are_read(files);
+    for file in 0..files.len() as u32 {
+        if is_marked(marks, file) && has_or_had_extend(files, &kept[file as usize], file) {
+            return false;
+        }
+    }
+    true
+}
+
+/// Marks a file, if there is one.
+fn mark_file(wanted: &mut Vec<bool>, file: Option<u32>)
+    ensures stay { MarksStay wanted.old.items wanted.new.items }
+    ensures marked { IfSome file (λ f. f < length wanted.old.items → IsMarked wanted.new.items f) }
+{
+    let Some(file) = file else { return };
+    if let Some(mark) = wanted.get_mut(file as usize) {
+        *mark = true;
+    }
+}
+
+/// Marks the file that declares what a reference means, unless that is a message's.
+fn mark_enum(wanted: &mut Vec<bool>, link: &Link, meant: Meant)
+    ensures stay { MarksStay wanted.old.items wanted.new.items }
+    ensures marked { IsEnumMarked link.now wanted.new.items meant }
+{
+    let name = meant.symbol();
+    if !is_message(link.kind_of(name)) {
+        mark_file(wanted, link.file_of(name));
+    }
+}
+
+/// Marks the files that declare what these references mean, messages left out.
+fn mark_enums(wanted: &mut Vec<bool>, link: &Link, meant: &[Meant])
+    ensures stay { MarksStay wanted.old.items wanted.new.items }
+    ensures marked { All (IsEnumMarked link.now wanted.new.items) meant.now }
+{
+    for one in meant {
+        mark_enum(wanted, link, *one);
+    }
+}
+
+/// Marks of the files whose enums references of marked files mean. Refused for want of memory
+/// alone.
+pub fn files_of_enums(
+    alloc: Global,
+    files: &Files,
+    link: &Link,
+    marks: &[bool],
+) -> Result<Vec<bool>, NoMemory>
+    ensures { IfOk result (λ wanted. AreEnumsMarked files.now link.now marks.now wanted.items) }
+{
+    let mut wanted = vec![in alloc; false; files.len()]?;
+    for file in 0..files.len() as u32 {
+        if is_marked(marks, file) {
+            mark_enums(&mut wanted, link, link.meant_in(file));
+        }
+    }
+    Ok(wanted)
+}

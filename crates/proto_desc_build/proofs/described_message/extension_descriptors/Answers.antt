@@ -1,0 +1,11 @@
+use Rattle.std.proofs.Common.{refl, arith}
+use Rattle.proto_tree.specs.File.{member_tree}
+use Rattle.proto_desc_build.specs.Described.{extensions_described}
+use Rattle.proto_desc_build.proofs.Levels.{extensions_joined, described_turn, described_none}
+use Rattle.proto_desc_build.proofs.described_message.extension_descriptors.Goals as goal
+
+pub loop-member-preserved : goal.loop-member-preserved
+loop-member-preserved c = described_turn (extensions_described c.args.scene.now) member_tree (extensions_joined c.args.scene.now) c.args.members.now c.loop-member.member-index c.member-item.result _ _ _ c.loop-member-test.true c.member-item.is c.in_ok-push_member_extensions.ensures c.loop-member.invariant
+
+pub returns : goal.returns
+returns c = described_none (extensions_described c.args.scene.now) member_tree refl c.args.members.now c.loop-member.member-index _ _ (omega arith) c.loop-member.invariant

@@ -1,0 +1,10 @@
+use Rattle.proto_ast.specs.Views.{field_of}
+use Rattle.proto_desc_checks.specs.FieldFlaws.{flaws_of_extension}
+use Rattle.proto_base.proofs.Turns.{seen_more, seen_all}
+use Rattle.proto_desc_checks.proofs.extends.add_extensions.Goals as goal
+
+pub loop-field-preserved : goal.loop-field-preserved
+loop-field-preserved c = seen_more (flaws_of_extension c.args.scene.now) field_of c.args.fields.now c.loop-field.field-index c.field-item.result c.field-item.result c.args.found.now.items c.loop-field.found.items _ c.loop-field-test.true c.field-item.is c.in_ok-add_extension.ensures c.loop-field.invariant
+
+pub returns : goal.returns
+returns c = seen_all (flaws_of_extension c.args.scene.now) field_of c.args.fields.now c.loop-field.field-index c.args.found.now.items c.loop-field.found.items c.loop-field-test.false c.loop-field.invariant

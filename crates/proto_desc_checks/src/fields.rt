@@ -1,0 +1,195 @@
+//! What is wrong with one field, or one extension: its label, its type, its options and its
+//! default.
+
+ghost use Rattle.std.specs.Prelude.{◌≡◌, ◌++◌, map, option_map, OnOk};
+ghost use Rattle.proto_ast.specs.Views.{enum_of, field_of, option_of};
+ghost use Rattle.proto_desc_checks.specs.FieldFlaws.{type_token, enum_of_type, lacks_label, required_flaws, map_key_flaws, starts_wrong, has_closed_enum, is_unpackable, is_packable_type, may_be_packed, default_flaws, option_flaws, packed_flaws, proto3_defaults, type_flaws, field_flaws};
+
+use crate::defaults::{add_default_flaws, add_proto3_defaults};
+use crate::options::add_option_flaws;
+use proto_ast::{Element, EnumAt, FieldAt, OptionAt, Scene, has_label, options_between};
+use proto_base::{FaultKind, NoMemory};
+use proto_desc_numbers::{Flaw, add_if};
+use proto_tree::FieldType;
+use std::alloc::Global;
+
+// ---- labels
+
+fn lacks_label(scene: &Scene, field: FieldAt) -> bool
+    ensures { result ≡ lacks_label scene.now (field_of field.entry) }
+{
+    !scene.is_proto3() && field.label.is_none() && field.map_key.is_none() && field.oneof.is_none()
+}
+
+fn add_required_flaws(
+    found: &mut Vec<Flaw>,
+    scene: &Scene,
+    label: Option<u32>,
+) -> Result<(), NoMemory>
+    ensures { OnOk result (found.new.items ≡ found.old.items ++ required_flaws scene.now label) }
+{
+    match label {
+        Some(token) => {
+            let is_wrong = scene.is_proto3() && scene.text(token) == "required";
+            add_if(found, is_wrong, FaultKind::NotInProto3, token)
+        }
+        None => Ok(()),
+    }
+}
+
+// ---- types
+
+// The type's first token.
+fn type_token(kind: &FieldType) -> u32
+    ensures { result ≡ type_token kind.now }
+{
+    match kind {
+        FieldType::Scalar(token) => *token,
+        FieldType::Reference(reference) => reference.dot.unwrap_or(reference.words.first),
+    }
+}
+
+fn enum_of_type<'a>(scene: &Scene<'a>, kind: &FieldType) -> Option<EnumAt<'a>>
+    ensures { option_map enum_of result ≡ enum_of_type scene.now kind.now }
+{
+    match kind {
+        FieldType::Scalar(_) => None,
+        FieldType::Reference(reference) => scene.enum_meant(reference),
+    }
+}
+
+fn add_map_key_flaws(
+    found: &mut Vec<Flaw>,
+    scene: &Scene,
+    map_key: Option<u32>,
+) -> Result<(), NoMemory>
+    ensures { OnOk result (found.new.items ≡ found.old.items ++ map_key_flaws scene.now map_key) }
+{
+    match map_key {
+        Some(token) => {
+            let is_wrong = matches!(scene.text(token), "float" | "double" | "bytes");
+            add_if(found, is_wrong, FaultKind::BadMap, token)
+        }
+        None => Ok(()),
+    }
+}
+
+fn starts_wrong(scene: &Scene, field: FieldAt) -> bool
+    ensures { result ≡ starts_wrong scene.now (field_of field.entry) }
+{
+    match enum_of_type(scene, field.kind) {
+        Some(enumeration) => field.map_key.is_some() && enumeration.starts_past_zero,
+        None => false,
+    }
+}
+
+fn has_closed_enum(scene: &Scene, field: FieldAt) -> bool
+    ensures { result ≡ has_closed_enum scene.now (field_of field.entry) }
+{
+    match enum_of_type(scene, field.kind) {
+        Some(enumeration) => scene.is_proto3() && !enumeration.is_proto3,
+        None => false,
+    }
+}
+
+fn add_type_flaws(found: &mut Vec<Flaw>, scene: &Scene, field: FieldAt) -> Result<(), NoMemory>
+    ensures { OnOk result (found.new.items ≡ found.old.items
+        ++ type_flaws scene.now (field_of field.entry)) }
+{
+    let token = type_token(field.kind);
+    add_if(found, lacks_label(scene, field), FaultKind::Label, token)?;
+    add_required_flaws(found, scene, field.label)?;
+    add_map_key_flaws(found, scene, field.map_key)?;
+    add_if(
+        found,
+        starts_wrong(scene, field),
+        FaultKind::FirstNotZero,
+        token,
+    )?;
+    add_if(
+        found,
+        has_closed_enum(scene, field),
+        FaultKind::ClosedEnum,
+        token,
+    )
+}
+
+// ---- `packed`
+
+fn is_unpackable(scalar: &str) -> bool
+    ensures { result ≡ is_unpackable scalar.now }
+{
+    matches!(scalar, "string" | "bytes")
+}
+
+fn is_packable_type(scene: &Scene, kind: &FieldType) -> bool
+    ensures { result ≡ is_packable_type scene.now kind.now }
+{
+    match kind {
+        FieldType::Scalar(token) => !is_unpackable(scene.text(*token)),
+        FieldType::Reference(reference) => scene.enum_meant(reference).is_some(),
+    }
+}
+
+fn may_be_packed(scene: &Scene, field: FieldAt) -> bool
+    ensures { result ≡ may_be_packed scene.now (field_of field.entry) }
+{
+    has_label(scene, "repeated", field) && is_packable_type(scene, field.kind)
+}
+
+fn add_packed_flaws(
+    found: &mut Vec<Flaw>,
+    scene: &Scene,
+    field: FieldAt,
+    options: &[OptionAt],
+) -> Result<(), NoMemory>
+    requires { map option_of options.now ≡ (field_of field).options }
+    ensures { OnOk result (found.new.items ≡ found.old.items
+        ++ packed_flaws scene.now (field_of field.entry)) }
+{
+    for option in options {
+        let is_wrong = scene.text(option.name) == "packed" && !may_be_packed(scene, field);
+        add_if(found, is_wrong, FaultKind::BadOption, option.name)?;
+    }
+    Ok(())
+}
+
+// ---- all of it
+
+// What is wrong with the options of a field or an extension.
+fn add_flaws_of_options(
+    alloc: Global,
+    found: &mut Vec<Flaw>,
+    scene: &Scene,
+    element: Element,
+    field: FieldAt,
+    options: &[OptionAt],
+) -> Result<(), NoMemory>
+    requires { map option_of options.now ≡ (field_of field).options }
+    ensures { OnOk result (found.new.items ≡ found.old.items
+        ++ (option_flaws scene.now element (field_of field.entry).options
+        ++ (packed_flaws scene.now (field_of field.entry)
+        ++ (default_flaws scene.now (field_of field.entry)
+        ++ proto3_defaults scene.now (field_of field.entry))))) }
+{
+    add_option_flaws(alloc, found, scene, element, options)?;
+    add_packed_flaws(found, scene, field, options)?;
+    add_default_flaws(found, scene, field, options)?;
+    add_proto3_defaults(found, scene, field, options)
+}
+
+/// Adds what is wrong with a field, or with an extension, which may have other options.
+pub(crate) fn add_field_flaws(
+    alloc: Global,
+    found: &mut Vec<Flaw>,
+    scene: &Scene,
+    element: Element,
+    field: FieldAt,
+) -> Result<(), NoMemory>
+    ensures { OnOk result (found.new.items ≡ found.old.items
+        ++ field_flaws scene.now element (field_of field.entry)) }
+{
+    add_type_flaws(found, scene, field)?;
+    let options = options_between(alloc, field.settings)?;
+    add_flaws_of_options(alloc, found, scene, element, field, &options)
+}

@@ -1,0 +1,149 @@
+//! What is wrong with the numbers of extensions, file by file.
+
+ghost use Rattle.std.specs.Prelude.{◌≡◌, ◌++◌, [], List, map, replicate, IfOk, OnOk};
+ghost use Rattle.proto_resolved.specs.LinkOfFiles.{IsLinkOf};
+ghost use Rattle.proto_resolved.specs.Scenes.{AreScenes};
+ghost use Rattle.proto_desc_extensions.specs.Listed.{AreWorkspaceFlaws, HasSeen, Told, again, outside_ranges, told_by};
+ghost use Rattle.proto_desc_extensions.specs.OpenTables.{IsOpenTable};
+
+use crate::extends::some_has_extend;
+use crate::listed::{ExtensionAt, extensions};
+use crate::open_table::open_table;
+use indexmap::{IndexMap, IndexSet};
+use proto_ast::Scene;
+use proto_base::{FaultKind, NoMemory};
+use proto_desc_numbers::{Flaw, NumberAt, RangeAt, add_if};
+use proto_files::Files;
+use proto_resolved::Link;
+use std::alloc::Global;
+
+/// An extension by the full name of what it extends, and its number.
+#[derive(Clone, Copy, PartialEq, Eq, Hash)]
+pub(crate) struct Key<'a> {
+    pub extendee: &'a str,
+    pub number: i128,
+}
+
+fn key_of<'a>(extendee: &'a str, number: NumberAt) -> Key<'a>
+    ensures extendee { result.extendee.now ≡ extendee.now }
+    ensures number { result.number ≡ number.number }
+{
+    Key {
+        extendee,
+        number: number.number,
+    }
+}
+
+/// Adds a flaw at each number that what it extends does not leave to extensions.
+fn add_outside(found: &mut Vec<Flaw>, extensions: &[ExtensionAt]) -> Result<(), NoMemory>
+    ensures { OnOk result (found.new.items ≡ found.old.items
+        ++ outside_ranges (map told_by extensions.now)) }
+{
+    for extension in extensions {
+        let is_outside = !extension.is_extendable;
+        add_if(
+            found,
+            is_outside,
+            FaultKind::NotExtendable,
+            extension.number.token,
+        )?;
+    }
+    Ok(())
+}
+
+/// Adds a flaw at each number that an earlier extension has of what it extends, and keeps those of
+/// these for later.
+fn add_again<'a>(
+    found: &mut Vec<Flaw>,
+    seen: &mut IndexSet<Key<'a>>,
+    extensions: &[ExtensionAt<'a>],
+) -> Result<(), NoMemory>
+    ensures flaws { OnOk result ((before : List Told) → HasSeen seen.old before
+        → found.new.items ≡ found.old.items ++ again before (map told_by extensions.now)) }
+    ensures seen { OnOk result ((before : List Told) → HasSeen seen.old before
+        → HasSeen seen.new (before ++ map told_by extensions.now)) }
+{
+    for extension in extensions {
+        let is_new = seen.insert(key_of(extension.extendee, extension.number))?;
+        add_if(
+            found,
+            !is_new,
+            FaultKind::DuplicateExtension,
+            extension.number.token,
+        )?;
+    }
+    Ok(())
+}
+
+/// The flaws of extensions.
+fn flaws_of<'a>(
+    alloc: Global,
+    seen: &mut IndexSet<Key<'a>>,
+    extensions: &[ExtensionAt<'a>],
+) -> Result<Vec<Flaw>, NoMemory>
+    ensures flaws { IfOk result (λ found. (before : List Told) → HasSeen seen.old before
+        → found.items ≡ outside_ranges (map told_by extensions.now)
+        ++ again before (map told_by extensions.now)) }
+    ensures seen { OnOk result ((before : List Told) → HasSeen seen.old before
+        → HasSeen seen.new (before ++ map told_by extensions.now)) }
+{
+    let mut found = Vec::new(alloc);
+    add_outside(&mut found, extensions)?;
+    add_again(&mut found, seen, extensions)?;
+    Ok(found)
+}
+
+/// No flaw in each of so many files.
+fn no_flaws(alloc: Global, count: usize) -> Result<Vec<Vec<Flaw>>, NoMemory>
+    ensures { IfOk result (λ found. map (λ v. v.items) found.items ≡ replicate count []) }
+{
+    let mut found = Vec::new(alloc);
+    for _ in 0..count {
+        found.push(Vec::new(alloc))?;
+    }
+    Ok(found)
+}
+
+/// The same, with the ranges that messages leave to extensions.
+fn flaws_with(
+    alloc: Global,
+    files: &Files,
+    link: &Link,
+    table: &[IndexMap<u32, Vec<RangeAt>>],
+    scenes: &[Scene],
+) -> Result<Vec<Vec<Flaw>>, NoMemory>
+    requires link { IsLinkOf files.now link.now }
+    requires table { IsOpenTable files.now table.now }
+    requires scenes { AreScenes files.now scenes.now }
+    ensures { IfOk result (λ found. AreWorkspaceFlaws files.now found.items) }
+{
+    let mut found = Vec::new(alloc);
+    let mut seen = IndexSet::new(alloc);
+    for file in 0..files.len() as u32 {
+        let scene = &scenes[file as usize];
+        let extensions = extensions(alloc, files, link, table, scene, file)?;
+        found.push(flaws_of(alloc, &mut seen, &extensions)?)?;
+    }
+    Ok(found)
+}
+
+/// For each file, in the order of their paths, what is wrong with it that its workspace decides:
+/// the numbers of its extensions, each inside no extension range of the message that it extends, or
+/// that of an earlier extension of that message. The link and the scenes are those of the files.
+/// Refused for want of memory alone.
+pub fn workspace_flaws(
+    alloc: Global,
+    files: &Files,
+    link: &Link,
+    scenes: &[Scene],
+) -> Result<Vec<Vec<Flaw>>, NoMemory>
+    requires link { IsLinkOf files.now link.now }
+    requires scenes { AreScenes files.now scenes.now }
+    ensures { IfOk result (λ found. AreWorkspaceFlaws files.now found.items) }
+{
+    if !some_has_extend(files) {
+        return no_flaws(alloc, files.len());
+    }
+    let table = open_table(alloc, files, scenes)?;
+    flaws_with(alloc, files, link, &table, scenes)
+}

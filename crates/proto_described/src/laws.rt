@@ -1,8 +1,0 @@
-//! Laws of the definitions, for the layers above. None of these does anything.
-
-ghost use Rattle.proto_described.specs.Capped.{CapsKeepTheDescriptor};
-
-/// The descriptor of a file is the same whether its numbers stop at a cap past every limit or not.
-pub fn caps_keep_the_descriptor()
-    ensures { CapsKeepTheDescriptor }
-{}

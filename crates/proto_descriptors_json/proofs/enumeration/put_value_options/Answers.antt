@@ -1,0 +1,10 @@
+use Rattle.proto_descriptors_json.proofs.Sending.{options_all}
+use Rattle.std.proofs.lemmas.Result.{on_ok_weaker}
+use Rattle.proto_descriptors_json.proofs.enumeration.put_value_options.Goals as goal
+
+pub returns : goal.returns
+returns g c =
+    on_ok_weaker c.close.result (λ ends. options_all
+    (c.in_ok-is_open.ensures _ _
+    ends))
+    c.close.ensures

@@ -1,0 +1,162 @@
+//! The text of a set of files, and of one file.
+
+ghost use Rattle.std.specs.Prelude.{◌≡◌, IfOk, OnOk, map, take, drop, string_bytes, option_map, codes};
+ghost use Rattle.serde.specs.Event.{Log};
+ghost use Rattle.proto_descriptors_json.specs.DescriptorText.{optimize_mode_name, syntax_name, file_slots, file_text, file_options_slots, text_of_files};
+ghost use Rattle.proto_descriptors_json.specs.JsonText.{json_string};
+ghost use Rattle.proto_descriptors_json.specs.Written.{PutsValue, PutsMember, PutsMembers, EndsOptions, options_slot};
+ghost use Rattle.proto_descriptors.specs.Views.{file_desc, file_options_desc};
+
+use crate::members::{put, put_list, put_optional};
+use crate::message::put_messages;
+use crate::options::{close, put_option};
+use crate::values::ToJson;
+use proto_base::NoMemory;
+use proto_descriptors::{FileDescriptor, FileOptions, OptimizeMode, Syntax};
+use serde::{Described, Serialize, Serializer};
+use std::alloc::Global;
+
+/// The files at this key of one compact JSON object, in each object the keys in the order of bytes.
+/// Numbers are always written; empty lists, options that are not given and false marks never. Fails
+/// for want of memory alone.
+pub fn text_of_files(
+    alloc: Global,
+    key: &'static str,
+    files: &[FileDescriptor],
+) -> Result<String, NoMemory>
+    ensures { IfOk result (λ s. string_bytes s ≡ text_of_files key.now (map file_desc files.now)) }
+{
+    match serde_json::to_string(alloc, &FileList { key, files }) {
+        Ok(text) => Ok(text),
+        Err(_error) => Err(NoMemory),
+    }
+}
+
+/// One object, with the list of these files at this key.
+#[derive(Drop)]
+struct FileList<'a> {
+    key: &'static str,
+    files: &'a [FileDescriptor],
+}
+
+impl Described for FileList<'_> {
+    ghost writes = { λ l. PutsValue (text_of_files l.key.now (map file_desc l.files.now)) };
+}
+
+impl Serialize for FileList<'_> {
+    fn serialize<S: Serializer>(&self, out: &mut S) -> Result<(), S::Error> {
+        out.begin_map(None)?;
+        put_list(out, self.key, self.files)?;
+        out.end_map()
+    }
+}
+
+impl ToJson for OptimizeMode {
+    ghost text = { λ m. json_string (optimize_mode_name m) };
+
+    fn send<S: Serializer>(&self, out: &mut S) -> Result<(), S::Error> {
+        out.str(self.name())
+    }
+}
+
+impl ToJson for FileDescriptor {
+    ghost text = { λ f. file_text (file_desc f) };
+
+    fn send<S: Serializer>(&self, out: &mut S) -> Result<(), S::Error> {
+        out.begin_map(None)?;
+        put_first(out, self)?;
+        put_rest(out, self)?;
+        out.end_map()
+    }
+}
+
+/// The members up to `name`.
+fn put_first<S: Serializer>(out: &mut S, file: &FileDescriptor) -> Result<(), S::Error>
+    ensures { OnOk result (PutsMembers (take 5 (file_slots (file_desc file.now)))
+        (S.written out.old) (S.written out.new)) }
+{
+    put_list(out, "dependency", &file.dependency)?;
+    put_list(out, "enumType", &file.enum_type)?;
+    put_list(out, "extension", &file.extension)?;
+    put_messages(out, "messageType", &file.message_type)?;
+    put(out, "name", &file.name)
+}
+
+/// The members from `options` on.
+fn put_rest<S: Serializer>(out: &mut S, file: &FileDescriptor) -> Result<(), S::Error>
+    ensures { OnOk result (PutsMembers (drop 5 (file_slots (file_desc file.now)))
+        (S.written out.old) (S.written out.new)) }
+{
+    put_options(out, &file.options)?;
+    put_optional(out, "package", &file.package)?;
+    put_list(out, "publicDependency", &file.public_dependency)?;
+    put_list(out, "service", &file.service)?;
+    put_syntax(out, file.syntax)
+}
+
+/// The name of the version, left out for proto2: a file without one is proto2.
+fn put_syntax<S: Serializer>(out: &mut S, syntax: Syntax) -> Result<(), S::Error>
+    ensures { OnOk result (PutsMember (codes "syntax", option_map json_string (syntax_name syntax))
+        (S.written out.old) (S.written out.new)) }
+{
+    match syntax {
+        Syntax::Proto2 => Ok(()),
+        Syntax::Proto3 => {
+            out.key("syntax")?;
+            out.str("proto3")
+        }
+    }
+}
+
+/// The options in a file, left out where none is written.
+fn put_options<S: Serializer>(out: &mut S, options: &FileOptions) -> Result<(), S::Error>
+    ensures { OnOk result (PutsMember
+        (options_slot (file_options_slots (file_options_desc options.now)))
+        (S.written out.old) (S.written out.new)) }
+{
+    let is_open = put_first_options(out, options)?;
+    put_later_options(out, is_open, options)
+}
+
+/// The options up to `javaMultipleFiles`. Answers whether their object has begun.
+fn put_first_options<S: Serializer>(out: &mut S, options: &FileOptions) -> Result<bool, S::Error>
+    ensures { IfOk result (λ is_open. (last : Log)
+        → EndsOptions is_open (drop 5 (file_options_slots (file_options_desc options.now)))
+        (S.written out.new) last
+        → PutsMember (options_slot (file_options_slots (file_options_desc options.now)))
+        (S.written out.old) last) }
+{
+    let is_open = put_option(out, false, "ccEnableArenas", &options.cc_enable_arenas)?;
+    let is_open = put_option(out, is_open, "csharpNamespace", &options.csharp_namespace)?;
+    let is_open = put_option(out, is_open, "deprecated", &options.deprecated)?;
+    let is_open = put_option(out, is_open, "goPackage", &options.go_package)?;
+    put_option(
+        out,
+        is_open,
+        "javaMultipleFiles",
+        &options.java_multiple_files,
+    )
+}
+
+/// The options from `javaOuterClassname` on, and the end of their object.
+fn put_later_options<S: Serializer>(
+    out: &mut S,
+    is_open: bool,
+    options: &FileOptions,
+) -> Result<(), S::Error>
+    ensures { OnOk result (EndsOptions
+        is_open (drop 5 (file_options_slots (file_options_desc options.now)))
+        (S.written out.old) (S.written out.new)) }
+{
+    let is_open = put_option(
+        out,
+        is_open,
+        "javaOuterClassname",
+        &options.java_outer_classname,
+    )?;
+    let is_open = put_option(out, is_open, "javaPackage", &options.java_package)?;
+    let is_open = put_option(out, is_open, "objcClassPrefix", &options.objc_class_prefix)?;
+    let is_open = put_option(out, is_open, "optimizeFor", &options.optimize_for)?;
+    let is_open = put_option(out, is_open, "phpNamespace", &options.php_namespace)?;
+    close(out, is_open)
+}

@@ -1,0 +1,16 @@
+pub mod Capturing
+pub mod FirstCaptured
+pub mod FirstKeys
+pub mod NewTexts
+pub mod OvertakenLaw
+pub mod Overtaking
+pub mod ShownAnew
+pub mod ShownTexts
+pub mod Aims
+pub mod CapturedPlaces
+pub mod Collisions
+pub mod Looked
+pub mod Common
+pub use Rattle.proto_edit_rename_laws.specs.Cases
+pub use Rattle.proto_edit_rename_laws.specs.Targets
+pub use Rattle.proto_edit_rename_laws.specs.SceneOf

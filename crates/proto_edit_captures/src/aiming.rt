@@ -1,0 +1,154 @@
+//! What a name aims at.
+
+ghost use Rattle.std.specs.Prelude.{◌≡◌, ◌<◌, ◌↔◌, ◌++◌, List, ℕ, true, IsTrue, IfOk, IfErr, IfSome, IfNone, Some, length};
+ghost use Rattle.proto_case.specs.Camel.{entry_name};
+ghost use Rattle.proto_files.specs.Faults.{HasNoFault};
+ghost use Rattle.proto_files.specs.FilesRead.{ReadOf, AreRead};
+ghost use Rattle.proto_names_imports.specs.Links.{LinkFaults, text_of};
+ghost use Rattle.proto_names_rules.specs.Grown.{at};
+ghost use Rattle.proto_names_rules.specs.Linked.{is_package};
+ghost use Rattle.proto_names.specs.LinkOfFiles.{IsLinkOf};
+ghost use Rattle.proto_names.specs.Linking.{NameOf, name_at};
+ghost use Rattle.proto_edit_rename_laws.specs.Inside.{IsInside};
+ghost use Rattle.proto_edit_rename_laws.specs.Targets.{may_rename};
+ghost use Rattle.proto_edit_captures.specs.Aims.{IsAimOf, IsNoTarget, IsSpelled};
+ghost use Rattle.proto_edit_captures.specs.Looked.{HasDeclared, IsEntryThere, IsNotDeclared, first_place};
+
+use crate::aim::{Aim, NoTarget};
+use crate::parts::{beside, front, word};
+use proto_base::NoMemory;
+use proto_case::entry_name;
+use proto_files::{Files, are_read};
+use proto_names::{Link, SymbolId};
+use proto_names_rules::Kind;
+use std::alloc::Global;
+
+/// The kind of a declaration, and the token that it stands at.
+#[derive(Clone, Copy)]
+struct Declaration {
+    kind: Kind,
+    file: u32,
+    token: u32,
+}
+
+/// Where a name of the link is declared; none for a package.
+fn place(link: &Link, name: SymbolId) -> Option<Declaration>
+    ensures some { IfSome result (λ p. (n : NameOf) × (name_at link.now name.row ≡ Some n)
+        × (n.kind ≡ p.kind) × (first_place n ≡ at p.file p.token)) }
+    ensures none { IfNone result ((n : NameOf) → name_at link.now name.row ≡ Some n
+        → is_package n.kind ≡ true) }
+{
+    let kind = link.kind_of(name)?;
+    let file = link.file_of(name)?;
+    let token = link.token_of(name)?;
+    Some(Declaration { kind, file, token })
+}
+
+fn is_entry(kind: Kind) -> bool
+    ensures { IsTrue result ↔ (kind ≡ Kind.Entry) }
+{
+    matches!(kind, Kind::Entry)
+}
+
+/// Whether an entry is declared at the token.
+fn is_entry_there(place: Declaration, file: u32, token: u32) -> bool
+    ensures { IsTrue result ↔ IsEntryThere place.kind place.file place.token file token }
+{
+    is_entry(place.kind) && place.file == file && place.token == token
+}
+
+fn may_rename(kind: Kind) -> bool
+    ensures { result ≡ may_rename kind }
+{
+    match kind {
+        Kind::Message
+        | Kind::Enum
+        | Kind::Service
+        | Kind::Field
+        | Kind::Extension
+        | Kind::Value
+        | Kind::Method => true,
+        _ => false,
+    }
+}
+
+/// Whether the name is that of an entry which stands at the token.
+fn is_entry_at(link: &Link, name: &str, file: u32, token: u32) -> bool
+    ensures { IsTrue result ↔ HasDeclared link.now name.now Kind.Entry (at file token) }
+{
+    let Some(id) = link.symbol(name) else {
+        return false;
+    };
+    match place(link, id) {
+        Some(place) => is_entry_there(place, file, token),
+        None => false,
+    }
+}
+
+/// Whether a declaration has an entry beside it, and so is a map field.
+fn has_entry(alloc: Global, files: &Files, link: &Link, aim: Aim) -> Result<bool, NoMemory>
+    requires { IsSpelled files.now aim }
+    ensures { (reads : List ReadOf) → AreRead files.now reads
+        → (front : List ℕ)
+        → aim.entry.name.now ≡ front ++ text_of files.now reads (at aim.entry.file aim.entry.token)
+        → IfOk result (λ is. IsTrue is ↔ HasDeclared link.now
+        (front ++ entry_name (text_of files.now reads (at aim.entry.file aim.entry.token)))
+        Kind.Entry (at aim.entry.file aim.entry.token)) }
+{
+    are_read(files);
+    let own = word(files, aim.file, aim.token);
+    let front = front(aim.name, own);
+    let entry = entry_name(alloc, own)?;
+    let name = beside(alloc, front, entry.as_str())?;
+    Ok(is_entry_at(link, name.as_str(), aim.file, aim.token))
+}
+
+/// The declaration of this name in a link; it is not yet asked whether it is a map field.
+fn declared_aim<'a>(link: &Link, name: &'a str) -> Result<Aim<'a>, NoTarget>
+    ensures ok { IfOk result (λ aim.
+        HasDeclared link.now aim.name.now aim.kind (at aim.file aim.token)) }
+    ensures named { IfOk result (λ aim. aim.name.now ≡ name.entry.now) }
+    ensures kind { IfOk result (λ aim. may_rename aim.kind ≡ true) }
+    ensures err { IfErr result (IsNotDeclared link.now name.entry.now) }
+{
+    let Some(id) = link.symbol(name) else {
+        return Err(NoTarget::Unknown);
+    };
+    let Some(place) = place(link, id) else {
+        return Err(NoTarget::NotAllowed);
+    };
+    if !may_rename(place.kind) {
+        return Err(NoTarget::NotAllowed);
+    }
+    Ok(Aim {
+        name,
+        kind: place.kind,
+        file: place.file,
+        token: place.token,
+        is_map: false,
+    })
+}
+
+/// What a name aims at: the declaration of this full name, without a
+/// leading dot, if it may be renamed.
+pub fn target<'a>(
+    alloc: Global,
+    files: &Files,
+    link: &Link,
+    name: &'a str,
+) -> Result<Aim<'a>, NoTarget>
+    requires link { IsLinkOf files.now link.now }
+    requires linked { HasNoFault (LinkFaults files.now) }
+    ensures ok { IfOk result (λ aim. IsAimOf files.now aim) }
+    ensures named { IfOk result (λ aim. aim.name.now ≡ name.entry.now) }
+    // It stands at a token of a file.
+    ensures file { IfOk result (λ aim. aim.file < length files.now) }
+    ensures inside { IfOk result (λ aim. (reads : List ReadOf) → AreRead files.now reads
+        → IsInside files.now reads (at aim.file aim.token)) }
+    ensures err { IfErr result (IsNoTarget files.now name.entry.now) }
+{
+    are_read(files);
+    let found = declared_aim(link, name)?;
+    let is_map = has_entry(alloc, files, link, found)?;
+    Ok(Aim { is_map, ..found })
+}

@@ -1,0 +1,36 @@
+//! Words that a declaration may not be named, and the one that it has.
+
+ghost use Rattle.std.specs.Prelude.{◌≡◌, ◌↔◌, IsTrue, List};
+ghost use Rattle.proto_files.specs.FilesRead.{ReadOf, AreRead};
+ghost use Rattle.proto_names_imports.specs.Links.{text_of};
+ghost use Rattle.proto_names_rules.specs.Grown.{at};
+ghost use Rattle.proto_edit_rename_laws.specs.Cases.{is_keyword_of};
+ghost use Rattle.proto_edit_captures.specs.Aims.{IsAimOf};
+
+use crate::aim::Aim;
+use crate::parts::word;
+use proto_files::{Files, are_read};
+use proto_names_rules::Kind;
+use proto_tree::{is_listed, may_name_value};
+
+/// Whether a symbol of this kind may not be named by the word: a message, an enum or a service by a
+/// listed word, a value by `option` or `reserved`.
+pub fn is_keyword(kind: Kind, word: &str) -> bool
+    ensures { result ≡ is_keyword_of kind word.now }
+{
+    match kind {
+        Kind::Message | Kind::Enum | Kind::Service => is_listed(word),
+        Kind::Value => !may_name_value(word),
+        _ => false,
+    }
+}
+
+/// Whether this is the simple name of what is aimed at.
+pub fn has_name(files: &Files, aim: Aim, name: &str) -> bool
+    requires { IsAimOf files.now aim }
+    ensures { (reads : List ReadOf) → AreRead files.now reads
+        → IsTrue result ↔ (text_of files.now reads (at aim.entry.file aim.entry.token) ≡ name.now) }
+{
+    are_read(files);
+    word(files, aim.file, aim.token) == name
+}

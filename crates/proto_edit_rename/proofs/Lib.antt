@@ -1,0 +1,26 @@
+pub mod AimedAt
+mod ChangedMarks
+pub mod Common
+mod DefaultTexts
+mod EndTokens
+mod EnumOfValue
+mod FileChanges
+mod FoundTokens
+mod JsonClashes
+mod KnownReferences
+mod LeastCases
+mod MarkTurns
+pub mod MemberTests
+mod NameTexts
+mod NoTargets
+mod OneAim
+mod OneScene
+mod OuterKinds
+mod Placed
+mod PlacedWords
+mod Refused
+mod ReservedNames
+mod StandingUses
+mod TokensInOrder
+mod UnreservedBlocks
+mod WholeChanges

@@ -1,0 +1,10 @@
+use Rattle.std.proofs.Common.{List, map}
+use Rattle.proto_edit_entries.specs.Entries.{change_of}
+use Rattle.proto_files.specs.FilesRead.{ReadOf, AreRead}
+use Rattle.proto_edit_rename_laws.specs.Targets.{Target, renamed_words}
+use Rattle.proto_edit_rename.proofs.WholeChanges.{AreChangesUpTo}
+use Rattle.proto_edit_captures.specs.Aims.{IsAimedAt}
+use Rattle.proto_edit_rename.proofs.changes.changes_with.Given as goal
+
+abbrev pub invariant-loop-file : goal.invariant-loop-file
+invariant-loop-file l = (reads : List ReadOf) → AreRead l.sought.files.now reads → (t : Target) → IsAimedAt l.sought.files.now reads l.sought.aim t → AreChangesUpTo l.sought.files.now reads (renamed_words l.sought.files.now reads t l.to) l.file (map change_of l.changes.items)

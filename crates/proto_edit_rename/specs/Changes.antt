@@ -1,0 +1,109 @@
+-- The changes of a rename, file by file.
+use Rattle.std.specs.Prelude.{◌≡◌, ◌↔◌, ℕ, zero, suc, ◌<◌, ◌==◌, if◌then◌else◌, List, [], ◌∷◌, ◌++◌, length, flat_map, Option, Some, None, option_map}
+use Rattle.std.specs.List.{Contains}
+use Rattle.proto_base.specs.Texts.{Text}
+use Rattle.proto_files.specs.GivenFiles.{FileOf, file_at}
+use Rattle.proto_files.specs.FilesRead.{ReadOf, AreRead, read_at}
+use Rattle.proto_names_rules.specs.Grown.{At, at}
+use Rattle.proto_names_rules.specs.Joined.{joined, ArePlain}
+use Rattle.proto_edit_entries.specs.Entries.{ChangeOf}
+use Rattle.proto_names_imports.specs.Links.{link_skeleton, text_of}
+use Rattle.proto_edit_rename_laws.specs.Changes.{IsRewordedTooLong, change_by, changes_of_words, splices_in}
+use Rattle.proto_edit_rename_laws.specs.Defaults.{fields_of_file, renamed_default, renamed_defaults}
+use Rattle.proto_edit_rename_laws.specs.Places.{renamed_places}
+use Rattle.proto_edit_rename_laws.specs.Rewording.{NewWords}
+use Rattle.proto_edit_rename_laws.specs.Targets.{Target, name_map, renamed_words}
+use Rattle.proto_edit_entries.specs.declared.entry.Change.{Change}
+use Rattle.proto_edit_rename.specs.MadeChanges.{IsFileChange}
+use Rattle.proto_edit_rename.specs.declared.changing.RewordFault.{RewordFault}
+use Rattle.proto_edit_rename.specs.declared.changing.RewordFault.TheVariants.{TooLarge, NoMemory}
+use Rattle.proto_edit_captures.specs.Aims.{IsAimedAt}
+use Rattle.proto_edit_captures.specs.declared.aim.Aim.{Aim}
+
+-- the tokens that a rename changes
+abbrev pub places_of : List FileOf → List ReadOf → Target → Text → List At
+places_of files reads t to =
+    renamed_places (text_of files reads) (link_skeleton files reads) (name_map files reads t to)
+    t.token (renamed_defaults files reads t.enum (name_map files reads t to).old)
+
+-- these tokens of the file, and no others of it, whatever the new name is
+abbrev pub ArePlacesIn : List FileOf → Aim → ℕ → List ℕ → Type 0
+ArePlacesIn files aim file found = (reads : List ReadOf)
+    → AreRead files reads
+    → (t : Target)
+    → IsAimedAt files reads aim t
+    → (to : Text) (i : ℕ)
+    → Contains found i ↔ Contains (places_of files reads t to) (at file i)
+
+-- the changes of so many files
+abbrev pub changes_up_to : NewWords → List FileOf → List ReadOf → ℕ → List ChangeOf
+changes_up_to c files reads zero = []
+changes_up_to c files reads (suc n) =
+    changes_up_to c files reads n ++ change_by (file_at files n) (splices_in c files reads n)
+
+-- these are all changes, and no file gets too long by them
+pub record AreWholeChanges
+    (files : List FileOf) (reads : List ReadOf) (c : NewWords) (cs : List ChangeOf) : Type 0 where
+  pub changes : cs ≡ changes_of_words c files reads
+  pub short : (k : ℕ) → k < length files → IsRewordedTooLong c files reads k → ⊥
+
+-- the same of each reading of the files
+abbrev pub AreChangesOf : List FileOf → Aim → Text → List ChangeOf → Type 0
+AreChangesOf files aim to cs = (reads : List ReadOf)
+    → AreRead files reads
+    → (t : Target)
+    → IsAimedAt files reads aim t
+    → AreWholeChanges files reads (renamed_words files reads t to) cs
+
+-- a file gets too long by them, or memory is wanting
+abbrev pub IsChangesFault : List FileOf → Aim → Text → RewordFault → Type 0
+IsChangesFault files aim to TooLarge = (reads : List ReadOf)
+    → AreRead files reads
+    → (t : Target)
+    → IsAimedAt files reads aim t
+    → (k : ℕ) × (k < length files) × IsRewordedTooLong
+    (renamed_words files reads t to) files reads k
+IsChangesFault files aim to NoMemory = Unit {0}
+
+-- ---- the tokens of a file
+
+-- the name of the enum that has the value, if it is one, and its old word
+abbrev pub IsValueOf : List FileOf → Aim → Option Text → Text → Type 0
+IsValueOf files aim enum_name old = (reads : List ReadOf)
+    → AreRead files reads
+    → (old ≡ text_of files reads (at aim.file aim.token))
+    × ((t : Target) → IsAimedAt files reads aim t → enum_name ≡ option_map joined t.enum)
+
+-- the token, if it is one of this file
+abbrev pub or_own : ℕ → ℕ → ℕ → List ℕ
+or_own own token file = if own == file then token ∷ [] else []
+
+-- the defaults of the file that mean the value of the enum with this full name
+abbrev pub HasDefaultsIn : List FileOf → ℕ → Option Text → Text → List ℕ → Type 0
+HasDefaultsIn files file None old found = found ≡ []
+HasDefaultsIn files file (Some name) old found = (reads : List ReadOf)
+    → AreRead files reads
+    → (enum : List Text)
+    → ArePlain enum
+    → joined enum ≡ name
+    → found ≡ flat_map (renamed_default files reads (Some enum) old file)
+    (fields_of_file (read_at reads file).tree)
+
+-- ---- the change of a file
+
+-- the change that the new words make of the file, or none, and the file does not get too long
+abbrev pub IsChangeIn : List FileOf → Aim → ℕ → Text → Option Change → Type 0
+IsChangeIn files aim file to found = (reads : List ReadOf)
+    → AreRead files reads
+    → (t : Target)
+    → IsAimedAt files reads aim t
+    → IsFileChange files reads (renamed_words files reads t to) file found
+
+-- it gets too long, or memory is wanting
+abbrev pub IsFaultIn : List FileOf → Aim → ℕ → Text → RewordFault → Type 0
+IsFaultIn files aim file to TooLarge = (reads : List ReadOf)
+    → AreRead files reads
+    → (t : Target)
+    → IsAimedAt files reads aim t
+    → IsRewordedTooLong (renamed_words files reads t to) files reads file
+IsFaultIn files aim file to NoMemory = Unit {0}

@@ -1,0 +1,12 @@
+pub mod Cases
+pub mod ChangedFiles
+pub mod Changes
+pub mod Common
+pub mod Defaults
+pub mod MadeChanges
+pub mod Members
+pub mod MembersCommon
+pub mod Occurrences
+pub use Rattle.proto_resolved.specs.Blocks
+pub mod Renames
+pub mod StandingTokens

@@ -1,7 +1,0 @@
-use Rattle.std.proofs.Common.{◌≡◌, map, take}
-use Rattle.proto_edit_rows.specs.Rows.{row_file}
-use Rattle.proto_files.specs.GivenFiles.{file_of}
-use Rattle.proto_edit_rows.proofs.calls.files.Given as goal
-
-abbrev pub invariant-loop-text : goal.invariant-loop-text
-invariant-loop-text l = map file_of l.files.items ≡ map (λ t. row_file t.0.now t.1.now) (take l.text-index l.texts)

@@ -1,7 +1,0 @@
-use Rattle.std.proofs.Common.{map, take}
-use Rattle.proto_edit_rows.specs.RowsHold.{AreLed, written_step}
-use Rattle.proto_edit_rows.proofs.edited.expect_answers.Given as goal
-
-abbrev pub invariant-loop-step : goal.invariant-loop-step
-invariant-loop-step l = AreLed l.initial.edited.workspace l.initial.edited.entries.items
-    (map written_step (take l.step-index l.steps)) l.edited.workspace l.edited.entries.items

@@ -1,7 +1,0 @@
-use Rattle.proto_edit_rows.proofs.WholeRows.{undos_next}
-use Rattle.proto_edit_rows.proofs.edited.expect_undos.Goals as goal
-
-pub loop-undo-preserved : goal.loop-undo-preserved
-loop-undo-preserved c =
-    undos_next c.args.entries.now c.args.workspace.now c.loop-undo.workspace c.expect_undo.new.workspace
-    c.args.undos.now c.loop-undo.undo-index _ c.loop-undo-test.true c.loop-undo.invariant c.in_ok-expect_undo.ensures.undone c.in_ok-expect_undo.ensures.files

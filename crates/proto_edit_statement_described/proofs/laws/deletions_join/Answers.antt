@@ -1,0 +1,9 @@
+use Rattle.proto_edit_statement_described.proofs.Workspace.{Laws, deletions_are_deletions, deletions_are_less, deletions_mean_the_same}
+use Rattle.proto_edit_statement_described.proofs.laws.deletions_join.Goals as goal
+
+pub returns : goal.returns
+returns c =
+    let runs = c.runs_are_replaced.ensures in
+    let made = c.segments_are_made.ensures in
+    let laws : Laws = record { texts = record { replaced = runs.replaced; between = runs.between; join = made.join; space = made.space; token = made.token; before = made.before; quoted = made.quoted; decimal = made.decimal }; lexemes = c.statements_are_exchanged.ensures.tokens } in
+    record { less = deletions_are_less laws; means = deletions_mean_the_same laws; deletion = deletions_are_deletions laws }

@@ -1,0 +1,50 @@
+use Rattle.std.proofs.Common.{◌<◌, All, refl, sym, arith, subst}
+use Rattle.proto_names_imports.specs.declared.import.FileImport.{FileImport}
+use Rattle.proto_names_rules.specs.Marks.{MarksSeen}
+use Rattle.proto_edit_captures.specs.Overtaking.{IsFirstOvertaken}
+use Rattle.proto_edit_statement_laws.specs.Cases.{with_added}
+use Rattle.proto_edit_statements.proofs.Additions.{free_7, refused_7}
+use Rattle.proto_edit_statements.proofs.MoreOrLess.{place_within}
+use Rattle.proto_edit_statements.proofs.SeenMore.{sees_added}
+use Rattle.proto_edit_statements.proofs.adding.check_captured.Goals as goal
+
+pub returns-in-None-clause-free : goal.returns-in-None-clause-free
+returns-in-None-clause-free c =
+    let files = c.args.files.now in
+    let reads = c.are_read.ensures.0 in
+    let are = c.are_read.ensures.1 in
+    let file = c.args.file in
+    let v = with_added files reads file c.args.to in
+    let within = place_within files c.args.paths.file.now file c.requires.file in
+    let sees = sees_added files reads are c.args.imports.now c.requires.imports file c.args.to c.in_ok-seen.seen.items c.in_ok-seen.ensures in
+    let first = c.in_ok-first_overtaken.ensures reads are v (record { imports = refl; seen = subst (MarksSeen v file) (sym c.deref.ensures.value) sees }) in
+    free_7 files reads are c.args.paths.file.now c.args.paths.path.now file c.args.to c.requires.file c.requires.to within (subst (IsFirstOvertaken files reads v file) c.in-None.is first)
+
+pub returns-clause-err : goal.returns-clause-err
+returns-clause-err c =
+    let files = c.args.files.now in
+    let reads = c.are_read.ensures.0 in
+    let are = c.are_read.ensures.1 in
+    let file = c.args.file in
+    let v = with_added files reads file c.args.to in
+    let within = place_within files c.args.paths.file.now file c.requires.file in
+    let sees = sees_added files reads are c.args.imports.now c.requires.imports file c.args.to c.in_ok-seen.seen.items c.in_ok-seen.ensures in
+    let first = c.in_ok-first_overtaken.ensures reads are v (record { imports = refl; seen = subst (MarksSeen v file) (sym c.deref.ensures.value) sees }) in
+    refused_7 files reads are c.args.paths.file.now c.args.paths.path.now file c.args.to c.requires.file c.requires.to within c.in-Some.token (subst (IsFirstOvertaken files reads v file) c.in-Some.is first)
+    c.in_ok-captured_refusal-in-Some.field-0 c.in_ok-captured_refusal-in-Some.ensures
+
+pub seen_with-requires-clause-within : goal.seen_with-requires-clause-within
+seen_with-requires-clause-within c =
+    subst (λ n. All (λ v. All (λ (i : FileImport). i.to < n) v.items) c.args.imports.now) (sym c.requires.imports.len) c.requires.imports.within
+
+pub seen_with-requires-clause-file : goal.seen_with-requires-clause-file
+seen_with-requires-clause-file c =
+    let within = place_within c.args.files.now c.args.paths.file.now c.args.file c.requires.file in
+    let count = c.requires.imports.len in
+    omega (arith, within, count)
+
+pub seen_with-requires-clause-to : goal.seen_with-requires-clause-to
+seen_with-requires-clause-to c =
+    let within = place_within c.args.files.now c.args.paths.path.now c.args.to c.requires.to in
+    let count = c.requires.imports.len in
+    omega (arith, within, count)

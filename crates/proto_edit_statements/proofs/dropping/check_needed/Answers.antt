@@ -1,0 +1,37 @@
+use Rattle.std.proofs.Common.{length, List, Bool, sym, ◌∙◌, ap, subst}
+use Rattle.std.specs.Global.{Vec}
+use Rattle.proto_edit_statement_laws.specs.Cases.{with_dropped}
+use Rattle.proto_edit_statements.specs.Steps.{AreSeenIn}
+use Rattle.proto_edit_statements.proofs.Drops.{free_15, needed_inside, refused_15}
+use Rattle.proto_edit_statements.proofs.dropping.check_needed.Goals as goal
+
+pub first_needed-requires-clause-seen : goal.first_needed-requires-clause-seen
+first_needed-requires-clause-seen c =
+    ap (λ (z : List (Vec Bool)). length z) c.deref.ensures.value ∙ (c.in_ok-seen.ensures c.are_read.ensures.0 c.are_read.ensures.1 c.args.paths.path.now c.requires.to).0
+
+pub returns-in-None-clause-free : goal.returns-in-None-clause-free
+returns-in-None-clause-free c =
+    let files = c.args.files.now in
+    let reads = c.are_read.ensures.0 in
+    let are = c.are_read.ensures.1 in
+    let path = c.args.paths.path.now in
+    let sees = subst (AreSeenIn files (with_dropped files reads c.args.file path)) (sym c.deref.ensures.value) (c.in_ok-seen.ensures reads are path c.requires.to) in
+    free_15 files reads are c.args.paths.file.now path c.args.file c.requires.file c.requires.before (c.in-None.ensures reads are c.args.file path sees)
+
+pub needed_refusal-requires : goal.needed_refusal-requires
+needed_refusal-requires c =
+    let files = c.args.files.now in
+    let reads = c.are_read.ensures.0 in
+    let are = c.are_read.ensures.1 in
+    let path = c.args.paths.path.now in
+    let sees = subst (AreSeenIn files (with_dropped files reads c.args.file path)) (sym c.deref.ensures.value) (c.in_ok-seen.ensures reads are path c.requires.to) in
+    needed_inside files reads are c.args.file path c.in-Some.reference (c.in-Some.ensures reads are c.args.file path sees)
+
+pub returns-clause-err : goal.returns-clause-err
+returns-clause-err c =
+    let files = c.args.files.now in
+    let reads = c.are_read.ensures.0 in
+    let are = c.are_read.ensures.1 in
+    let path = c.args.paths.path.now in
+    let sees = subst (AreSeenIn files (with_dropped files reads c.args.file path)) (sym c.deref.ensures.value) (c.in_ok-seen.ensures reads are path c.requires.to) in
+    refused_15 files reads are c.args.paths.file.now path c.args.file c.requires.file c.requires.before c.in-Some.reference (c.in-Some.ensures reads are c.args.file path sees) c.in_ok-needed_refusal-in-Some.field-0 c.in_ok-needed_refusal-in-Some.ensures

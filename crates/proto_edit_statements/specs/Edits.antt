@@ -1,0 +1,125 @@
+-- A deleted field, an added and a dropped import over the files of a workspace: the case that
+-- refuses each, and what each changes.
+use Rattle.std.specs.Prelude.{◌≡◌, ℕ, ◌<◌, ◌^◌, List, string_bytes}
+use Rattle.proto_base.specs.Texts.{Path, Text}
+use Rattle.proto_files.specs.FilesRead.{ReadOf, AreRead}
+use Rattle.proto_files.specs.GivenFiles.{FileOf, file_at}
+use Rattle.proto_edit_entries.specs.declared.refusal.Refusal.{Refusal}
+use Rattle.proto_edit_entries.specs.declared.refusal.Refusal.TheVariants as refusal
+use Rattle.proto_edit_entries.specs.Entries.{ChangeOf}
+use Rattle.proto_edit_entries.specs.RefusalTable.{refusal_number}
+use Rattle.proto_names_rules.specs.Grown.{at}
+use Rattle.proto_edit_captures.specs.Targets.{Target}
+use Rattle.proto_tree.specs.declared.tree.Import.{Import}
+use Rattle.proto_edit_statement_laws.specs.DeletionChanges.{FieldAt, IsFieldAt, changes_of_deletion, field_number_value, splice_of_deletion}
+use Rattle.proto_edit_statement_laws.specs.ImportChanges.{IsImportOf, changes_of_addition, changes_of_drop, splice_of_addition}
+use Rattle.proto_edit_statement_laws.specs.OneFile.{IsTooLong}
+use Rattle.proto_edit_statement_laws.specs.Cases.{AdditionCase, DeletionCase, DropCase, IsField, IsNeededAt, IsOvertakenAt, IsPlaceOf}
+
+-- the least of some cases
+pub record IsLeastOf (Says : ℕ → Type 0) (n : ℕ) : Type 0 where
+  pub is : Says n
+  pub least : (k : ℕ) → k < n → Says k → ⊥
+
+-- some reading of the files
+abbrev pub SomeReading : List FileOf → (List ReadOf → Type 0) → Type 0
+SomeReading files P = (reads : List ReadOf) × AreRead files reads × P reads
+
+-- ---- a field deleted
+
+-- the statement of the field of this full name
+pub record IsFieldNamed
+    (files : List FileOf) (reads : List ReadOf) (name : Text) (f : FieldAt) : Type 0 where
+  pub t : Target
+  pub field : IsField files reads name t
+  pub token : t.token ≡ at f.file f.name
+  pub stands : IsFieldAt files reads f
+
+-- Case n refuses the deletion; of several the least is answered.
+pub data RefusesDeletion
+    (files : List FileOf) (reads : List ReadOf) (name : Text) : ℕ → Type 0 where
+  by_name : (n : ℕ) → DeletionCase files reads name n → RefusesDeletion files reads name n
+  too_large : (f : FieldAt)
+      → IsFieldNamed files reads name f
+      → IsTooLong (file_at files f.file) (splice_of_deletion files reads f)
+      → RefusesDeletion files reads name 16
+
+-- the case of this number refuses the deletion of the field of this name
+abbrev pub IsDeletionCase : List FileOf → Text → ℕ → Type 0
+IsDeletionCase files name n = SomeReading files (λ reads. RefusesDeletion files reads name n)
+
+-- the least case; memory may come in the place of any
+abbrev pub IsDeletionRefusal : List FileOf → Text → Refusal → Type 0
+IsDeletionRefusal files name refusal.NoMemory = Unit {0}
+IsDeletionRefusal files name (refusal.Captured path offset) = ⊥
+IsDeletionRefusal files name (refusal.Needed path offset) = ⊥
+IsDeletionRefusal files name r = IsLeastOf (IsDeletionCase files name) (refusal_number r)
+
+-- no case refuses it, and these are the changes
+pub record HasDeletionChanges (files : List FileOf) (name : Text)
+    (cs : List ChangeOf) : Type 0 where
+  pub admissible : (n : ℕ) → IsDeletionCase files name n → ⊥
+  pub changes : SomeReading files (λ reads.
+      (f : FieldAt) × IsFieldNamed files reads name f × (cs ≡ changes_of_deletion files reads f))
+
+-- the number of each field is below 2^64, as in files that compile
+abbrev pub HaveSmallNumbers : List FileOf → Type 0
+HaveSmallNumbers files = (reads : List ReadOf)
+    → AreRead files reads
+    → (f : FieldAt)
+    → IsFieldAt files reads f
+    → field_number_value files reads f < 2 ^ 64
+
+-- ---- an import added
+
+-- Case n refuses the import; of several the least is answered.
+pub data RefusesAddition
+    (files : List FileOf) (reads : List ReadOf) (file path : Path) : ℕ → Type 0 where
+  by_name : (n : ℕ) → AdditionCase files reads file path n → RefusesAddition files reads file path n
+  too_large : (k : ℕ)
+      → IsPlaceOf files file k
+      → IsTooLong (file_at files k) (splice_of_addition files reads k path)
+      → RefusesAddition files reads file path 16
+
+-- the case of this number refuses that the file imports the path
+abbrev pub IsAdditionCase : List FileOf → Path → Path → ℕ → Type 0
+IsAdditionCase files file path n =
+    SomeReading files (λ reads. RefusesAddition files reads file path n)
+
+-- the least case, with its place where a reference is overtaken
+abbrev pub IsAdditionRefusal : List FileOf → Path → Path → Refusal → Type 0
+IsAdditionRefusal files file path refusal.NoMemory = Unit {0}
+IsAdditionRefusal files file path (refusal.Captured place offset) =
+    IsLeastOf (IsAdditionCase files file path) 7
+    × SomeReading files (λ reads. IsOvertakenAt files reads file path (string_bytes place) offset)
+IsAdditionRefusal files file path (refusal.Needed place offset) = ⊥
+IsAdditionRefusal files file path r = IsLeastOf (IsAdditionCase files file path) (refusal_number r)
+
+-- no case refuses it, and these are the changes
+pub record HasAdditionChanges (files : List FileOf) (file path : Path)
+    (cs : List ChangeOf) : Type 0 where
+  pub admissible : (n : ℕ) → IsAdditionCase files file path n → ⊥
+  pub changes : SomeReading files
+      (λ reads. (k : ℕ) × IsPlaceOf files file k × (cs ≡ changes_of_addition files reads k path))
+
+-- ---- an import dropped
+
+-- the case of this number refuses that the file imports the path no longer
+abbrev pub IsDropCase : List FileOf → Path → Path → ℕ → Type 0
+IsDropCase files file path n = SomeReading files (λ reads. DropCase files reads file path n)
+
+-- the least case, with its place where the import is needed
+abbrev pub IsDropRefusal : List FileOf → Path → Path → Refusal → Type 0
+IsDropRefusal files file path refusal.NoMemory = Unit {0}
+IsDropRefusal files file path (refusal.Captured place offset) = ⊥
+IsDropRefusal files file path (refusal.Needed place offset) =
+    IsLeastOf (IsDropCase files file path) 15
+    × SomeReading files (λ reads. IsNeededAt files reads file path (string_bytes place) offset)
+IsDropRefusal files file path r = IsLeastOf (IsDropCase files file path) (refusal_number r)
+
+-- no case refuses it, and these are the changes
+pub record HasDropChanges (files : List FileOf) (file path : Path)
+    (cs : List ChangeOf) : Type 0 where
+  pub admissible : (n : ℕ) → IsDropCase files file path n → ⊥
+  pub changes : SomeReading files (λ reads. (k : ℕ) × (i : Import) × IsPlaceOf files file k
+      × IsImportOf files reads k path i × (cs ≡ changes_of_drop files reads k i))

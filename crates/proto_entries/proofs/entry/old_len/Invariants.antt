@@ -1,6 +1,0 @@
-use Rattle.std.proofs.Common.{◌≡◌, take, sum_by}
-use Rattle.proto_entries.proofs.EntrySums.{old_of}
-use Rattle.proto_entries.proofs.entry.old_len.Given as goal
-
-abbrev pub invariant-loop-splice : goal.invariant-loop-splice
-invariant-loop-splice l = l.total ≡ sum_by old_of (take l.splice-index l.splices)

@@ -1,5 +1,0 @@
-use Rattle.std.proofs.Common.{rules}
-use Rattle.proto_faults.proofs.fault.FaultKind.name.Goals as goal
-
-pub returns-in-OpenString : goal.returns-in-OpenString
-returns-in-OpenString c = search rules

@@ -1,5 +1,0 @@
-use Rattle.std.proofs.Common.{rules}
-use Rattle.proto_faults.proofs.fault.FaultKind.phase.Goals as goal
-
-pub returns-in-Syntax : goal.returns-in-Syntax
-returns-in-Syntax c = search rules

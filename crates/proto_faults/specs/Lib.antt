@@ -1,4 +1,0 @@
-pub mod Ascii
-pub mod FaultTable
-pub mod GivenFiles
-pub mod Texts

@@ -1,5 +1,0 @@
--- What proofs of the crates above name of this crate, passed on from one place. Declares nothing.
-pub use Rattle.proto_findings.specs.Listings.{FindingOf, IsListingOf, found_in}
-pub use Rattle.proto_findings.specs.Placed.{Found, NamedToken, back_or, behind_last, found_at, found_by, unless, unless_word}
-pub use Rattle.proto_findings.specs.Readings.{Reading, package_words, read_of_file, reading_of, word_in}
-pub use Rattle.proto_findings.specs.Views.{finding_of, found_of}

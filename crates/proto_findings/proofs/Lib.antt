@@ -1,4 +1,0 @@
-pub mod Common
-pub mod LastSplit
-mod Listing
-mod Readings

@@ -1,4 +1,0 @@
--- What proofs of this crate name of its own definitions, passed on from one place.
--- Declares nothing.
-pub use Rattle.proto_findings.specs.Listings.{FindingOf, IsListingOf, finding_cmp, found_in}
-pub use Rattle.proto_findings.specs.Views.{finding_of, found_of}

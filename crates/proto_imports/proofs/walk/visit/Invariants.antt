@@ -1,6 +1,0 @@
-use Rattle.std.proofs.Common.{take}
-use Rattle.proto_imports.specs.Walks.{Visits}
-use Rattle.proto_imports.proofs.walk.visit.Given as goal
-
-abbrev pub invariant-loop-file : goal.invariant-loop-file
-invariant-loop-file l = Visits (take l.file-index l.next) l.initial.seen.items l.initial.todo.items l.seen.items l.todo.items

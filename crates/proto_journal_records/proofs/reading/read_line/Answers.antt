@@ -1,0 +1,33 @@
+use Rattle.std.proofs.Common.{rules, ◌≡◌, [], ◌∷◌, ◌++◌, length, ap, sym, ◌∙◌, true≢false}
+use Rattle.proto_journal_records.specs.RecordText.{record_text}
+use Rattle.proto_journal_records.proofs.RecordTexts.{line_parts, text_some}
+use Rattle.proto_journal_records.proofs.reading.read_line.Goals as goal
+
+pub returns-in_default-clause-bad : goal.returns-in_default-clause-bad
+returns-in_default-clause-bad c = λ is r h e.
+    let none : length c.args.bytes.now ≡ 0 = search rules in
+    text_some c.args.version r c.args.bytes.now none e
+
+pub returns-then-last-ne10-clause-bad : goal.returns-then-last-ne10-clause-bad
+returns-then-last-ne10-clause-bad c = λ is r h e.
+    let split : c.args.bytes.now ≡ c.in-Some.line.now ++ c.in-Some.last.now ∷ [] = search rules in
+    let p = line_parts c.args.version r c.args.bytes.now c.in-Some.line.now c.in-Some.last.now split e in
+    c.if-last-ne10.true p.0
+
+pub returns-in_default-2-clause-bad : goal.returns-in_default-2-clause-bad
+returns-in_default-2-clause-bad c = λ is r h e.
+    let split : c.args.bytes.now ≡ c.in-Some.line.now ++ c.in-Some.last.now ∷ [] = search rules in
+    let p = line_parts c.args.version r c.args.bytes.now c.in-Some.line.now c.in-Some.last.now split e in
+    let found = c.in_ok-found.ensures.shape r h p.1 in
+    rw c.in_default-2.is at found
+
+pub returns-else-is_same-clause-bad : goal.returns-else-is_same-clause-bad
+returns-else-is_same-clause-bad c = λ is r h e.
+    let split : c.args.bytes.now ≡ c.in-Some.line.now ++ c.in-Some.last.now ∷ [] = search rules in
+    let p = line_parts c.args.version r c.args.bytes.now c.in-Some.line.now c.in-Some.last.now split e in
+    let found = c.in_ok-found.ensures.shape r h p.1 in
+    let same : c.in-Some-2.found ≡ r = rw c.in-Some-2.is at found in
+    true≢false (sym (c.in_ok-is_same.ensures.same.1 (ap (record_text c.args.version) same ∙ e)) ∙ c.if-is_same.false)
+
+pub is_text_of-requires : goal.is_text_of-requires
+is_text_of-requires c = let told = c.in_ok-found.ensures.told in rw c.in-Some-2.is at told

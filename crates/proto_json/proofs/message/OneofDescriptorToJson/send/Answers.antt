@@ -1,9 +1,0 @@
-use Rattle.proto_json.proofs.Sending.{last, object_sent}
-use Rattle.std.proofs.lemmas.Result.{on_ok_weaker}
-use Rattle.proto_json.proofs.message.OneofDescriptorToJson.send.Goals as goal
-
-pub returns : goal.returns
-returns g c =
-    on_ok_weaker c.end_map.result (object_sent _ c.in_ok-begin_map.ensures
-    (last c.in_ok-put.ensures))
-    c.end_map.ensures

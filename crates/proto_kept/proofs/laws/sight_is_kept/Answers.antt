@@ -1,8 +1,0 @@
-use Rattle.proto_kept.proofs.Sight.{sight_is_kept, sight_is_tested}
-use Rattle.proto_kept.proofs.laws.sight_is_kept.Goals as goal
-
-pub returns-clause-seen : goal.returns-clause-seen
-returns-clause-seen c = sight_is_kept
-
-pub returns-clause-tested : goal.returns-clause-tested
-returns-clause-tested c = sight_is_tested

@@ -1,4 +1,0 @@
-pub mod Beginnings
-pub mod Kept
-pub mod Marked
-pub mod Sight

@@ -1,5 +1,0 @@
-use Rattle.proto_kept_checks.proofs.Declared.{clean_edits_are_sound}
-use Rattle.proto_kept_checks.proofs.laws.clean_edits_are_sound.Goals as goal
-
-pub returns : goal.returns
-returns c = clean_edits_are_sound

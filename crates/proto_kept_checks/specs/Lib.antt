@@ -1,4 +1,0 @@
-pub mod Checked
-pub mod Extended
-pub mod Spared
-pub mod Values

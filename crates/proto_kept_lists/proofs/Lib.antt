@@ -1,4 +1,0 @@
-mod Merging
-mod Referring
-mod TakenBack
-pub mod WithValues

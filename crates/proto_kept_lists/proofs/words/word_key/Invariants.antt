@@ -1,6 +1,0 @@
-use Rattle.std.proofs.Common.{◌≡◌, take}
-use Rattle.proto_kept_lists.specs.Words.{word_key}
-use Rattle.proto_kept_lists.proofs.words.word_key.Given as goal
-
-abbrev pub invariant-loop-byte : goal.invariant-loop-byte
-invariant-loop-byte l = l.key ≡ word_key (take l.byte-index l.byte-items)

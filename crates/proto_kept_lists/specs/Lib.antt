@@ -1,4 +1,0 @@
-pub mod Merged
-pub mod Referred
-pub mod Undone
-pub mod Words

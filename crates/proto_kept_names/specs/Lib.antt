@@ -1,6 +1,0 @@
-pub mod Forgetting
-pub mod KeptImports
-pub mod NameLogs
-pub mod NamesOfFiles
-pub mod Renewal
-pub mod RenewedNames

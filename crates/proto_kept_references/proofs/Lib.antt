@@ -1,8 +1,0 @@
-mod Changes
-mod KindRows
-mod LastWords
-mod Marks
-pub mod References
-mod Renewing
-mod Rows
-mod Sights

@@ -1,9 +1,0 @@
-use Rattle.std.proofs.Common.{[], take}
-use Rattle.proto_kept_references.specs.Gathering.{AreRowsNamed, Gathers}
-use Rattle.proto_kept_references.proofs.gathering.Gathered.add_rows.Given as goal
-
-abbrev pub invariant-loop-one : goal.invariant-loop-one
-invariant-loop-one l = record {
-  gathers : Gathers l.initial.self l.self [];
-  named : AreRowsNamed l.self.rows.keys (take l.one-index l.meant);
-}

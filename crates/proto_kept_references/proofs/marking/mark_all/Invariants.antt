@@ -1,9 +1,0 @@
-use Rattle.std.proofs.Common.{take}
-use Rattle.proto_kept_references.specs.Marking.{AreReferencesMarked, MarksStay}
-use Rattle.proto_kept_references.proofs.marking.mark_all.Given as goal
-
-abbrev pub invariant-loop-reference : goal.invariant-loop-reference
-invariant-loop-reference l = record {
-  stay : MarksStay l.initial.marks.items l.marks.items;
-  marked : AreReferencesMarked l.marks.items (take l.reference-index l.references);
-}

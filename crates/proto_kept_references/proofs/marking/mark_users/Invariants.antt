@@ -1,9 +1,0 @@
-use Rattle.std.proofs.Common.{map, take}
-use Rattle.proto_kept_references.specs.Marking.{AreUsersMarked, MarksStay}
-use Rattle.proto_kept_references.proofs.marking.mark_users.Given as goal
-
-abbrev pub invariant-loop-row : goal.invariant-loop-row
-invariant-loop-row l = record {
-  stay : MarksStay l.initial.marks.items l.marks.items;
-  marked : AreUsersMarked l.marks.items (map (λ v. v.items) l.references) (take l.row-index l.rows);
-}

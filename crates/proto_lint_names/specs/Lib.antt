@@ -1,0 +1,11 @@
+pub mod BlockFinds
+pub mod Blocks
+pub mod Common
+pub mod Listings
+pub mod Methods
+pub mod NameRules
+pub mod Placed
+pub mod Readings
+pub mod RulesCommon
+pub mod Views
+pub mod Walks

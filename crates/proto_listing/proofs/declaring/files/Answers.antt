@@ -1,5 +1,0 @@
-use Rattle.proto_listing.proofs.declaring.files.Goals as goal
-use Rattle.proto_meaning.proofs.Files.{files_nested, files_woven}
-
-pub returns : goal.returns
-returns c = record { nested = files_nested; woven = files_woven }

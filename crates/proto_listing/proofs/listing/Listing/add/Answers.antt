@@ -1,6 +1,0 @@
-use Rattle.std.proofs.Common.{refl, arith}
-use Rattle.proto_listing.proofs.Growing.{adds_entry}
-use Rattle.proto_listing.proofs.listing.Listing.add.Goals as goal
-
-pub returns-clause-adds : goal.returns-clause-adds
-returns-clause-adds c = adds_entry c.args.entry c.in_ok-push.ensures.items refl (omega arith) c.requires.token

@@ -1,6 +1,0 @@
-use Rattle.proto_listing.proofs.Growing.{token_last}
-use Rattle.proto_listing.specs.Listing.{path_at, read}
-use Rattle.proto_listing.proofs.listing.Listing.name.Goals as goal
-
-pub add-requires : goal.add-requires
-add-requires c = record { within = c.requires; token = token_last (path_at (read c.args.self.now.declared.items) c.args.above) c.args.token }

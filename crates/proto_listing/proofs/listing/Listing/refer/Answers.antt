@@ -1,6 +1,0 @@
-use Rattle.std.proofs.Common.{refl, arith}
-use Rattle.proto_listing.proofs.Growing.{adds_use}
-use Rattle.proto_listing.proofs.listing.Listing.refer.Goals as goal
-
-pub returns : goal.returns
-returns c = adds_use (record { scope = c.args.scope; wants_message = c.args.wants_message; reference = c.args.reference }) refl c.in_ok-push.ensures.items (omega arith)

@@ -1,5 +1,0 @@
-use Rattle.proto_meaning.proofs.edits.deletes_field.Goals as goal
-use Rattle.proto_meaning.proofs.Deleted.{deleted_means, deleted_linked}
-
-pub returns : goal.returns
-returns c = record { means = deleted_means; linked = deleted_linked }

@@ -1,5 +1,0 @@
-use Rattle.std.proofs.Common.{rules}
-use Rattle.proto_meaning.proofs.kind.Kind.is_package.Goals as goal
-
-pub returns-in-Package : goal.returns-in-Package
-returns-in-Package c = search rules

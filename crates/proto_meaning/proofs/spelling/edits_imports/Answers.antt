@@ -1,5 +1,0 @@
-use Rattle.proto_meaning.proofs.spelling.edits_imports.Goals as goal
-use Rattle.proto_meaning.proofs.Shifted.{workspace_shifted}
-
-pub returns : goal.returns
-returns g c = workspace_shifted

@@ -1,7 +1,0 @@
-use Rattle.std.proofs.Common.{◌≡◌, map, drop}
-use Rattle.proto_parts.specs.Views.{field_of}
-use Rattle.proto_members.specs.Members.{has_field}
-use Rattle.proto_members.proofs.members.has_field.Given as goal
-
-abbrev pub invariant-loop-field : goal.invariant-loop-field
-invariant-loop-field l = has_field l.token (map field_of l.fields) ≡ has_field l.token (map field_of (drop l.field-index l.fields))

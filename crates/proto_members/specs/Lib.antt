@@ -1,3 +1,0 @@
-pub mod Common
-pub mod Members
-pub use Rattle.proto_scenes.specs.Blocks

@@ -1,0 +1,10 @@
+mod Changes
+mod KindRows
+mod LastWords
+mod Marks
+mod Merging
+pub mod References
+mod Referring
+mod Renewing
+mod Rows
+mod Sights

@@ -1,0 +1,43 @@
+use Rattle.std.proofs.Common.{◌≡◌, ◌⊎◌, ℕ, ◌&&◌, Bool, not, List, [], get_or, map, sym, ◌∙◌, ap, subst, inl, inr, arith}
+use Rattle.std.specs.Global.{Vec}
+use Rattle.std.specs.List.{Contains, list_all}
+use Rattle.std.proofs.lemmas.Bool.{cases_Bool}
+use Rattle.std.proofs.lemmas.List.{get_or-map}
+use Rattle.proto_names_table.specs.declared.ids.Meant.{Meant}
+use Rattle.proto_names_affected.specs.Sight.{HasLastWord, is_seen_at}
+use Rattle.proto_names_affected.proofs.Sights.{begins, kept_in_sight}
+use Rattle.proto_names_affected.proofs.sight.mark_one.Goals as goal
+
+pub returns-clause-marked : goal.returns-clause-marked
+returns-clause-marked c =
+    let t = c.args.sighted.table.now in
+    let file = c.args.file in
+    let rows : List (List ℕ) = map (λ v. v.items) c.args.sighted.rows.now in
+    let meant : List (List Meant) = map (λ v. v.items) c.args.sighted.meant.now in
+    let before : List (List Bool) = map (λ v. v.items) c.args.sighted.before.now in
+    let sees : List (List Bool) = map (λ v. v.items) c.args.sighted.sees.now in
+    let names = c.args.names.now in
+    let f = c.in_ok-foreign.foreign.keys in
+    let listed = get_or-map (λ (v : Vec ℕ). v.items) c.args.sighted.rows.now file c.index-sighted-place.result [] (omega (arith, c.requires.file, c.requires.rows)) in
+    let held = ap (λ (v : Vec ℕ). v.items) c.index-sighted-place.is in
+    let slice = c.deref.ensures.value in
+    let own : c.deref.result.now ≡ get_or rows file [] = cc in
+    let listed_meant = get_or-map (λ (v : Vec Meant). v.items) c.args.sighted.meant.now file c.index-sighted-place-2.result [] (omega (arith, c.requires.file, c.requires.meant)) in
+    let held_meant = ap (λ (v : Vec Meant). v.items) c.index-sighted-place-2.is in
+    let slice_meant = c.deref-3.ensures.value in
+    let ms : c.deref-3.result.now ≡ get_or meant file [] = cc in
+    let listed_seen = get_or-map (λ (v : Vec Bool). v.items) c.args.sighted.sees.now file c.index-sighted-place-3.result [] (omega (arith, c.requires.file, c.requires.sees)) in
+    let held_seen = ap (λ (v : Vec Bool). v.items) c.index-sighted-place-3.is in
+    let slice_seen = c.deref-2.ensures.value in
+    let seen : c.deref-2.result.now ≡ get_or sees file [] = cc in
+    let test = λ (s : List Bool) (xs : List Meant) (k : List ℕ). list_all (λ (m : Meant). is_seen_at t s m.row) xs && (not (begins xs k) && not (begins xs f)) in
+    let told : c.means_the_same-is_kept.result ≡ test (get_or sees file []) (get_or meant file []) names.keys.keys =
+    c.means_the_same-is_kept.ensures
+    ∙ ap (λ s. test s c.deref-3.result.now c.keys.result.now.keys) seen
+    ∙ ap (λ xs. test (get_or sees file []) xs c.keys.result.now.keys) ms
+    ∙ ap (λ k. test (get_or sees file []) (get_or meant file []) k.keys) c.keys.ensures in
+    elim (cases_Bool c.means_the_same-is_kept.result) [
+      | inl kept ↦ inr (kept_in_sight t (get_or meant file []) rows (get_or rows file []) (get_or before file []) (get_or sees file []) names.packages.keys names.keys.keys f (sym told ∙ kept)
+          (λ row there. subst (λ (xs : List ℕ). Contains xs row ⊎ HasLastWord t f row) own (c.in_ok-foreign.ensures row there)) c.requires.gathered)
+      | inr other ↦ inl (c.mark_unless.ensures.marked other)
+    ]

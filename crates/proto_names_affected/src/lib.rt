@@ -1,0 +1,15 @@
+//! The files that have to be looked at again once some are edited, and the lists of references to
+//! each name, renewed.
+#![tactic(auto)]
+
+mod backlinks;
+pub mod changed_files;
+pub mod gathering;
+pub mod laws;
+pub mod marking;
+pub mod outer_rows;
+pub mod renewed_references;
+mod shown_names;
+pub mod sight;
+
+pub use backlinks::renewed;

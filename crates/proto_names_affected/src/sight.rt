@@ -1,0 +1,180 @@
+//! The files that have to be looked at again for what they see, once some are edited.
+
+ghost use Rattle.std.specs.Prelude.{◌≡◌, ℕ, ◌<◌, ◌==◌, ◌&&◌, false, not, [], length, get_or, map, IfOk, OnOk};
+ghost use Rattle.std.specs.List.{All, list_all, list_any};
+ghost use Rattle.proto_names_affected.specs.Marking.{IsMarked, MarksStay};
+ghost use Rattle.proto_names_affected.specs.Sight.{IsGathered, IsNewlySeen, IsSightMarked, is_seen_at};
+ghost use Rattle.proto_names_table.specs.Tables.{IsTable};
+
+use crate::marking::begins_so;
+use crate::shown_names::{ShownNames, is_set, shown_names};
+use indexmap::IndexSet;
+use proto_base::NoMemory;
+use proto_names_table::Meant;
+use proto_names_table::table::Table;
+use std::alloc::Global;
+
+/// What a link has of files, which see others than before.
+#[derive(Clone, Copy)]
+pub struct Sighted<'a> {
+    /// The table of their names as they are now.
+    pub table: &'a Table,
+    /// For each file the rows of its declarations now.
+    pub rows: &'a [Vec<usize>],
+    /// For each file what its references mean, as they were.
+    pub meant: &'a [Vec<Meant>],
+    /// For each file the marks of the files that it saw.
+    pub before: &'a [Vec<bool>],
+    /// For each file the marks of the files that it sees.
+    pub sees: &'a [Vec<bool>],
+}
+
+/// Marks those of these files that have to be looked at again for what they see: that see no more
+/// what one of their references means; and those in which a reference begins with a word that has
+/// the key of the last word of a name in a file that one of them newly sees, unless the name stands
+/// right below a type's, or the file declares it itself. Refused for want of memory alone.
+pub fn mark_by_sight(
+    alloc: Global,
+    marks: &mut Vec<bool>,
+    sighted: Sighted,
+    files: &[u32],
+) -> Result<(), NoMemory>
+    requires table { IsTable sighted.table.now }
+    requires files { All (λ file. file < length marks.old.items) files.now }
+    requires rows { length sighted.rows.now ≡ length marks.old.items }
+    requires meant { length sighted.meant.now ≡ length marks.old.items }
+    requires before { length sighted.before.now ≡ length marks.old.items }
+    requires sees { length sighted.sees.now ≡ length marks.old.items }
+    ensures stay { OnOk result (MarksStay marks.old.items marks.new.items) }
+    ensures marked { OnOk result (All (IsSightMarked marks.new.items sighted.entry.table.now
+        (map (λ v. v.items) sighted.entry.rows.now) (map (λ v. v.items) sighted.entry.meant.now)
+        (map (λ v. v.items) sighted.entry.before.now)
+        (map (λ v. v.items) sighted.entry.sees.now)) files.now) }
+{
+    let seen = newly_seen(alloc, sighted, files)?;
+    let names = shown_names(alloc, sighted.table, sighted.rows, &seen)?;
+    for file in files {
+        mark_one(alloc, marks, sighted, &names, *file)?;
+    }
+    Ok(())
+}
+
+/// Marks of the files that one of these newly sees. Refused for want of memory alone.
+fn newly_seen(alloc: Global, sighted: Sighted, files: &[u32]) -> Result<Vec<bool>, NoMemory>
+    requires files { All (λ file. file < length sighted.rows.now) files.now }
+    requires before { length sighted.before.now ≡ length sighted.rows.now }
+    requires sees { length sighted.sees.now ≡ length sighted.rows.now }
+    ensures { IfOk result (λ marks. All (λ file. (g : ℕ) → g < length sighted.entry.rows.now
+        → IsNewlySeen (get_or (map (λ v. v.items) sighted.entry.before.now) file [])
+        (get_or (map (λ v. v.items) sighted.entry.sees.now) file []) g
+        → IsMarked marks.items g) files.now) }
+{
+    let mut marks = vec![in alloc; false; sighted.rows.len()]?;
+    for file in files {
+        let place = *file as usize;
+        mark_new(&mut marks, &sighted.before[place], &sighted.sees[place]);
+    }
+    Ok(marks)
+}
+
+/// Marks the files that are seen now and were not before.
+fn mark_new(marks: &mut Vec<bool>, before: &[bool], sees: &[bool])
+    ensures stay { MarksStay marks.old.items marks.new.items }
+    ensures marked { (file : ℕ) → file < length marks.old.items
+        → IsNewlySeen before.now sees.now file → IsMarked marks.new.items file }
+{
+    for file in 0..marks.len() {
+        mark_if_new(marks, file, before, sees);
+    }
+}
+
+/// Marks a file, if it is seen now and was not before.
+fn mark_if_new(marks: &mut Vec<bool>, file: usize, before: &[bool], sees: &[bool])
+    requires { file < length marks.old.items }
+    ensures stay { MarksStay marks.old.items marks.new.items }
+    ensures marked { IsNewlySeen before.now sees.now file → IsMarked marks.new.items file }
+{
+    if is_set(sees, file) && !is_set(before, file) {
+        marks[file] = true;
+    }
+}
+
+/// Marks a file, if it has to be looked at again for what it sees; with the names of all files that
+/// it newly sees. Refused for want of memory alone.
+fn mark_one(
+    alloc: Global,
+    marks: &mut Vec<bool>,
+    sighted: Sighted,
+    names: &ShownNames,
+    file: u32,
+) -> Result<(), NoMemory>
+    requires table { IsTable sighted.table.now }
+    requires file { file < length marks.old.items }
+    requires rows { length sighted.rows.now ≡ length marks.old.items }
+    requires meant { length sighted.meant.now ≡ length marks.old.items }
+    requires sees { length sighted.sees.now ≡ length marks.old.items }
+    requires within { All (λ row. row < length sighted.table.now.rows.items)
+        names.now.packages.keys }
+    requires gathered { (g : ℕ)
+        → IsNewlySeen (get_or (map (λ v. v.items) sighted.before.now) file [])
+        (get_or (map (λ v. v.items) sighted.sees.now) file []) g
+        → All (IsGathered sighted.table.now names.now.packages.keys names.now.keys.keys)
+        (get_or (map (λ v. v.items) sighted.rows.now) g []) }
+    ensures stay { OnOk result (MarksStay marks.old.items marks.new.items) }
+    ensures marked { OnOk result (IsSightMarked marks.new.items sighted.entry.table.now
+        (map (λ v. v.items) sighted.entry.rows.now) (map (λ v. v.items) sighted.entry.meant.now)
+        (map (λ v. v.items) sighted.entry.before.now)
+        (map (λ v. v.items) sighted.entry.sees.now) file) }
+{
+    let Sighted { table, .. } = sighted;
+    let place = file as usize;
+    let foreign = names.foreign_keys(alloc, table, &sighted.rows[place])?;
+    let meant = &sighted.meant[place];
+    let is_kept = means_the_same(table, &sighted.sees[place], meant, names.keys(), &foreign);
+    mark_unless(marks, place, is_kept);
+    Ok(())
+}
+
+/// Marks a file, unless it is kept.
+fn mark_unless(marks: &mut Vec<bool>, file: usize, is_kept: bool)
+    requires { file < length marks.old.items }
+    ensures stay { MarksStay marks.old.items marks.new.items }
+    ensures marked { is_kept ≡ false → IsMarked marks.new.items file }
+{
+    if !is_kept {
+        marks[file] = true;
+    }
+}
+
+/// Whether a file sees what its references mean, and none of them begins with a word of one of
+/// these keys.
+fn means_the_same(
+    table: &Table,
+    sees: &[bool],
+    meant: &[Meant],
+    keys: &IndexSet<u32>,
+    foreign: &IndexSet<u32>,
+) -> bool
+    ensures { result ≡ (list_all (λ m. is_seen_at table.now sees.now m.row) meant.now
+        && (not (list_any (λ m. list_any (λ k. m.first == k) keys.now.keys) meant.now)
+        && not (list_any (λ m. list_any (λ k. m.first == k) foreign.now.keys) meant.now))) }
+{
+    sees_all(table, sees, meant) && !begins_so(meant, keys) && !begins_so(meant, foreign)
+}
+
+/// Whether a file that sees these sees what its references mean.
+fn sees_all(table: &Table, sees: &[bool], meant: &[Meant]) -> bool
+    ensures { result ≡ list_all (λ m. is_seen_at table.now sees.now m.row) meant.now }
+{
+    meant.iter().all(|m| is_seen_at(table, sees, m.row))
+}
+
+/// Whether a file that declares the name of a row is seen.
+fn is_seen_at(table: &Table, sees: &[bool], row: usize) -> bool
+    ensures { result ≡ is_seen_at table.now sees.now row }
+{
+    match table.rows.get(row) {
+        Some(own) => own.is_seen(sees),
+        None => false,
+    }
+}

@@ -1,0 +1,16 @@
+use Rattle.std.proofs.Common.{◌<◌, length, get_or, subst, arith, take_all}
+use Rattle.proto_names_imports.specs.Walks.{Visits}
+use Rattle.proto_names_imports.proofs.Walks.{visit_step, visits_none}
+use Rattle.proto_names_imports.proofs.walk.visit.Goals as goal
+
+pub loop-file-init : goal.loop-file-init
+loop-file-init c = visits_none c.args.seen.now.items c.args.todo.now.items
+
+pub loop-file-preserved : goal.loop-file-preserved
+loop-file-preserved c =
+    let l : c.loop-file.file-index < length c.args.next.now = c.loop-file-test.true in
+    let within : get_or c.args.next.now c.loop-file.file-index 0 < length c.loop-file.seen.items = let r = c.requires c.loop-file.file-index 0 l in omega (arith, r, c.loop-file.invariant.sized) in
+    visit_step c.args.next.now c.loop-file.file-index c.args.seen.now.items c.args.todo.now.items c.loop-file.seen.items c.loop-file.todo.items c.mark.new.seen.items c.mark.new.todo.items l c.loop-file.invariant within c.in_ok-mark.ensures.old c.in_ok-mark.ensures.new
+
+pub returns : goal.returns
+returns c = subst (λ ns. Visits ns c.args.seen.now.items c.args.todo.now.items c.loop-file.seen.items c.loop-file.todo.items) (take_all c.loop-file.file-index c.args.next.now c.loop-file-test.false) c.loop-file.invariant

@@ -1,0 +1,7 @@
+use Rattle.std.proofs.Common.{arith}
+use Rattle.std.proofs.lemmas.Result.{on_ok_weaker}
+use Rattle.proto_names_outline.proofs.Growing.{adds_then}
+use Rattle.proto_names_outline.proofs.field_listing.list_map_field.Goals as goal
+
+pub returns : goal.returns
+returns c = on_ok_weaker c.list_type.result (λ types. adds_then c.in_ok-name.ensures.adds (adds_then c.in_ok-list_entry.ensures types (omega (arith, c.in_ok-name.ensures.adds.grown))) (omega arith)) c.list_type.ensures

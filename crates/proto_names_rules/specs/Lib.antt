@@ -1,0 +1,16 @@
+pub mod Beginnings
+pub mod Common
+pub mod Cycles
+pub mod Edits
+pub mod Faults
+pub mod Forest
+pub mod Grown
+pub mod Joined
+pub mod Kept
+pub mod Linked
+pub mod Marked
+pub mod Marks
+pub mod Names
+pub mod Sight
+pub mod Skeleton
+pub mod Tree

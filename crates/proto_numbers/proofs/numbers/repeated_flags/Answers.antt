@@ -1,5 +1,0 @@
-use Rattle.std.proofs.Common.{rules}
-use Rattle.proto_numbers.proofs.numbers.repeated_flags.Goals as goal
-
-pub returns : goal.returns
-returns c = search rules

@@ -1,4 +1,0 @@
--- What proofs of the crates above name of this crate, passed on from one place. Declares nothing.
-pub use Rattle.proto_output.specs.Answers.{status_of, printed_text}
-pub use Rattle.proto_output.specs.EditLines.{faulty_line}
-pub use Rattle.proto_output.specs.FaultLines.{IsLineOver}

@@ -1,7 +1,0 @@
-use Rattle.std.proofs.Common.{◌≡◌, drop}
-use Rattle.proto_files.proofs.Common.{files_of}
-use Rattle.proto_store.proofs.Common.{bytes_at}
-use Rattle.proto_output.proofs.locations.bytes_given.Given as goal
-
-abbrev pub invariant-loop-file : goal.invariant-loop-file
-invariant-loop-file l = bytes_at l.path (files_of l.files) ≡ bytes_at l.path (files_of (drop l.file-index l.files))

@@ -1,7 +1,0 @@
-use Rattle.std.proofs.Common.{◌≡◌, ◌++◌, map, drop}
-use Rattle.proto_tree.specs.File.{trees, method_item_tree}
-use Rattle.proto_parts.specs.Common.{options_in, option_of}
-use Rattle.proto_parts.proofs.option_statements.method_options.Given as goal
-
-abbrev pub invariant-loop-item : goal.invariant-loop-item
-invariant-loop-item l = map option_of l.found.items ++ options_in (trees method_item_tree (drop l.item-index l.items)) ≡ options_in (trees method_item_tree l.items)

@@ -1,5 +1,0 @@
-use Rattle.std.proofs.Common.{rules}
-use Rattle.proto_parts.proofs.scene.Scene.meaning.Goals as goal
-
-pub returns : goal.returns
-returns c = search rules

@@ -1,6 +1,0 @@
--- What proofs of this crate name of its own definitions, passed on from one place.
--- Declares nothing.
-pub use Rattle.proto_parts.specs.Options.{is_named}
-pub use Rattle.proto_parts.specs.Parts.{FieldOf, fields_from, fields_in, oneof_count, option_of_setting, options_in, separated, statement_fields, statements}
-pub use Rattle.proto_parts.specs.Scenes.{MeantOf, is_proto3, is_proto3_statement, text}
-pub use Rattle.proto_parts.specs.Views.{field_of, meant_of, option_of}

@@ -1,5 +1,0 @@
-use Rattle.proto_rename.specs.Occurrences.{AreOccurrencesOf}
-use Rattle.proto_rename.proofs.file_occurrences.all_occurrences.Given as goal
-
-abbrev pub invariant-loop-file : goal.invariant-loop-file
-invariant-loop-file l = AreOccurrencesOf l.sought.files.now l.sought.aim l.file l.all.items

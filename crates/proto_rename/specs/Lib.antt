@@ -1,9 +1,0 @@
-pub mod Cases
-pub mod ChangedFiles
-pub mod Changes
-pub mod Renames
-pub mod MadeChanges
-pub mod Occurrences
-pub mod StandingTokens
-pub mod Defaults
-pub mod Common

@@ -1,5 +1,0 @@
-use Rattle.proto_rename_described.proofs.EnumDefaults.{enum_defaults_fit}
-use Rattle.proto_rename_described.proofs.laws.enum_defaults_fit.Goals as goal
-
-pub returns : goal.returns
-returns c = enum_defaults_fit

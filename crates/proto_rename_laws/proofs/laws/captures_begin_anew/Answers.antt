@@ -1,5 +1,0 @@
-use Rattle.proto_rename_laws.proofs.Captures.{captures_begin_anew}
-use Rattle.proto_rename_laws.proofs.laws.captures_begin_anew.Goals as goal
-
-pub returns : goal.returns
-returns c = captures_begin_anew

@@ -1,5 +1,0 @@
-use Rattle.proto_rename_laws.proofs.Scenes.{scenes_are_apart}
-use Rattle.proto_rename_laws.proofs.laws.scenes_differ.Goals as goal
-
-pub returns : goal.returns
-returns c = scenes_are_apart

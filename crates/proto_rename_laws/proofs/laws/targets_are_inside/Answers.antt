@@ -1,5 +1,0 @@
-use Rattle.proto_rename_laws.proofs.Inside.{targets_are_inside}
-use Rattle.proto_rename_laws.proofs.laws.targets_are_inside.Goals as goal
-
-pub returns : goal.returns
-returns c = targets_are_inside

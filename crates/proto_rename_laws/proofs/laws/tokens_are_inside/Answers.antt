@@ -1,5 +1,0 @@
-use Rattle.proto_rename_laws.proofs.Inside.{tokens_are_inside}
-use Rattle.proto_rename_laws.proofs.laws.tokens_are_inside.Goals as goal
-
-pub returns : goal.returns
-returns c = tokens_are_inside

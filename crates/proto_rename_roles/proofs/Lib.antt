@@ -1,3 +1,0 @@
-mod EntryFields
-pub mod TokenRoles
-mod ValueMarks

@@ -1,8 +1,0 @@
-//! Laws of the definitions. None of these does anything.
-
-ghost use Rattle.proto_rules.specs.Laws.{IdentifiersRise};
-
-/// The order of rules is that of the bytes of their identifiers.
-pub fn identifiers_rise()
-    ensures { IdentifiersRise }
-{}

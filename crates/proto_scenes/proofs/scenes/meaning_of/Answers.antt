@@ -1,5 +1,0 @@
-use Rattle.std.proofs.Common.{rules}
-use Rattle.proto_scenes.proofs.scenes.meaning_of.Goals as goal
-
-pub returns-clause-meant : goal.returns-clause-meant
-returns-clause-meant c = search rules

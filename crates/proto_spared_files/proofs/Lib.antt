@@ -1,6 +1,0 @@
-mod EnumsByLink
-mod MeantStill
-mod StillEnums
-mod ToldMarks
-mod WantedEnums
-mod WantedMarks

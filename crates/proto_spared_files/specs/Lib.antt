@@ -1,4 +1,0 @@
-pub mod Common
-pub mod Kept
-pub mod Marks
-pub mod StillEnums

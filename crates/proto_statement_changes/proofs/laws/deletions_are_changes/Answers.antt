@@ -1,5 +1,0 @@
-use Rattle.proto_statement_changes.proofs.DeletionChanges.{deletions_are_changes}
-use Rattle.proto_statement_changes.proofs.laws.deletions_are_changes.Goals as goal
-
-pub returns : goal.returns
-returns c = deletions_are_changes c.deletions_are_of_one_tree.ensures.read

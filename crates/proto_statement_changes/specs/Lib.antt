@@ -1,3 +1,0 @@
-pub mod DeletionChanges
-pub mod ImportChanges
-pub mod OneFile

@@ -1,9 +1,0 @@
-use Rattle.proto_statement_deleted.proofs.Workspace.{Laws, deletions_are_mapped, no_fault_comes_in}
-use Rattle.proto_statement_deleted.proofs.laws.deletions_leave_files_clean.Goals as goal
-
-pub returns : goal.returns
-returns c =
-    let runs = c.runs_are_replaced.ensures in
-    let made = c.segments_are_made.ensures in
-    let laws : Laws = record { texts = record { replaced = runs.replaced; between = runs.between; join = made.join; space = made.space; token = made.token; before = made.before; quoted = made.quoted; decimal = made.decimal }; lexemes = c.statements_are_exchanged.ensures.tokens } in
-    record { faults = no_fault_comes_in laws; mapped = deletions_are_mapped laws }

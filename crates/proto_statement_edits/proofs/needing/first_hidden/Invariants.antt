@@ -1,6 +1,0 @@
-use Rattle.std.proofs.Common.{◌≡◌, drop, find, option_map}
-use Rattle.proto_statement_edits.specs.Steps.{first_hidden, is_hidden}
-use Rattle.proto_statement_edits.proofs.needing.first_hidden.Given as goal
-
-abbrev pub invariant-loop-meant : goal.invariant-loop-meant
-invariant-loop-meant l = first_hidden l.link l.file l.marks ≡ option_map (λ m. m.token) (find (λ m. is_hidden l.link l.marks m.row) (drop l.meant-index l.meant-items))

@@ -1,5 +1,0 @@
-pub mod Common
-pub mod MovedFiles
-pub mod OtherScenes
-pub mod Statements
-pub mod Workspaces

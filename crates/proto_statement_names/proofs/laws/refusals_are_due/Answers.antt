@@ -1,5 +1,0 @@
-use Rattle.proto_statement_names.proofs.Places.{needed_means_else, overtaken_means_else}
-use Rattle.proto_statement_names.proofs.laws.refusals_are_due.Goals as goal
-
-pub returns : goal.returns
-returns c = record { overtaken = overtaken_means_else c.adds_import.ensures.overtaken; needed = needed_means_else c.drops_import.ensures.needed }

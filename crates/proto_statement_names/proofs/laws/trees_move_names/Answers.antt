@@ -1,5 +1,0 @@
-use Rattle.proto_statement_names.proofs.MovedNames.{imports_move_names, trees_move_imports, trees_move_names}
-use Rattle.proto_statement_names.proofs.laws.trees_move_names.Goals as goal
-
-pub returns : goal.returns
-returns c = record { names = trees_move_names; imports = trees_move_imports; apart = imports_move_names }

@@ -1,0 +1,14 @@
+use Rattle.std.proofs.Common.{Ok, refl}
+use Rattle.protoref_commands.proofs.Recovered.{unrecovered_answers}
+use Rattle.protoref_commands.proofs.recovering.recover_answer.Goals as goal
+
+pub returns-in-Ok-clause-outcome : goal.returns-in-Ok-clause-outcome
+returns-in-Ok-clause-outcome g c = (Ok c.in-Ok.recovered, c.in-Ok.ensures.outcome, (refl, refl))
+
+pub returns-in-Err-clause-outcome : goal.returns-in-Err-clause-outcome
+returns-in-Err-clause-outcome g c =
+    unrecovered_answers (g.S.Store.holds c.args.store.now) (g.S.Store.holds c.recover.new.store) c.in-Err.fault c.plain_answer.result c.in-Err.ensures.outcome c.plain_answer.ensures.told
+
+pub returns-in-Err-clause-count : goal.returns-in-Err-clause-count
+returns-in-Err-clause-count g c =
+    c.plain_answer.ensures.count (g.S.Store.failure_count c.args.store.now) (g.S.Store.failure_count c.recover.new.store) c.in-Err.ensures.count
