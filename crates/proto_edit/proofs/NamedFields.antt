@@ -2,10 +2,9 @@
 use Rattle.std.proofs.Common.{◌≡◌, ℕ, ◌∙◌, List, sym, ap}
 use Rattle.proto_files.proofs.Common.{ReadOf, FileOf}
 use Rattle.proto_names_rules.specs.Grown.{At, at}
-use Rattle.proto_edit_rename_laws.specs.Targets.{Target}
-use Rattle.proto_edit_statement_laws.specs.DeletionChanges.{FieldAt}
+use Rattle.proto_edit_rules.specs.Rename.{Target}
+use Rattle.proto_edit_rules.specs.DeleteField.{FieldAt, IsFieldNamed}
 use Rattle.proto_edit_statement_described.specs.Workspaces.{AreFaultless}
-use Rattle.proto_edit_statements.specs.Edits.{IsFieldNamed}
 use Rattle.proto_edit.specs.StatementLaws.{StatementLaws}
 
 pub fields_are_one : StatementLaws → (files : List FileOf) (reads : List ReadOf) (name : List ℕ) (f g : FieldAt) → AreFaultless files reads → IsFieldNamed files reads name f → IsFieldNamed files reads name g → f ≡ g

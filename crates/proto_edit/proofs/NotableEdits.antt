@@ -22,8 +22,9 @@ use Rattle.proto_names_outline.proofs.Common.{items_in, last_token, whole, token
 use Rattle.proto_names_outline.proofs.ReadWords.{placed_worded}
 use Rattle.proto_names_imports.proofs.Common.{LinkFaults, names_in, of_import, text_of, name_in}
 use Rattle.proto_edit_rename_laws.proofs.Common.{not_an_identifier, IsNamed, Target, may_rename}
-use Rattle.proto_edit_statement_laws.specs.Cases.{IsImported, IsPlaceOf, asked_in, not_imported, unknown_path}
-use Rattle.proto_edit_statements.specs.Edits.{by_name}
+use Rattle.proto_edit_rules.specs.AddImport.{IsImported, asked_in, unknown_path, by_name}
+use Rattle.proto_edit_rules.specs.Statements.{IsPlaceOf}
+use Rattle.proto_edit_rules.specs.DropImport.{not_imported}
 use Rattle.proto_desc.specs.Whole.{of_link}
 use Rattle.proto_edit_entries.proofs.Common.{ChangeOf, IsDotted, IsNotable}
 use Rattle.proto_edit.specs.Common.{AreCompiled, Asked, ChangesOf, IsAdmissible, add_import, delete_field, drop_import, rename, AcceptedAreNotable}

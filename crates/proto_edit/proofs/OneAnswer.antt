@@ -7,15 +7,14 @@ use Rattle.proto_desc.specs.Whole.{of_link}
 use Rattle.proto_edit_entries.proofs.Common.{ChangeOf, IsPut, puts_are_once}
 use Rattle.proto_edit_rename_laws.proofs.Common.{Captures, IsFirstPlace, changes_of_words, Target, IsNamed, name_map, renamed_words, targets_are_one}
 use Rattle.proto_edit_rename_laws.proofs.FirstPlaces.{first_places_are_one}
-use Rattle.proto_edit_rename_described.specs.Mapped.{mapped}
-use Rattle.proto_edit_rename_described.specs.Renamed.{AreRenamed}
+use Rattle.proto_edit_rules.specs.Rename.{mapped, AreRenamed}
 use Rattle.proto_edit_rename_described.proofs.WrittenJson.{written_once}
 use Rattle.proto_edit.specs.Common.{AreCompiled, DescribedOnce, MappedOnce, RefusedOnce, StepsAreUndone, StepsOnce, Asked, rename, delete_field, add_import, drop_import, AreChanges, ChangesOf, IsLeastCase, IsCaseAt, Maps, PlaceOf, StatementLaws}
 use Rattle.proto_edit_statement_laws.proofs.ChangesCommon.{FieldAt, changes_of_deletion, IsImportOf, changes_of_addition, changes_of_drop}
-use Rattle.proto_edit_statement_described.specs.Files.{tree_at}
-use Rattle.proto_edit_statement_described.specs.Imports.{with_dependency, without_dependency}
-use Rattle.proto_edit_statement_described.specs.Lists.{changed_at}
-use Rattle.proto_edit_statement_described.specs.Mapped.{mapped_deletion}
+use Rattle.proto_edit_rules.specs.Statements.{tree_at, changed_at}
+use Rattle.proto_edit_rules.specs.AddImport.{with_dependency}
+use Rattle.proto_edit_rules.specs.DropImport.{without_dependency}
+use Rattle.proto_edit_rules.specs.DeleteField.{mapped_deletion}
 use Rattle.proto_tree.specs.declared.tree.Import.{Import}
 use Rattle.proto_edit.proofs.GivenAgain.{compiled_are_read}
 use Rattle.proto_edit.proofs.NamedFields.{fields_are_one}

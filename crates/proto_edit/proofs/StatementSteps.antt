@@ -11,10 +11,11 @@ use Rattle.proto_edit_rename_described.proofs.CleanFiles.{file_is_text}
 use Rattle.proto_tree.specs.declared.tree.Import.{Import}
 use Rattle.proto_edit_statement_laws.proofs.ChangesCommon.{FieldAt, changes_of_deletion, IsImportOf, changes_of_addition, changes_of_drop}
 use Rattle.proto_edit_statement_described.specs.Workspaces.{AreFaultless, IsMade}
-use Rattle.proto_edit_statement_laws.specs.Cases.{IsPlaceOf}
+use Rattle.proto_edit_rules.specs.Statements.{IsPlaceOf}
 use Rattle.proto_edit_statement_described.specs.Workspace.{IsAllowedDeletion}
 use Rattle.proto_edit.specs.Common.{AreCompiled, StatementLaws, AreMapped, Asked, ChangesOf, IsAdmissible, IsMappedStep, add_import, delete_field, drop_import}
-use Rattle.proto_edit_statements.specs.Edits.{IsFieldNamed, by_name, too_large}
+use Rattle.proto_edit_rules.specs.DeleteField.{IsFieldNamed, by_name, too_large}
+use Rattle.proto_edit_rules.specs.AddImport.{by_name as import_by_name, too_large as import_too_large}
 
 -- ---- files that compile, and files without a fault
 
@@ -88,8 +89,8 @@ module _ (laws : StatementLaws) (files : List FileOf) (reads : List ReadOf) (com
       let m = laws.added files reads file path k (record {
         faultless = faultless;
         at = at;
-        free = λ n c. admissible n (reads, read, by_name n c);
-        short = λ long. admissible 16 (reads, read, too_large k at long);
+        free = λ n c. admissible n (reads, read, import_by_name n c);
+        short = λ long. admissible 16 (reads, read, import_too_large k at long);
       }) in
       (m.0, step_of files reads (add_import file path) (changes_of_addition files reads k path) k _ m.0 m.1 read admissible (k, at, refl) m.2 (λ ds new old later. (reads, read, (k, at, m.2.described ds new old later))), m.2.entry)
 
@@ -107,7 +108,7 @@ module _ (laws : StatementLaws) (files : List FileOf) (reads : List ReadOf) (com
       (f.0, record { t = f.1.target; field = f.1.field; token = f.1.token; stands = f.1.stands })
 
   pub file_of : (file path : List ℕ) → IsAdmissible files (add_import file path) → (k : ℕ) × IsPlaceOf files file k
-  file_of file path admissible = laws.files files reads file path (λ n c. admissible n (reads, read, by_name n c))
+  file_of file path admissible = laws.files files reads file path (λ n c. admissible n (reads, read, import_by_name n c))
 
   pub import_of : (file path : List ℕ) → IsAdmissible files (drop_import file path) → (k : ℕ) × (i : Import) × IsPlaceOf files file k × IsImportOf files reads k path i
   import_of file path admissible = laws.imports files reads file path read (λ n c. admissible n (reads, read, c))

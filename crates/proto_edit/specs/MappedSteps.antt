@@ -5,9 +5,8 @@ use Rattle.proto_base.specs.Texts.{Path, Text}
 use Rattle.proto_files.specs.FilesRead.{ReadOf, AreRead}
 use Rattle.proto_files.specs.GivenFiles.{FileOf}
 use Rattle.proto_edit_entries.specs.Entries.{ChangeOf, IsEntry}
-use Rattle.proto_edit_rename_laws.specs.Changes.{changes_of_words}
+use Rattle.proto_edit_rules.specs.Rename.{changes_of_words, Target, IsNamed, renamed_words}
 use Rattle.proto_edit_rename_laws.specs.Rewording.{AreReworded}
-use Rattle.proto_edit_rename_laws.specs.Targets.{Target, IsNamed, renamed_words}
 use Rattle.proto_edit.specs.Compiled.{AreCompiled}
 use Rattle.proto_edit.specs.Workspaces.{IsAdmissible, IsMappedStep, add_import, delete_field, drop_import, rename}
 

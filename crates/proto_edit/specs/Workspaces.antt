@@ -13,18 +13,11 @@ use Rattle.proto_edit_entries.specs.Entries.{ChangeOf, inverted}
 use Rattle.proto_edit_entries.specs.Putting.{IsPut}
 use Rattle.proto_edit_entries.specs.RefusalTable.{refusal_number}
 use Rattle.proto_edit_entries.specs.declared.refusal.Refusal.TheVariants as refusal
-use Rattle.proto_edit_rename_laws.specs.Cases.{Captures, IsFirstPlace, RenameCase}
-use Rattle.proto_edit_rename_laws.specs.Changes.{changes_of_words}
-use Rattle.proto_edit_rename_laws.specs.Targets.{Target, IsNamed, renamed_words}
-use Rattle.proto_edit_rename_described.specs.Renamed.{AreRenamed}
-use Rattle.proto_edit_statement_laws.specs.DeletionChanges.{FieldAt, changes_of_deletion}
-use Rattle.proto_edit_statement_laws.specs.ImportChanges.{IsImportOf, changes_of_addition, changes_of_drop}
-use Rattle.proto_edit_statement_described.specs.Files.{tree_at}
-use Rattle.proto_edit_statement_described.specs.Imports.{with_dependency, without_dependency}
-use Rattle.proto_edit_statement_described.specs.Lists.{changed_at}
-use Rattle.proto_edit_statement_described.specs.Mapped.{mapped_deletion}
-use Rattle.proto_edit_statements.specs.Edits.{IsFieldNamed, RefusesAddition, RefusesDeletion}
-use Rattle.proto_edit_statement_laws.specs.Cases.{DropCase, IsNeededAt, IsOvertakenAt, IsPlaceOf as IsFileAt}
+use Rattle.proto_edit_rules.specs.Rename.{Captures, IsFirstPlace, RenameCase, changes_of_words, Target, IsNamed, renamed_words, AreRenamed}
+use Rattle.proto_edit_rules.specs.DeleteField.{FieldAt, changes_of_deletion, mapped_deletion, IsFieldNamed, RefusesDeletion}
+use Rattle.proto_edit_rules.specs.DropImport.{IsImportOf, changes_of_drop, without_dependency, DropCase, IsNeededAt}
+use Rattle.proto_edit_rules.specs.AddImport.{changes_of_addition, with_dependency, RefusesAddition, IsOvertakenAt}
+use Rattle.proto_edit_rules.specs.Statements.{tree_at, changed_at, IsPlaceOf as IsFileAt}
 use Rattle.proto_tree.specs.declared.tree.Import.{Import}
 use Rattle.proto_edit.specs.Compiled.{AreCompiled}
 

@@ -5,6 +5,5 @@ pub use Rattle.proto_edit_captures.proofs.NoLinkFault.{files_are_linked, files_a
 pub use Rattle.proto_edit_captures.proofs.OneTarget.{place_last}
 pub use Rattle.proto_edit_captures.specs.Aims.{IsAimOf, IsAimedAt, IsNoTarget}
 pub use Rattle.proto_edit_captures.specs.CapturedPlaces.{IsCapturedPlace, RefusalStandsAtToken}
-pub use Rattle.proto_edit_captures.specs.Cases.{IsFirstPlace, IsUnknown, ReservesWord, StandsBefore}
+pub use Rattle.proto_edit_rules.specs.Rename.{IsFirstPlace, IsUnknown, ReservesWord, StandsBefore, HasEnum, IsEnumOf, Target}
 pub use Rattle.proto_edit_captures.specs.SceneOf.{is_enum_at, scene_of}
-pub use Rattle.proto_edit_captures.specs.Targets.{HasEnum, IsEnumOf, Target}

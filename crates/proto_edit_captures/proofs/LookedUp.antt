@@ -5,7 +5,7 @@ use Rattle.proto_names_rules.specs.declared.kind.Kind.{Kind}
 use Rattle.proto_names_rules.specs.declared.kind.Kind.TheVariants.{Package, Message, Entry, Enum, Service, Field, EntryField, Oneof, Value, Method, Extension}
 use Rattle.proto_names_rules.proofs.Common.{At, at, is_package}
 use Rattle.proto_names.specs.Linking.{LinkOf, NameOf, name_at, name_text}
-use Rattle.proto_edit_rename_laws.specs.Targets.{may_rename}
+use Rattle.proto_edit_rules.specs.Rename.{may_rename}
 use Rattle.proto_edit_captures.specs.Looked.{HasDeclared, HasUnmoved, IsEntryThere, first_place}
 
 pub named_by : (o : Option NameOf) (text : List ℕ) → option_map (λ (n : NameOf). n.text) o ≡ Some text → (n : NameOf) × (o ≡ Some n) × (n.text ≡ text)

@@ -8,8 +8,7 @@ use Rattle.proto_names_rules.specs.Grown.{at}
 use Rattle.proto_names_rules.specs.Joined.{joined}
 use Rattle.proto_names_rules.specs.Names.{Symbol}
 use Rattle.proto_names_imports.specs.Links.{names_of_files, text_of}
-use Rattle.proto_edit_rename_laws.specs.Cases.{IsUnknown}
-use Rattle.proto_edit_rename_laws.specs.Targets.{Target, IsNamed, may_rename}
+use Rattle.proto_edit_rules.specs.Rename.{IsUnknown, Target, IsNamed, may_rename}
 use Rattle.proto_edit_captures.specs.declared.aim.Aim.{Aim}
 use Rattle.proto_edit_captures.specs.declared.aim.NoTarget.{NoTarget}
 use Rattle.proto_edit_captures.specs.declared.aim.NoTarget.TheVariants.{Unknown, NotAllowed, NoMemory}

@@ -17,8 +17,7 @@ use Rattle.proto_names_imports.specs.Links.{uses_of}
 use Rattle.proto_names.specs.Linking.{LinkOf, name_text}
 use Rattle.proto_names.specs.Linking.{RefId}
 use Rattle.proto_names.specs.Linking.{Meant}
-use Rattle.proto_edit_rename_laws.specs.Cases.{Captures, StandsBefore}
-use Rattle.proto_edit_rename_laws.specs.Targets.{Target, IsNamed, name_map}
+use Rattle.proto_edit_rules.specs.Rename.{Captures, StandsBefore, Target, IsNamed, name_map}
 use Rattle.proto_edit_captures.specs.Capturing.{captures_use}
 use Rattle.proto_edit_captures.specs.NewTexts.{NewTexts, texts_by}
 

@@ -11,6 +11,5 @@ pub mod CapturedPlaces
 pub mod Collisions
 pub mod Looked
 pub mod Common
-pub use Rattle.proto_edit_rename_laws.specs.Cases
 pub use Rattle.proto_edit_rename_laws.specs.Targets
 pub use Rattle.proto_edit_rename_laws.specs.SceneOf

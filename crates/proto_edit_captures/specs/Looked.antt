@@ -5,7 +5,7 @@ use Rattle.proto_names_rules.specs.Grown.{At, at}
 use Rattle.proto_names_rules.specs.declared.kind.Kind.{Kind}
 use Rattle.proto_names_rules.specs.declared.kind.Kind.TheVariants.{Entry}
 use Rattle.proto_names.specs.Linking.{LinkOf, NameOf, name_at, name_text}
-use Rattle.proto_edit_rename_laws.specs.Targets.{may_rename}
+use Rattle.proto_edit_rules.specs.Rename.{may_rename}
 use Rattle.proto_edit_captures.specs.declared.aim.NoTarget.{NoTarget}
 use Rattle.proto_edit_captures.specs.declared.aim.NoTarget.TheVariants.{Unknown, NotAllowed, NoMemory}
 

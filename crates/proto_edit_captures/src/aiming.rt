@@ -10,7 +10,7 @@ ghost use Rattle.proto_names_rules.specs.Linked.{is_package};
 ghost use Rattle.proto_names.specs.LinkOfFiles.{IsLinkOf};
 ghost use Rattle.proto_names.specs.Linking.{NameOf, name_at};
 ghost use Rattle.proto_edit_rename_laws.specs.Inside.{IsInside};
-ghost use Rattle.proto_edit_rename_laws.specs.Targets.{may_rename};
+ghost use Rattle.proto_edit_rules.specs.Rename.{may_rename};
 ghost use Rattle.proto_edit_captures.specs.Aims.{IsAimOf, IsNoTarget, IsSpelled};
 ghost use Rattle.proto_edit_captures.specs.Looked.{HasDeclared, IsEntryThere, IsNotDeclared, first_place};
 

@@ -6,7 +6,7 @@ ghost use Rattle.proto_files.specs.FilesRead.{ReadOf, AreRead};
 ghost use Rattle.proto_names_imports.specs.Links.{LinkFaults, names_of_files};
 ghost use Rattle.proto_names_rules.specs.Edits.{Collides};
 ghost use Rattle.proto_names.specs.LinkOfFiles.{IsLinkOf};
-ghost use Rattle.proto_edit_rename_laws.specs.Targets.{Target, name_map};
+ghost use Rattle.proto_edit_rules.specs.Rename.{Target, name_map};
 ghost use Rattle.proto_edit_captures.specs.Aims.{IsAimOf, IsAimedAt};
 ghost use Rattle.proto_edit_captures.specs.Collisions.{IsOneTaken, IsTakenText, is_freed};
 ghost use Rattle.proto_edit_captures.specs.Looked.{HasText};

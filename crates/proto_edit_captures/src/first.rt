@@ -10,7 +10,7 @@ ghost use Rattle.proto_names_imports.specs.Links.{LinkFaults, names_of_files};
 ghost use Rattle.proto_names_outline.specs.Listing.{IsSound};
 ghost use Rattle.proto_names_rules.specs.Edits.{Collides};
 ghost use Rattle.proto_names.specs.LinkOfFiles.{IsLinkOf};
-ghost use Rattle.proto_edit_rename_laws.specs.Targets.{Target, name_map};
+ghost use Rattle.proto_edit_rules.specs.Rename.{Target, name_map};
 ghost use Rattle.proto_edit_captures.specs.Aims.{IsAimOf, IsAimedAt};
 ghost use Rattle.proto_text.specs.Texts.{word_at};
 ghost use Rattle.proto_text.specs.Words.{is_run};

@@ -4,7 +4,7 @@ ghost use Rattle.std.specs.Prelude.{◌≡◌, ◌↔◌, IsTrue, List};
 ghost use Rattle.proto_files.specs.FilesRead.{ReadOf, AreRead};
 ghost use Rattle.proto_names_imports.specs.Links.{text_of};
 ghost use Rattle.proto_names_rules.specs.Grown.{at};
-ghost use Rattle.proto_edit_rename_laws.specs.Cases.{is_keyword_of};
+ghost use Rattle.proto_edit_rules.specs.Rename.{is_keyword_of};
 ghost use Rattle.proto_edit_captures.specs.Aims.{IsAimOf};
 
 use crate::aim::Aim;

@@ -11,7 +11,7 @@ use Rattle.proto_names_rules.specs.Tree.{Placed, file_placed}
 use Rattle.proto_names_outline.specs.FromTree.{items_in}
 use Rattle.proto_ast.specs.Parts.{BlockOf, FieldOf, blocks_in, fields_in, values_in}
 use Rattle.proto_desc_checks_laws.proofs.Common.{IsDeclared, blocks_are_declared}
-use Rattle.proto_edit_captures.specs.Cases.{HasMember}
+use Rattle.proto_edit_rules.specs.Rename.{HasMember}
 use Rattle.proto_edit_rename.specs.MembersCommon.{may_hold, fields_by, has_field, has_member, has_value}
 
 -- ---- members

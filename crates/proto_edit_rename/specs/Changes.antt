@@ -8,11 +8,7 @@ use Rattle.proto_names_rules.specs.Grown.{At, at}
 use Rattle.proto_names_rules.specs.Joined.{joined, ArePlain}
 use Rattle.proto_edit_entries.specs.Entries.{ChangeOf}
 use Rattle.proto_names_imports.specs.Links.{link_skeleton, text_of}
-use Rattle.proto_edit_rename_laws.specs.Changes.{IsRewordedTooLong, change_by, changes_of_words, splices_in}
-use Rattle.proto_edit_rename_laws.specs.Defaults.{fields_of_file, renamed_default, renamed_defaults}
-use Rattle.proto_edit_rename_laws.specs.Places.{renamed_places}
-use Rattle.proto_edit_rename_laws.specs.Rewording.{NewWords}
-use Rattle.proto_edit_rename_laws.specs.Targets.{Target, name_map, renamed_words}
+use Rattle.proto_edit_rules.specs.Rename.{IsRewordedTooLong, change_by, changes_of_words, splices_in, fields_of_file, renamed_default, renamed_defaults, renamed_places, NewWords, Target, name_map, renamed_words}
 use Rattle.proto_edit_entries.specs.declared.entry.Change.{Change}
 use Rattle.proto_edit_rename.specs.MadeChanges.{IsFileChange}
 use Rattle.proto_edit_rename.specs.declared.changing.RewordFault.{RewordFault}

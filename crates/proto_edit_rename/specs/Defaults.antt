@@ -8,7 +8,7 @@ use Rattle.proto_tree.specs.declared.tree.FieldType.TheVariants as field_type
 use Rattle.proto_tree.specs.References.{first_of}
 use Rattle.proto_names.specs.Linking.{LinkOf, meant_at, name_text}
 use Rattle.proto_ast.specs.Parts.{BlockOf, FieldOf}
-use Rattle.proto_edit_rename_laws.specs.Defaults.{default_words, fields_of_block}
+use Rattle.proto_edit_rules.specs.Rename.{default_words, fields_of_block}
 use Rattle.proto_edit_rename.specs.declared.defaults.Asked.{Asked}
 
 -- the text of the name that the reference with this first token means

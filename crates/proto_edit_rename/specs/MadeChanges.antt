@@ -10,8 +10,7 @@ use Rattle.proto_files.specs.FilesRead.{ReadOf, AreRead}
 use Rattle.proto_names_rules.specs.Grown.{at}
 use Rattle.proto_edit_entries.specs.Entries.{change_of}
 use Rattle.proto_edit_entries.specs.declared.entry.Change.{Change}
-use Rattle.proto_edit_rename_laws.specs.Changes.{splices_in, IsRewordedTooLong, change_by}
-use Rattle.proto_edit_rename_laws.specs.Rewording.{NewWords}
+use Rattle.proto_edit_rules.specs.Rename.{splices_in, IsRewordedTooLong, change_by, NewWords}
 use Rattle.proto_edit_rename.specs.declared.changing.RewordFault.{RewordFault}
 use Rattle.proto_edit_rename.specs.declared.changing.RewordFault.TheVariants.{TooLarge, NoMemory}
 

@@ -8,7 +8,7 @@ use Rattle.proto_files.specs.GivenFiles.{FileOf}
 use Rattle.proto_names_imports.specs.Links.{names_of_files}
 use Rattle.proto_names_rules.specs.Joined.{joined}
 use Rattle.proto_names_rules.specs.Names.{Symbol}
-use Rattle.proto_edit_rename_laws.specs.Targets.{Target, IsNamed, may_rename, renamed_words}
+use Rattle.proto_edit_rules.specs.Rename.{Target, IsNamed, may_rename, renamed_words}
 use Rattle.proto_edit_captures.specs.Aims.{IsAimedAt}
 use Rattle.proto_edit_captures.specs.declared.aim.Aim.{Aim}
 use Rattle.proto_edit_rename.specs.Changes.{ArePlacesIn}

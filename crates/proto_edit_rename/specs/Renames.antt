@@ -8,9 +8,7 @@ use Rattle.proto_edit_entries.specs.declared.refusal.Refusal.{Refusal}
 use Rattle.proto_edit_entries.specs.declared.refusal.Refusal.TheVariants as refusal
 use Rattle.proto_edit_entries.specs.Entries.{ChangeOf}
 use Rattle.proto_edit_entries.specs.RefusalTable.{refusal_number}
-use Rattle.proto_edit_rename_laws.specs.Cases.{Captures, IsFirstPlace, RenameCase}
-use Rattle.proto_edit_rename_laws.specs.Changes.{changes_of_words}
-use Rattle.proto_edit_rename_laws.specs.Targets.{Target, IsNamed, renamed_words}
+use Rattle.proto_edit_rules.specs.Rename.{Captures, IsFirstPlace, RenameCase, changes_of_words, Target, IsNamed, renamed_words}
 
 -- case n refuses the rename
 abbrev pub IsRenameCase : List FileOf → Text → Text → ℕ → Type 0

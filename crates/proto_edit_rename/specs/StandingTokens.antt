@@ -12,8 +12,7 @@ use Rattle.proto_names_rules.specs.Grown.{at}
 use Rattle.proto_names_imports.specs.Links.{text_of, link_skeleton}
 use Rattle.proto_names.specs.Linking.{LinkOf, name_text}
 use Rattle.proto_names.specs.Linking.{Meant}
-use Rattle.proto_edit_rename_laws.specs.Places.{standing}
-use Rattle.proto_edit_rename_laws.specs.Targets.{Target, name_map}
+use Rattle.proto_edit_rules.specs.Rename.{standing, Target, name_map}
 use Rattle.proto_edit_captures.specs.Aims.{IsAimedAt}
 use Rattle.proto_edit_captures.specs.declared.aim.Aim.{Aim}
 

@@ -11,7 +11,7 @@ ghost use Rattle.proto_ast.specs.Options.{is_named};
 ghost use Rattle.proto_ast.specs.Scenes.{text};
 ghost use Rattle.proto_ast.specs.Views.{field_of, option_of};
 ghost use Rattle.proto_edit_rename_laws.specs.Renamed.{constant_tokens};
-ghost use Rattle.proto_edit_rename_laws.specs.Defaults.{fields_of_file, renamed_default};
+ghost use Rattle.proto_edit_rules.specs.Rename.{fields_of_file, renamed_default};
 ghost use Rattle.proto_edit_rename.specs.Blocks.{block_of};
 ghost use Rattle.proto_edit_rename.specs.Defaults.{asked_defaults, asked_type, defaults_in, is_found_name, spelled, text_meant};
 

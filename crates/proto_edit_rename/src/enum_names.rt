@@ -7,7 +7,7 @@ ghost use Rattle.proto_files.specs.FilesRead.{AreRead, ReadOf};
 ghost use Rattle.proto_names_rules.specs.Joined.{joined};
 ghost use Rattle.proto_names_rules.specs.declared.kind.Kind.TheVariants.{Value};
 ghost use Rattle.proto_resolved.specs.Blocks.{block_of, holders_in};
-ghost use Rattle.proto_edit_captures.specs.Targets.{Target};
+ghost use Rattle.proto_edit_rules.specs.Rename.{Target};
 ghost use Rattle.proto_edit_captures.specs.Aims.{IsAimOf, IsAimedAt};
 ghost use Rattle.proto_edit_rename.specs.Members.{holds_value, name_token};
 

@@ -4,8 +4,7 @@ ghost use Rattle.std.specs.Prelude.{◌≡◌, ◌↔◌, List, map, IfOk, IsTru
 ghost use Rattle.std.specs.List.{list_any};
 ghost use Rattle.proto_files.specs.FilesRead.{AreRead, ReadOf};
 ghost use Rattle.proto_ast.specs.Views.{field_of};
-ghost use Rattle.proto_edit_rename_laws.specs.Cases.{JsonNameClashes};
-ghost use Rattle.proto_edit_rename_laws.specs.Targets.{Target};
+ghost use Rattle.proto_edit_rules.specs.Rename.{JsonNameClashes, Target};
 ghost use Rattle.proto_edit_captures.specs.Aims.{IsAimOf, IsAimedAt};
 ghost use Rattle.proto_edit_rename.specs.Blocks.{block_of};
 ghost use Rattle.proto_edit_rename.specs.Members.{clash_in, fields_clash, is_made, is_other};

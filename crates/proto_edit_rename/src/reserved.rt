@@ -6,8 +6,7 @@ ghost use Rattle.proto_tree.specs.File.{enum_item_tree, member_tree, trees};
 ghost use Rattle.proto_files.specs.FilesRead.{AreRead, ReadOf};
 ghost use Rattle.proto_ast.specs.Parts.{fields_in, reserved_names_in, values_in};
 ghost use Rattle.proto_resolved.specs.Blocks.{block_of};
-ghost use Rattle.proto_edit_captures.specs.Cases.{ReservesWord};
-ghost use Rattle.proto_edit_captures.specs.Targets.{Target};
+ghost use Rattle.proto_edit_rules.specs.Rename.{ReservesWord, Target};
 ghost use Rattle.proto_edit_captures.specs.Aims.{IsAimOf, IsAimedAt};
 ghost use Rattle.proto_edit_rename.specs.Members.{has_field, has_value, reserves, says_word};
 

@@ -5,7 +5,7 @@ use Rattle.proto_descriptors.specs.Descriptors.{FieldDesc}
 use Rattle.proto_descriptors.specs.declared.field.FieldType.TheVariants as field_type
 use Rattle.proto_descriptors.specs.declared.field.Label.TheVariants as label
 use Rattle.proto_edit_rename_laws.proofs.Common.{is_value_keyword, stands}
-use Rattle.proto_edit_rename_described.specs.Mapped.{Taken, mapped_default, mapped_field, mapped_name, word_under}
+use Rattle.proto_edit_rules.specs.Rename.{Taken, mapped_default, mapped_field, mapped_name, word_under}
 
 -- a map field whose new name is that of its old entry
 map_field : Renaming

@@ -16,7 +16,7 @@ use Rattle.proto_desc_numbers.specs.declared.flaw.Flaw.{Flaw}
 use Rattle.proto_desc_checks_laws.specs.Renamed.{DifferInNames, asked_tokens, block_tokens, field_tokens, header_tokens, message_tokens, option_tokens, scalar_tokens}
 use Rattle.proto_desc_extensions.specs.Common.{ExtensionOf, block_extensions, extendee_in, extensions_in, extensions_of, is_message_at, name_meant, extension_ranges_at, ranges_at_place, ranges_named, ranges_within, workspace_flaws}
 use Rattle.proto_desc_extensions.proofs.MovedExtensions.{AreMoved, moved_extension, moved_flaw, workspace_moved}
-use Rattle.proto_edit_rename_laws.specs.Rewording.{NewWords}
+use Rattle.proto_edit_rules.specs.Rename.{NewWords}
 use Rattle.proto_edit_rename_laws.specs.Scenes.{IsRename}
 use Rattle.proto_edit_rename_laws.proofs.Common.{declared_as, meaning_of, scene_of, declared_stays, find_there, from_flat_map, meaning_after, scenes_are_apart, to_flat_map, trees_at, used_here, uses_stay, values_stay}
 use Rattle.proto_edit_rename_laws.proofs.Scenes.{index_past}

@@ -22,7 +22,7 @@ use Rattle.proto_ast.proofs.Common.{value_named, BlockOf, FieldOf, blocks_in, fi
 use Rattle.proto_desc_checks_laws.proofs.Common.{DifferInNames, asked_tokens, block_tokens, field_tokens, header_tokens, option_tokens, oneof_field}
 use Rattle.proto_desc_checks_laws.proofs.Outermost.{no_map_field, no_oneof}
 use Rattle.proto_desc_build.specs.Described.{default_text, field_type_name, is_map, type_name_of}
-use Rattle.proto_edit_rename_laws.specs.Defaults.{fields_of_block}
+use Rattle.proto_edit_rules.specs.Rename.{fields_of_block}
 use Rattle.proto_edit_rename_laws.proofs.Places.{to_flat_map}
 use Rattle.proto_edit_rename_described.specs.Common.{Taken, dotted_text as behind_dots, mapped_default, EntryTurns, EnumTurns, ExtensionTurns, FieldTurns, MessageTurns, MethodsTurn, Turned, Turns, full, is_target, written_json}
 use Rattle.proto_edit_rename_described.proofs.FileStays.{enum_options_stay, enum_reserved_stays, extensions_stay, field_stays, field_tokens_kept, key_type_stays, message_options_stay, method_options_stay, reserved_stays, service_options_stay, value_number_stays, value_options_stay, value_tokens_kept, value_type_stays}

@@ -6,7 +6,7 @@ use Rattle.proto_ast.proofs.Common.{text_option, BlockOf, FieldOf, OptionOf, blo
 use Rattle.proto_desc_checks_laws.proofs.OneField.{names_are_of_one_field}
 use Rattle.proto_edit_rename_laws.specs.SceneOf.{lexemes_of, scene_of}
 use Rattle.proto_edit_rename_laws.proofs.TokenRoles.{block_inside, spelled}
-use Rattle.proto_edit_rename_described.specs.Renamed.{of_another, of_field}
+use Rattle.proto_edit_rules.specs.Rename.{of_another, of_field}
 use Rattle.proto_edit_rename_described.specs.WrittenJson.{JsonIsWrittenOnce, JsonIsWrittenOrNot}
 
 search_fields : (token : ℕ) (fs : List FieldOf) → ((f : FieldOf) × Contains fs f × (f.name ≡ token)) ⊎ ((f : FieldOf) → Contains fs f → f.name ≡ token → ⊥)

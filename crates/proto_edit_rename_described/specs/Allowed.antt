@@ -10,10 +10,8 @@ use Rattle.proto_ast.specs.Parts.{BlockOf, FieldOf, blocks_in}
 use Rattle.proto_desc_checks.specs.FieldFlaws.{default_flaws}
 use Rattle.proto_edit_rename_laws.specs.SceneOf.{scene_of}
 use Rattle.proto_desc.specs.Checked.{CheckFaults}
-use Rattle.proto_edit_rename_laws.specs.Cases.{RenameCase}
-use Rattle.proto_edit_rename_laws.specs.Defaults.{fields_of_block}
+use Rattle.proto_edit_rules.specs.Rename.{RenameCase, fields_of_block, Target, IsNamed, renamed_words}
 use Rattle.proto_edit_rename_laws.specs.Rewording.{AreReworded}
-use Rattle.proto_edit_rename_laws.specs.Targets.{Target, IsNamed, renamed_words}
 
 -- files without a fault, and the rename of a symbol of theirs that no case refuses
 pub record IsAllowedRename

@@ -5,7 +5,7 @@ use Rattle.proto_files.specs.GivenFiles.{FileOf}
 use Rattle.proto_files.specs.FilesRead.{ReadOf}
 use Rattle.proto_edit_rename_laws.specs.Roles.{HasFieldRoles}
 use Rattle.proto_edit_rename_laws.specs.Rewording.{AreReworded}
-use Rattle.proto_edit_rename_laws.specs.Targets.{Target, renamed_words}
+use Rattle.proto_edit_rules.specs.Rename.{Target, renamed_words}
 use Rattle.proto_edit_rename_described.specs.Allowed.{DefaultsFit, IsAllowedRename}
 
 -- Each field keeps its label, type and numbers, and its defaults go with the value that they mean.

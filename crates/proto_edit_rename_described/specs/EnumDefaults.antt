@@ -10,9 +10,8 @@ use Rattle.proto_names_imports.specs.Links.{text_of}
 use Rattle.proto_ast.specs.Scenes.{enum_meant}
 use Rattle.proto_desc_checks.specs.FieldFlaws.{is_value_of}
 use Rattle.proto_edit_rename_laws.specs.SceneOf.{scene_of}
-use Rattle.proto_edit_rename_laws.specs.Defaults.{means_value, meaning_from}
+use Rattle.proto_edit_rules.specs.Rename.{means_value, meaning_from, Target, renamed_words}
 use Rattle.proto_edit_rename_laws.specs.Rewording.{AreReworded}
-use Rattle.proto_edit_rename_laws.specs.Targets.{Target, renamed_words}
 use Rattle.proto_edit_rename_described.specs.Allowed.{IsAllowedRename}
 
 -- The word of the default, changed where it means the value, is a value of the enum

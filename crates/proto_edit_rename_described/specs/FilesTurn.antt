@@ -8,10 +8,8 @@ use Rattle.proto_descriptors.specs.Descriptors.{FileDesc}
 use Rattle.proto_edit_rename_laws.specs.SceneOf.{scene_of}
 use Rattle.proto_desc.specs.Checked.{AreDescribed, described}
 use Rattle.proto_edit_rename_laws.specs.Rewording.{AreReworded}
-use Rattle.proto_edit_rename_laws.specs.Targets.{Target, name_map, renamed_words}
+use Rattle.proto_edit_rules.specs.Rename.{Target, name_map, renamed_words, mapped, AreRenamed, WritesJson}
 use Rattle.proto_edit_rename_described.specs.Allowed.{IsAllowedRename}
-use Rattle.proto_edit_rename_described.specs.Mapped.{mapped}
-use Rattle.proto_edit_rename_described.specs.Renamed.{AreRenamed, WritesJson}
 use Rattle.proto_edit_rename_described.specs.Turns.{FileTurns}
 
 -- What makes the descriptor afterwards the mapped one, file by file.

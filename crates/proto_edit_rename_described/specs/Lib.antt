@@ -5,10 +5,8 @@ pub mod DefaultsFit
 pub mod DefaultsKept
 pub mod EnumDefaults
 pub mod FilesTurn
-pub mod Mapped
 pub mod NamesKept
 pub mod OtherTokens
-pub mod Renamed
 pub mod ScenesTurn
 pub mod Turns
 pub mod WrittenJson

@@ -8,9 +8,8 @@ use Rattle.proto_files.specs.FilesRead.{ReadOf, read_at}
 use Rattle.proto_names_rules.specs.Grown.{At, at}
 use Rattle.proto_names_imports.specs.Links.{link_skeleton}
 use Rattle.proto_ast.specs.Parts.{BlockOf, FieldOf, blocks_in}
-use Rattle.proto_edit_rename_laws.specs.Defaults.{fields_of_block, renamed_defaults}
+use Rattle.proto_edit_rules.specs.Rename.{fields_of_block, renamed_defaults, Target, name_map, renamed_words}
 use Rattle.proto_edit_rename_laws.specs.Places.{Names, Uses}
-use Rattle.proto_edit_rename_laws.specs.Targets.{Target, name_map, renamed_words}
 use Rattle.proto_edit_rename_described.specs.Allowed.{IsAllowedRename}
 
 -- Labels and scalar types of messages' fields and of extensions are not changed.

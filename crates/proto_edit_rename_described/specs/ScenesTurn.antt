@@ -15,8 +15,7 @@ use Rattle.proto_names_imports.specs.Links.{text_of}
 use Rattle.proto_ast.specs.Scenes.{text, meant_by}
 use Rattle.proto_edit_rename_laws.specs.SceneOf.{scene_of}
 use Rattle.proto_edit_rename_laws.specs.Scenes.{IsRename}
-use Rattle.proto_edit_rename_laws.specs.Rewording.{NewWords}
-use Rattle.proto_edit_rename_described.specs.Mapped.{word_under}
+use Rattle.proto_edit_rules.specs.Rename.{NewWords, word_under}
 use Rattle.proto_edit_rename_described.specs.Turns.{IsUnder}
 
 -- the last word of each declared name is turned below the rest

@@ -24,7 +24,7 @@ use Rattle.proto_ast.specs.Scenes.{MeantOf, Scene, text, value, number_at, signe
 use Rattle.proto_ast.specs.Labels.{has_label}
 use Rattle.proto_desc_numbers.specs.NumberFlaws.{range_of, enum_range_of}
 use Rattle.proto_desc_build.specs.Described.{default_text, enum_options, field_number, field_options, field_type_name, field_type_of, file_described, file_options, is_map, label_of, message_options, method_options, number_range, scalar_type, type_name_of, type_of, value_described, value_number, value_range}
-use Rattle.proto_edit_rename_described.specs.Mapped.{Taken, dotted_text, mapped_default, mapped_file, word_under}
+use Rattle.proto_edit_rules.specs.Rename.{Taken, dotted_text, mapped_default, mapped_file, word_under}
 
 -- what a reference means goes under the name map
 abbrev pub IsUnder : Renaming → Option MeantOf → Option MeantOf → Type 0

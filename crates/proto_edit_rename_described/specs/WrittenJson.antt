@@ -2,8 +2,7 @@
 use Rattle.std.specs.Prelude.{◌≡◌, Bool, List}
 use Rattle.proto_files.specs.FilesRead.{ReadOf, AreRead}
 use Rattle.proto_files.specs.GivenFiles.{FileOf}
-use Rattle.proto_edit_rename_laws.specs.Targets.{Target}
-use Rattle.proto_edit_rename_described.specs.Renamed.{WritesJson}
+use Rattle.proto_edit_rules.specs.Rename.{Target, WritesJson}
 
 -- It has an answer,
 abbrev pub JsonIsWrittenOrNot : Type 0

@@ -11,7 +11,7 @@ use Rattle.proto_names_rules.specs.Grown.{At, at}
 use Rattle.proto_names_imports.specs.Links.{text_of}
 use Rattle.proto_ast.proofs.Common.{is_named, BlockOf, FieldOf, OptionOf, blocks_in, fields_in}
 use Rattle.proto_desc_checks_laws.specs.Renamed.{constant_tokens}
-use Rattle.proto_edit_rename_laws.specs.Defaults.{default_words, defaults_from, fields_of_block, fields_of_file, means_value, renamed_default, type_meaning}
+use Rattle.proto_edit_rules.specs.Rename.{default_words, defaults_from, fields_of_block, fields_of_file, means_value, renamed_default, type_meaning}
 use Rattle.proto_edit_rename_laws.proofs.Places.{from_flat_map}
 
 -- the word of a default of a field of the tree that is read of its file, and it means the value

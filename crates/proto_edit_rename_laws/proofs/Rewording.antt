@@ -9,7 +9,8 @@ use Rattle.proto_files.proofs.Common.{FileOf, file_at, paths_of, ReadOf, AreRead
 use Rattle.proto_names_rules.proofs.Common.{AskedImport, imports_of, At, at, FileNames, skeleton_of_files, Import, map_agree, map_map}
 use Rattle.proto_names_outline.proofs.Common.{import_here, imports_are_strings, Wanted, imports_in, file_names}
 use Rattle.proto_names_imports.specs.Links.{text_of, asked_as, all_wanted, names_in, link_imports}
-use Rattle.proto_edit_rename_laws.specs.Rewording.{words_of_file, SuitFiles, AreReworded, FilesAreReworded, TextsAreChanged, OtherTextsStay, SkeletonsStay, NewWords}
+use Rattle.proto_edit_rename_laws.specs.Rewording.{SuitFiles, AreReworded, FilesAreReworded, TextsAreChanged, OtherTextsStay, SkeletonsStay}
+use Rattle.proto_edit_rules.specs.Rename.{words_of_file, NewWords}
 
 pub at_same : {A B : Type 0} (f : A → B) (xs ys : List A) (d : A) (k : ℕ) → map f xs ≡ map f ys → f (slice_index_or xs k d) ≡ f (slice_index_or ys k d)
 at_same f [] [] d k e = refl

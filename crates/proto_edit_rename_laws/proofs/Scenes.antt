@@ -16,7 +16,7 @@ use Rattle.proto_names_imports.proofs.Common.{text_of, link_skeleton, names_of_f
 use Rattle.proto_ast.proofs.Common.{number_value, BlockOf, blocks_in, statements, values_in, EnumOf, MeantOf, is_proto3, is_proto3_statement, string_of, value_or_none}
 use Rattle.proto_desc_checks_laws.specs.Renamed.{DifferInNames, SameButValues}
 use Rattle.proto_resolved.specs.SceneOf.{declared_as, enum_at, enum_named, enum_within, is_enum_at, is_proto3_file, lexemes_of, meaning_of, meant_as, means_of, scene_of, starts_past_zero}
-use Rattle.proto_edit_rename_laws.specs.Rewording.{words_of_file, NewWords}
+use Rattle.proto_edit_rules.specs.Rename.{words_of_file, NewWords}
 use Rattle.proto_edit_rename_laws.specs.Scenes.{IsRename, ScenesDiffer}
 use Rattle.proto_edit_rename_laws.proofs.Rewording.{at_same, other_texts_stay, skeletons_stay}
 

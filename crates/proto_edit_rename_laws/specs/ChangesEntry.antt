@@ -7,10 +7,8 @@ use Rattle.proto_files.specs.FilesRead.{ReadOf, AreRead, read_at}
 use Rattle.proto_names_rules.specs.Grown.{At}
 use Rattle.proto_names_imports.specs.Links.{text_of}
 use Rattle.proto_edit_entries.specs.Entries.{IsEntry}
-use Rattle.proto_edit_rename_laws.specs.Cases.{RenameCase}
+use Rattle.proto_edit_rules.specs.Rename.{RenameCase, changes_of_words, Target, IsNamed, renamed_words}
 use Rattle.proto_edit_rename_laws.specs.Rewording.{AreReworded}
-use Rattle.proto_edit_rename_laws.specs.Changes.{changes_of_words}
-use Rattle.proto_edit_rename_laws.specs.Targets.{Target, IsNamed, renamed_words}
 
 -- files of a workspace that are texts, and the rename of a token of theirs that no case refuses
 pub record IsPutIn

@@ -4,8 +4,8 @@ use Rattle.std.specs.List.{AllPairs}
 use Rattle.proto_files.specs.GivenFiles.{FileOf}
 use Rattle.proto_files.specs.FilesRead.{ReadOf, AreRead}
 use Rattle.proto_edit_entries.specs.Putting.{IsPut}
-use Rattle.proto_edit_rename_laws.specs.Rewording.{AreReworded, NewWords}
-use Rattle.proto_edit_rename_laws.specs.Changes.{changes_of_words}
+use Rattle.proto_edit_rename_laws.specs.Rewording.{AreReworded}
+use Rattle.proto_edit_rules.specs.Rename.{NewWords, changes_of_words}
 
 -- Put into the files, they give the files with the new words.
 abbrev pub ChangesArePut : Type 0

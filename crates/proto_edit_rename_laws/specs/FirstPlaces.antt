@@ -5,8 +5,7 @@ use Rattle.proto_files.specs.GivenFiles.{FileOf}
 use Rattle.proto_files.specs.FilesRead.{ReadOf}
 use Rattle.proto_names_rules.specs.Grown.{At}
 use Rattle.proto_names_rules.specs.Skeleton.{Used}
-use Rattle.proto_edit_rename_laws.specs.Cases.{Captures, IsFirstPlace}
-use Rattle.proto_edit_rename_laws.specs.Targets.{Target}
+use Rattle.proto_edit_rules.specs.Rename.{Captures, IsFirstPlace, Target}
 
 -- There is one, where a reference is captured.
 abbrev pub FirstPlacesAreThere : Type 0

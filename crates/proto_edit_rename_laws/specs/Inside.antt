@@ -6,7 +6,7 @@ use Rattle.proto_files.specs.GivenFiles.{FileOf}
 use Rattle.proto_names_rules.specs.Grown.{At}
 use Rattle.proto_names_imports.specs.Links.{link_skeleton}
 use Rattle.proto_edit_rename_laws.specs.Places.{Names, Uses}
-use Rattle.proto_edit_rename_laws.specs.Targets.{Target, IsNamed}
+use Rattle.proto_edit_rules.specs.Rename.{Target, IsNamed}
 
 -- a token of one of the files
 abbrev pub IsInside : List FileOf → List ReadOf → At → Type 0

@@ -1,10 +1,7 @@
 pub mod Captures
-pub mod Cases
-pub mod Changes
 pub mod ChangesEntry
 pub mod ChangesPut
 pub mod Common
-pub mod Defaults
 pub mod FirstPlaces
 pub mod Inside
 pub mod NoLinkFault

@@ -10,7 +10,7 @@ use Rattle.proto_names_rules.specs.Linked.{IsLinked}
 use Rattle.proto_names_rules.specs.Skeleton.{Source, Declared, IsWoven}
 use Rattle.proto_names_imports.specs.Links.{LinkFaults, link_skeleton, names_of_files}
 use Rattle.proto_edit_rename_laws.specs.Scenes.{IsRename}
-use Rattle.proto_edit_rename_laws.specs.Rewording.{NewWords}
+use Rattle.proto_edit_rules.specs.Rename.{NewWords}
 
 -- the names of files that were read
 abbrev pub FilesAreWoven : Type 0

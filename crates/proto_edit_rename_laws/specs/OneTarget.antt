@@ -5,8 +5,7 @@ use Rattle.proto_files.specs.Faults.{HasNoFault}
 use Rattle.proto_files.specs.GivenFiles.{FileOf}
 use Rattle.proto_files.specs.FilesRead.{ReadOf, AreRead}
 use Rattle.proto_names_imports.specs.Links.{LinkFaults}
-use Rattle.proto_edit_rename_laws.specs.Cases.{RenameCase}
-use Rattle.proto_edit_rename_laws.specs.Targets.{Target, IsNamed}
+use Rattle.proto_edit_rules.specs.Rename.{RenameCase, Target, IsNamed}
 
 -- Two targets of one name are the same.
 abbrev pub TargetsAreOne : Type 0

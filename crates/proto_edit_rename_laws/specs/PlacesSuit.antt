@@ -7,9 +7,8 @@ use Rattle.proto_files.specs.GivenFiles.{FileOf}
 use Rattle.proto_files.specs.FilesRead.{ReadOf}
 use Rattle.proto_names_rules.specs.Linked.{IsLinked}
 use Rattle.proto_names_imports.specs.Links.{names_of_files}
-use Rattle.proto_edit_rename_laws.specs.Cases.{is_keyword_of}
+use Rattle.proto_edit_rules.specs.Rename.{is_keyword_of, Target, IsNamed, renamed_words}
 use Rattle.proto_edit_rename_laws.specs.Rewording.{SuitFiles}
-use Rattle.proto_edit_rename_laws.specs.Targets.{Target, IsNamed, renamed_words}
 use Rattle.proto_edit_rename_laws.specs.Roles.{HasWants}
 
 -- a word that is none of the keywords that its kind may not have

@@ -6,7 +6,8 @@ use Rattle.proto_text.specs.Texts.{or_word}
 use Rattle.proto_names_rules.specs.Grown.{At}
 use Rattle.proto_names_rules.specs.Skeleton.{Source, Declared, Skeleton, IsAim, renaming_of, IsRespelled}
 use Rattle.proto_edit_rename_laws.specs.Roles.{RolesAreApart}
-use Rattle.proto_edit_rename_laws.specs.Places.{Names, Uses, change_at, renamed_places}
+use Rattle.proto_edit_rename_laws.specs.Places.{Names, Uses}
+use Rattle.proto_edit_rules.specs.Rename.{change_at, renamed_places}
 
 -- The declaring token has the new word, every other declaration its
 -- own, and each reference is rewritten.

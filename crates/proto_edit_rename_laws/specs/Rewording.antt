@@ -1,21 +1,13 @@
 -- Other words at tokens of many files: the files with them, and what is read of these.
-use Rattle.std.specs.Prelude.{◌≡◌, ℕ, ◌<◌, List, length, map, Option, None}
-use Rattle.proto_base.specs.Texts.{Text}
+use Rattle.std.specs.Prelude.{◌≡◌, ℕ, ◌<◌, List, length, map, None}
 use Rattle.proto_text.specs.Texts.{IsReworded, or_word}
 use Rattle.proto_tree.specs.Laws.{Suits, PutsWords}
 use Rattle.proto_tree.specs.Tree.{flat}
 use Rattle.proto_files.specs.GivenFiles.{FileOf, file_at, paths_of}
 use Rattle.proto_files.specs.FilesRead.{ReadOf, AreRead, read_at}
-use Rattle.proto_names_rules.specs.Grown.{At, at}
+use Rattle.proto_names_rules.specs.Grown.{At}
 use Rattle.proto_names_imports.specs.Links.{text_of, link_skeleton}
-
--- the new word of a token, where it has one
-abbrev pub NewWords : Type 0
-NewWords = At → Option Text
-
--- those of one file
-abbrev pub words_of_file : NewWords → ℕ → ℕ → Option Text
-words_of_file c file i = c (at file i)
+use Rattle.proto_edit_rules.specs.Rename.{NewWords, words_of_file}
 
 -- each new word is one that its place wants
 abbrev pub SuitFiles : NewWords → List ReadOf → Type 0

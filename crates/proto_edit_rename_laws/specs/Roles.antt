@@ -26,10 +26,9 @@ use Rattle.proto_ast.specs.Options.{is_named}
 use Rattle.proto_ast.specs.Parts.{BlockOf, FieldOf, OptionOf, blocks_in, fields_in, values_in}
 use Rattle.proto_desc_checks_laws.specs.Renamed.{asked_tokens}
 use Rattle.proto_resolved.specs.SceneOf.{scene_of}
-use Rattle.proto_edit_rename_laws.specs.Rewording.{NewWords}
+use Rattle.proto_edit_rules.specs.Rename.{NewWords, fields_of_block, meaning_from, means_value, renamed_defaults, type_meaning, Target, name_map, renamed_words}
 use Rattle.proto_edit_rename_laws.specs.Places.{Names, Uses}
-use Rattle.proto_edit_rename_laws.specs.Defaults.{fields_of_block, meaning_from, means_value, renamed_defaults, type_meaning}
-use Rattle.proto_edit_rename_laws.specs.Targets.{Target, HasValue, name_map, renamed_words}
+use Rattle.proto_edit_rename_laws.specs.Targets.{HasValue}
 
 -- ---- names, words of references, and defaults
 

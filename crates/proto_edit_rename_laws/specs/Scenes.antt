@@ -10,7 +10,8 @@ use Rattle.proto_names_rules.specs.Skeleton.{Source, Declared, IsWoven, IsAim, I
 use Rattle.proto_names_imports.specs.Links.{text_of, link_skeleton, names_of_files}
 use Rattle.proto_desc_checks_laws.specs.Renamed.{DifferInNames}
 use Rattle.proto_resolved.specs.SceneOf.{scene_of}
-use Rattle.proto_edit_rename_laws.specs.Rewording.{SuitFiles, AreReworded, NewWords}
+use Rattle.proto_edit_rename_laws.specs.Rewording.{SuitFiles, AreReworded}
+use Rattle.proto_edit_rules.specs.Rename.{NewWords}
 use Rattle.proto_edit_rename_laws.specs.Roles.{NumbersStay}
 
 -- linked files, the symbol that a rename aims at, and the files after a change that spells

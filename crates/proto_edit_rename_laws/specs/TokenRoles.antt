@@ -6,7 +6,7 @@ use Rattle.proto_files.specs.FilesRead.{ReadOf, AreRead}
 use Rattle.proto_files.specs.GivenFiles.{FileOf}
 use Rattle.proto_names_imports.specs.Links.{LinkFaults}
 use Rattle.proto_edit_rename_laws.specs.Roles.{TokensHaveRenameRoles}
-use Rattle.proto_edit_rename_laws.specs.Targets.{Target, IsNamed}
+use Rattle.proto_edit_rules.specs.Rename.{Target, IsNamed}
 
 -- For each symbol that may be renamed, whatever the new word.
 abbrev pub AllTokensHaveRoles : Type 0

@@ -7,8 +7,10 @@ pub use Rattle.proto_edit_statement_described.proofs.OneFile.{additions_leave_no
 pub use Rattle.proto_edit_statement_described.specs.Checked.{AreDescribed, fault_of_flaw, flaws_of, of_flaw}
 pub use Rattle.proto_edit_statement_described.specs.Deletions.{AtField, AtOneof, BehindBlock, BehindLeaf, Deeper, Found, FurtherOn, InMessage, IsAmong, IsDeletedIn, IsDeletedRight, OfMap, PastBlock, PastLeaf, Plain, Reservation, Reserves, WrittenField, written_field, written_name, written_number, statement_of}
 pub use Rattle.proto_edit_statement_described.specs.Extensions.{ExtensionsStay, Saying, saying_of}
-pub use Rattle.proto_edit_statement_described.specs.Files.{IsFileAddition, IsFileDeletion, IsDrop, scene_at, tree_at}
-pub use Rattle.proto_edit_statement_described.specs.Imports.{HasImport, with_dependency, without_dependency}
-pub use Rattle.proto_edit_statement_described.specs.Lists.{changed_at}
+pub use Rattle.proto_edit_statement_described.specs.Files.{IsFileAddition, IsFileDeletion, IsDrop, scene_at}
+pub use Rattle.proto_edit_rules.specs.Statements.{tree_at, changed_at}
+pub use Rattle.proto_edit_statement_described.specs.Imports.{HasImport}
+pub use Rattle.proto_edit_rules.specs.AddImport.{with_dependency}
+pub use Rattle.proto_edit_rules.specs.DropImport.{without_dependency}
 pub use Rattle.proto_edit_statement_described.specs.SceneOf.{declared_as, enum_at, enum_named, enum_within, is_enum_at, is_proto3_file, lexemes_of, meaning_of, means_of, meant_as, starts_past_zero}
 pub use Rattle.proto_edit_statement_described.specs.Scenes.{HasTokens, IsMovedScene, move_meant}

@@ -18,7 +18,8 @@ use Rattle.proto_desc.specs.SceneOf.{declared_as, meaning_of}
 use Rattle.proto_desc_extensions.specs.Extensions.{ExtensionOf, block_extensions, extendee_in, extensions_in, extensions_of, is_extendable, is_message_at, name_meant, ranges_at_place, ranges_within}
 use Rattle.proto_edit_statement_described.specs.Deletions.{IsDeletedIn, IsDeletedRight, Reservation, WrittenField}
 use Rattle.proto_edit_statement_described.specs.Extensions.{Saying, saying_of}
-use Rattle.proto_edit_statement_described.specs.Files.{scene_at, tree_at}
+use Rattle.proto_edit_statement_described.specs.Files.{scene_at}
+use Rattle.proto_edit_rules.specs.Statements.{tree_at}
 use Rattle.proto_edit_statement_described.proofs.Parts.{new_read, no_ranges, nothing_with, old_read, outer_statements}
 
 -- ---- what a block says

@@ -2,9 +2,10 @@
 use Rattle.std.proofs.Common.{◌≡◌, ℕ, ◌+◌, List, map, sym, ◌∙◌, ap, arith}
 use Rattle.proto_files.proofs.Common.{AreRead, ReadOf, FileOf}
 use Rattle.proto_names_rules.proofs.Common.{At, at, Declared, Source, Token, shifted_source, snoc_parts}
-use Rattle.proto_edit_statement_laws.specs.Targets.{Target}
+use Rattle.proto_edit_rules.specs.Rename.{Target}
 use Rattle.proto_edit_statement_laws.proofs.Declarations.{declared_by, path_of_declared}
-use Rattle.proto_edit_statement_laws.specs.DeletionChanges.{FieldAt, FieldsAreOne as StatementsAreOne, FieldsAreThere as StatementsAreThere, IsFieldAt}
+use Rattle.proto_edit_statement_laws.specs.DeletionChanges.{FieldsAreOne as StatementsAreOne, FieldsAreThere as StatementsAreThere}
+use Rattle.proto_edit_rules.specs.DeleteField.{FieldAt, IsFieldAt}
 use Rattle.proto_edit_statement_laws.proofs.NamesCommon.{IsField, fields_are_one, fields_are_there}
 use Rattle.proto_edit_statement_described.specs.Workspace.{DeletableFieldsAreOne, FieldsMayBeDeleted}
 

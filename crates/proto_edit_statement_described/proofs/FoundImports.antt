@@ -11,10 +11,10 @@ use Rattle.proto_files.proofs.Common.{AreRead, ReadOf, read_at, FileOf, file_at,
 use Rattle.proto_names_rules.proofs.Common.{AskedImport, file_with_path, At, Follows}
 use Rattle.proto_names_outline.proofs.Common.{Wanted, imports_in, statement_imports, imports_are_strings}
 use Rattle.proto_names_imports.specs.Links.{all_wanted, asked_as, text_of}
-use Rattle.proto_edit_statement_laws.specs.Deletions.{AfterBlock, AfterLeaf, First, StandsIn}
+use Rattle.proto_edit_rules.specs.Statements.{AfterBlock, AfterLeaf, First, StandsIn, tree_at}
 use Rattle.proto_edit_statement_laws.proofs.ChangesCommon.{IsImportOf, word_of_token}
-use Rattle.proto_edit_statement_laws.specs.Cases.{IsImported, asked_in, is_import_of, no_such_file, not_imported, unknown_file}
-use Rattle.proto_edit_statement_described.specs.Files.{tree_at}
+use Rattle.proto_edit_rules.specs.AddImport.{IsImported, asked_in, is_import_of, unknown_file}
+use Rattle.proto_edit_rules.specs.DropImport.{no_such_file, not_imported}
 use Rattle.proto_edit_statement_described.specs.Statements.{FilesAreThere, ImportsAreOne, ImportsAreThere}
 use Rattle.proto_edit_statement_described.proofs.FilePlaces.{place_within}
 use Rattle.proto_edit_statement_described.proofs.ImportFaults.{follows_front, none_or, not_twice}

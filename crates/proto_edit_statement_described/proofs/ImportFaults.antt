@@ -8,8 +8,8 @@ use Rattle.proto_files.proofs.Common.{HasNoFault, AreRead, ReadOf, read_at, File
 use Rattle.proto_names_rules.proofs.Common.{AskedImport, Fault, ImportFault, double, fault, file_with_path, unknown, At, Follows, after_follows, follows_map}
 use Rattle.proto_names_outline.specs.FromTree.{Wanted, imports_in}
 use Rattle.proto_names_imports.specs.Links.{LinkFaults, all_wanted, asked_as, of_import, text_of}
-use Rattle.proto_edit_statement_laws.specs.Cases.{asked_in}
-use Rattle.proto_edit_statement_described.specs.Files.{tree_at}
+use Rattle.proto_edit_rules.specs.AddImport.{asked_in}
+use Rattle.proto_edit_rules.specs.Statements.{tree_at}
 
 -- ---- what stands behind what
 

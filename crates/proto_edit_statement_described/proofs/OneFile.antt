@@ -11,7 +11,8 @@ use Rattle.proto_desc_build.specs.Described.{file_described}
 use Rattle.proto_descriptors.specs.Descriptors.{FileDesc}
 use Rattle.proto_desc_extensions.specs.Extensions.{workspace_flaws}
 use Rattle.proto_desc.specs.Checked.{CheckFaults, described_from, fault_of_flaw, flaws_of, of_flaw}
-use Rattle.proto_edit_statement_described.specs.Files.{AdditionsLeaveNoFault, AdditionsMapDescriptors, DeletionsPassTheChecks, DeletionsMapDescriptors, DropsLeaveNoFault, DropsMapDescriptors, OthersStay, scene_at, tree_at}
+use Rattle.proto_edit_statement_described.specs.Files.{AdditionsLeaveNoFault, AdditionsMapDescriptors, DeletionsPassTheChecks, DeletionsMapDescriptors, DropsLeaveNoFault, DropsMapDescriptors, OthersStay, scene_at}
+use Rattle.proto_edit_rules.specs.Statements.{tree_at}
 use Rattle.proto_edit_statement_described.specs.Common.{with_dependency, without_dependency, changed_at, mapped_deletion}
 use Rattle.proto_edit_statement_described.proofs.DeletedDescriptors.{deletions_are_mapped}
 use Rattle.proto_edit_statement_described.proofs.DeletedFlaws.{deletions_bring_no_flaw, map_nil}

@@ -20,7 +20,8 @@ use Rattle.proto_edit_statement_described.proofs.Common.{fault_of_flaw, flaws_of
 use Rattle.proto_base.specs.declared.fault.FaultKind.{FaultKind}
 use Rattle.proto_base.specs.declared.fault.FaultKind.TheVariants as kind
 use Rattle.proto_text.specs.Texts.{word_at}
-use Rattle.proto_edit_statement_laws.specs.Deletions.{StandsAt, InMessage, InOneof, Deeper, PastLeaf, PastBlock, StandsIn, First, AfterLeaf, AfterBlock}
+use Rattle.proto_edit_rules.specs.DeleteField.{StandsAt, InMessage, InOneof, Deeper, PastLeaf, PastBlock}
+use Rattle.proto_edit_rules.specs.Statements.{StandsIn, First, AfterLeaf, AfterBlock}
 use Rattle.proto_edit_statement_described.specs.Fields.{NumbersAreSmall}
 use Rattle.proto_edit_statement_described.proofs.Trees.{in_oneof, was_message}
 use Rattle.proto_edit_statement_described.proofs.Written.{written}

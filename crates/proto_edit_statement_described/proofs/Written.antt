@@ -2,7 +2,7 @@
 use Rattle.std.proofs.Common.{◌≡◌, ℕ, refl}
 use Rattle.proto_tree.specs.declared.piece.Statement.{Statement}
 use Rattle.proto_tree.specs.declared.piece.Statement.TheVariants as statement
-use Rattle.proto_edit_statement_laws.specs.Deletions.{IsFieldOf}
+use Rattle.proto_edit_rules.specs.DeleteField.{IsFieldOf}
 use Rattle.proto_edit_statement_described.specs.Deletions.{OfMap, Plain, WrittenField, written_name, written_number, statement_of}
 
 pub record IsWritten (s : Statement) (name number : ℕ) : Type 0 where

@@ -13,7 +13,8 @@ use Rattle.proto_names_imports.specs.Links.{names_of_files}
 use Rattle.proto_ast.specs.Scenes.{Scene}
 use Rattle.proto_edit_statement_described.specs.SceneOf.{lexemes_of}
 use Rattle.proto_edit_statement_described.specs.Deletions.{IsDeletedIn, Reservation, WrittenField, statement_of}
-use Rattle.proto_edit_statement_described.specs.Files.{OthersStay, scene_at, tree_at}
+use Rattle.proto_edit_statement_described.specs.Files.{OthersStay, scene_at}
+use Rattle.proto_edit_rules.specs.Statements.{tree_at}
 use Rattle.proto_edit_statement_described.specs.Scenes.{HasTokens}
 use Rattle.proto_edit_statement_laws.specs.Kept.{MeanTheSame}
 

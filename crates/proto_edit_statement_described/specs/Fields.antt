@@ -4,7 +4,7 @@ use Rattle.proto_files.specs.Faults.{HasNoFault}
 use Rattle.proto_files.specs.FilesRead.{AreRead, ReadOf}
 use Rattle.proto_files.specs.GivenFiles.{FileOf}
 use Rattle.proto_edit_statement_described.specs.Checked.{CheckFaults}
-use Rattle.proto_edit_statement_laws.specs.DeletionChanges.{FieldAt, IsFieldAt, field_number_value}
+use Rattle.proto_edit_rules.specs.DeleteField.{FieldAt, IsFieldAt, field_number_value}
 
 -- Without a fault of the checks the number of each field is below 2^64.
 abbrev pub NumbersAreSmall : Type 0

@@ -7,7 +7,7 @@ use Rattle.proto_base.specs.Texts.{Path}
 use Rattle.proto_tree.specs.Moved.{Move}
 use Rattle.proto_tree.specs.Tree.{Tree}
 use Rattle.proto_files.specs.Faults.{HasNoFault}
-use Rattle.proto_files.specs.FilesRead.{AreRead, ReadOf, read_at}
+use Rattle.proto_files.specs.FilesRead.{AreRead, ReadOf}
 use Rattle.proto_files.specs.GivenFiles.{FileOf, file_at}
 use Rattle.proto_names_rules.specs.Linked.{IsLinked}
 use Rattle.proto_names_imports.specs.Links.{names_of_files}
@@ -18,18 +18,16 @@ use Rattle.proto_desc.specs.SceneOf.{scene_of}
 use Rattle.proto_desc.specs.Checked.{AreDescribed, CheckFaults}
 use Rattle.proto_edit_statement_described.specs.Deletions.{IsDeletedIn, Reservation, Reserves, WrittenField, written_name}
 use Rattle.proto_edit_statement_described.specs.Extensions.{ExtensionsStay}
-use Rattle.proto_edit_statement_described.specs.Imports.{HasImport, with_dependency, without_dependency}
-use Rattle.proto_edit_statement_described.specs.Lists.{changed_at}
-use Rattle.proto_edit_statement_described.specs.Mapped.{mapped_deletion}
+use Rattle.proto_edit_statement_described.specs.Imports.{HasImport}
+use Rattle.proto_edit_rules.specs.AddImport.{with_dependency}
+use Rattle.proto_edit_rules.specs.DropImport.{without_dependency}
+use Rattle.proto_edit_rules.specs.Statements.{changed_at, tree_at}
+use Rattle.proto_edit_rules.specs.DeleteField.{mapped_deletion}
 use Rattle.proto_edit_statement_described.specs.Scenes.{IsMovedScene}
 
 -- the scene of the file at this place
 abbrev pub scene_at : List FileOf → List ReadOf → ℕ → Scene
 scene_at files reads k = scene_of None files reads k
-
--- the tree of the file at this place
-abbrev pub tree_at : List ReadOf → ℕ → Tree
-tree_at reads k = (read_at reads k).tree
 
 -- The file at this place is read otherwise; no path changes, each other file has its tree and reads
 -- the same, and the extensions of all files stay.

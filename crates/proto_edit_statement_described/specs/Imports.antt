@@ -1,5 +1,5 @@
 -- The descriptor of a file with an import more, and with one less, as functions of the old one.
-use Rattle.std.specs.Prelude.{◌≡◌, ℕ, ◌-◌, ◌==◌, nat_lt, false, if◌then◌else◌, List, [], ◌∷◌, ◌++◌, flat_map, map}
+use Rattle.std.specs.Prelude.{◌≡◌, false, List, [], ◌∷◌, ◌++◌, map}
 use Rattle.std.specs.List.{All}
 use Rattle.std.specs.Str.{bytes_eq}
 use Rattle.proto_base.specs.Texts.{Path}
@@ -10,41 +10,9 @@ use Rattle.proto_names_outline.specs.Moved.{move_wanted}
 use Rattle.proto_ast.specs.Scenes.{Scene, value}
 use Rattle.proto_desc_checks_laws.specs.Imports.{without_imports}
 use Rattle.proto_desc_build.specs.Described.{file_described}
-use Rattle.proto_descriptors.specs.Descriptors.{FileDesc}
-use Rattle.proto_edit_statement_described.specs.Lists.{places_before, without_place}
 use Rattle.proto_edit_statement_described.specs.Scenes.{IsMovedScene}
-
--- ---- descriptors
-
--- with other imports
-abbrev pub with_dependencies : List Path → List ℕ → FileDesc → FileDesc
-with_dependencies dependency public d = record {
-  name = d.name;
-  «package» = d.«package»;
-  dependency = dependency;
-  public_dependency = public;
-  message_type = d.message_type;
-  enum_type = d.enum_type;
-  service = d.service;
-  extension = d.extension;
-  options = d.options;
-  syntax = d.syntax;
-}
-
--- the path comes in last, and is no public import
-abbrev pub with_dependency : Path → FileDesc → FileDesc
-with_dependency path d = with_dependencies (d.dependency ++ path ∷ []) d.public_dependency d
-
--- a place goes, and those behind it are lowered by one
-abbrev pub lowered : ℕ → List ℕ → List ℕ
-lowered n places =
-    flat_map (λ p. if p == n then [] else (if nat_lt n p then (p - 1) ∷ [] else p ∷ [])) places
-
--- the path goes, and its place from the public ones
-abbrev pub without_dependency : Path → FileDesc → FileDesc
-without_dependency path d =
-    with_dependencies (without_place (places_before (bytes_eq path) d.dependency) d.dependency)
-    (lowered (places_before (bytes_eq path) d.dependency) d.public_dependency) d
+use Rattle.proto_edit_rules.specs.AddImport.{with_dependency}
+use Rattle.proto_edit_rules.specs.DropImport.{without_dependency}
 
 -- ---- trees
 

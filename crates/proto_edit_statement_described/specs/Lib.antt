@@ -7,7 +7,6 @@ pub mod Files
 pub mod Imports
 pub mod ImportsCommon
 pub mod Kept
-pub mod Lists
 pub mod Mapped
 pub mod MovedFiles
 pub mod NamedTrees

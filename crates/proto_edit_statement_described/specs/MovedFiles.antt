@@ -7,7 +7,8 @@ use Rattle.proto_tree.specs.Moved.{Move, move_tree}
 use Rattle.proto_desc_checks_laws.specs.Imports.{without_imports}
 use Rattle.proto_edit_statement_described.specs.SceneOf.{lexemes_of}
 use Rattle.proto_edit_statement_laws.specs.Kept.{MeanTheSame}
-use Rattle.proto_edit_statement_described.specs.Files.{scene_at, tree_at}
+use Rattle.proto_edit_statement_described.specs.Files.{scene_at}
+use Rattle.proto_edit_rules.specs.Statements.{tree_at}
 use Rattle.proto_edit_statement_described.specs.Scenes.{IsMovedScene}
 
 -- The file at this place has each token whole at its moved index, and but for its imports the same

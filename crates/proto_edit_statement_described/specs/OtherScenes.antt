@@ -8,7 +8,8 @@ use Rattle.proto_names_rules.specs.Skeleton.{Used}
 use Rattle.proto_names_imports.specs.Links.{uses_of}
 use Rattle.proto_edit_statement_described.specs.SceneOf.{enum_named, lexemes_of, meaning_of}
 use Rattle.proto_edit_statement_laws.specs.Kept.{MeanTheSame}
-use Rattle.proto_edit_statement_described.specs.Files.{scene_at, tree_at}
+use Rattle.proto_edit_statement_described.specs.Files.{scene_at}
+use Rattle.proto_edit_rules.specs.Statements.{tree_at}
 
 -- It has its tokens and its tree, and what its references mean are the same enums.
 pub record IsLeft

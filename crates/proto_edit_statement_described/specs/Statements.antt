@@ -6,8 +6,9 @@ use Rattle.proto_files.specs.FilesRead.{AreRead, ReadOf}
 use Rattle.proto_files.specs.GivenFiles.{FileOf}
 use Rattle.proto_names_imports.specs.Links.{LinkFaults}
 use Rattle.proto_tree.specs.declared.tree.Import.{Import}
-use Rattle.proto_edit_statement_laws.specs.ImportChanges.{IsImportOf}
-use Rattle.proto_edit_statement_laws.specs.Cases.{AdditionCase, DropCase, IsPlaceOf}
+use Rattle.proto_edit_rules.specs.DropImport.{IsImportOf, DropCase}
+use Rattle.proto_edit_rules.specs.AddImport.{AdditionCase}
+use Rattle.proto_edit_rules.specs.Statements.{IsPlaceOf}
 
 -- A file that may get an import is there.
 abbrev pub FilesAreThere : Type 0

@@ -13,7 +13,9 @@ use Rattle.proto_tree.specs.Moved.{Move}
 use Rattle.proto_tree.specs.Reads.{Reads}
 use Rattle.proto_tree.specs.Tree.{Tree}
 use Rattle.proto_ast.specs.Parts.{BlockOf, blocks_in, fields_in}
-use Rattle.proto_edit_statement_laws.specs.Deletions.{IsDeleted, StandsAt, first_token, own, reservation_place}
+use Rattle.proto_edit_statement_laws.specs.Deletions.{IsDeleted, own, reservation_place}
+use Rattle.proto_edit_rules.specs.DeleteField.{StandsAt}
+use Rattle.proto_edit_rules.specs.Statements.{first_token}
 use Rattle.proto_edit_statement_described.specs.Deletions.{IsDeletedIn, Reservation, WrittenField, written_name, statement_of}
 
 -- no oneof of the tree has the field of this name token alone

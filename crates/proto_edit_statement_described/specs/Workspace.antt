@@ -11,17 +11,16 @@ use Rattle.proto_names_rules.specs.Grown.{at}
 use Rattle.proto_names_imports.specs.Links.{LinkFaults}
 use Rattle.proto_descriptors.specs.Descriptors.{FileDesc}
 use Rattle.proto_edit_statement_described.specs.Checked.{AreDescribed, CheckFaults}
-use Rattle.proto_edit_statement_laws.specs.Targets.{Target}
+use Rattle.proto_edit_rules.specs.Rename.{Target}
 use Rattle.proto_edit_entries.specs.Entries.{IsEntry}
 use Rattle.proto_edit_entries.specs.Putting.{IsPut}
-use Rattle.proto_edit_statement_laws.specs.DeletionChanges.{FieldAt, IsFieldAt, IsFieldDeleted, changes_of_deletion, splice_of_deletion}
-use Rattle.proto_edit_statement_laws.specs.OneFile.{AreFiles, IsTooLong, with_read, with_text}
-use Rattle.proto_edit_statement_laws.specs.Cases.{DeletionCase, IsField}
+use Rattle.proto_edit_statement_laws.specs.DeletionChanges.{IsFieldDeleted}
+use Rattle.proto_edit_rules.specs.DeleteField.{FieldAt, IsFieldAt, changes_of_deletion, splice_of_deletion, DeletionCase, IsField, mapped_deletion}
+use Rattle.proto_edit_statement_laws.specs.OneFile.{AreFiles, with_read, with_text}
+use Rattle.proto_edit_rules.specs.Statements.{IsTooLong, tree_at, changed_at}
 use Rattle.proto_edit_statement_laws.specs.Files.{IsFieldLess}
 use Rattle.proto_edit_statement_laws.specs.Kept.{MeanTheSame}
-use Rattle.proto_edit_statement_described.specs.Files.{IsFileDeletion, tree_at}
-use Rattle.proto_edit_statement_described.specs.Lists.{changed_at}
-use Rattle.proto_edit_statement_described.specs.Mapped.{mapped_deletion}
+use Rattle.proto_edit_statement_described.specs.Files.{IsFileDeletion}
 
 -- files without a fault, and a field of theirs, by its full name and by its statement, of
 -- which no case refuses the deletion

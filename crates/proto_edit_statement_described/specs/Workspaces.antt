@@ -10,11 +10,10 @@ use Rattle.proto_edit_statement_described.specs.Checked.{AreDescribed, CheckFaul
 use Rattle.proto_edit_entries.specs.Entries.{ChangeOf, IsEntry}
 use Rattle.proto_edit_entries.specs.Putting.{IsPut}
 use Rattle.proto_tree.specs.declared.tree.Import.{Import}
-use Rattle.proto_edit_statement_laws.specs.ImportChanges.{IsImportOf, changes_of_addition, changes_of_drop, splice_of_addition}
-use Rattle.proto_edit_statement_laws.specs.OneFile.{AreFiles, IsTooLong}
-use Rattle.proto_edit_statement_laws.specs.Cases.{AdditionCase, DropCase, IsPlaceOf}
-use Rattle.proto_edit_statement_described.specs.Imports.{with_dependency, without_dependency}
-use Rattle.proto_edit_statement_described.specs.Lists.{changed_at}
+use Rattle.proto_edit_rules.specs.DropImport.{IsImportOf, changes_of_drop, DropCase, without_dependency}
+use Rattle.proto_edit_rules.specs.AddImport.{changes_of_addition, splice_of_addition, AdditionCase, with_dependency}
+use Rattle.proto_edit_statement_laws.specs.OneFile.{AreFiles}
+use Rattle.proto_edit_rules.specs.Statements.{IsTooLong, IsPlaceOf, changed_at}
 
 -- files of a workspace that are read so, and have no fault of links and checks
 pub record AreFaultless (files : List FileOf) (reads : List ReadOf) : Type 0 where

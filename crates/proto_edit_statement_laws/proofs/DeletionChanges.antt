@@ -3,8 +3,9 @@ use Rattle.std.proofs.Common.{◌≢◌, ℕ, Option, Some, None, List}
 use Rattle.proto_text.specs.declared.lexer.Token.{Token}
 use Rattle.proto_tree.proofs.Common.{Reads, Tree}
 use Rattle.proto_files.proofs.Common.{read_at, file_at}
-use Rattle.proto_edit_statement_laws.specs.Deletions.{DeletionsAreOfOneTree, IsDeleted, StandsAt, deletion}
-use Rattle.proto_edit_statement_laws.specs.DeletionChanges.{DeletionsAreChanges, name_of_field, field_number_value, splice_of_deletion}
+use Rattle.proto_edit_statement_laws.specs.Deletions.{DeletionsAreOfOneTree, IsDeleted}
+use Rattle.proto_edit_rules.specs.DeleteField.{StandsAt, deletion, name_of_field, field_number_value, splice_of_deletion}
+use Rattle.proto_edit_statement_laws.specs.DeletionChanges.{DeletionsAreChanges}
 use Rattle.proto_edit_statement_laws.proofs.Apart.{from_message, from_oneof}
 use Rattle.proto_edit_statement_laws.proofs.FieldNames.{name_is_word}
 use Rattle.proto_edit_statement_laws.proofs.OneFile.{changed_by}

@@ -12,8 +12,10 @@ use Rattle.proto_names_rules.specs.declared.kind.Kind.TheVariants as kind
 use Rattle.proto_names_rules.proofs.Common.{Source, Token, EntryOf, Given, Items, Placed, extend, all_placed, extend, items_placed, key_word, package_of, place, placed, prefixes, map_field, value_word}
 use Rattle.proto_names_outline.specs.FromTree.{block_names, field_names, items_in, members_in, method_names, no_names, picked, value_names}
 use Rattle.proto_files.proofs.Common.{read_at, file_at}
-use Rattle.proto_edit_statement_laws.specs.Deletions.{FieldsStandOnce, IsFieldOf, StandsAt, InMessage, InOneof, Deeper, PastLeaf, PastBlock, StandsIn, First, AfterLeaf, AfterBlock}
-use Rattle.proto_edit_statement_laws.specs.DeletionChanges.{FieldAt, FieldsAreOne, FieldsAreThere}
+use Rattle.proto_edit_statement_laws.specs.Deletions.{FieldsStandOnce}
+use Rattle.proto_edit_rules.specs.DeleteField.{IsFieldOf, StandsAt, InMessage, InOneof, Deeper, PastLeaf, PastBlock, FieldAt}
+use Rattle.proto_edit_rules.specs.Statements.{StandsIn, First, AfterLeaf, AfterBlock}
+use Rattle.proto_edit_statement_laws.specs.DeletionChanges.{FieldsAreOne, FieldsAreThere}
 
 -- ---- a field of this name token, right in a list of items, or further in
 

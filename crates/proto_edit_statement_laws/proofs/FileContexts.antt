@@ -9,7 +9,7 @@ use Rattle.proto_tree.specs.declared.piece.Header.TheVariants as header
 use Rattle.proto_tree.specs.declared.piece.Statement.{Statement}
 use Rattle.proto_tree.specs.declared.piece.Statement.TheVariants as statement
 use Rattle.proto_tree.specs.Tree.{Tree, End, Leaf, Block, field_kind, statement_kind, header_kind, allows, after, IsWellFormed}
-use Rattle.proto_edit_statement_laws.specs.Imports.{behind_syntax}
+use Rattle.proto_edit_rules.specs.AddImport.{behind_syntax}
 use Rattle.proto_edit_statement_laws.proofs.LastOf.{last_by, last_option, or_none, some_is_not_none}
 
 abbrev pub IsOuter : Context → Type 0

@@ -10,7 +10,9 @@ use Rattle.proto_tree.specs.declared.tree.Import.{Import}
 use Rattle.proto_tree.proofs.Common.{Mark, Move, shift, Reads, Tree, End, Leaf, flat}
 use Rattle.proto_files.proofs.Common.{read_at, file_at}
 use Rattle.proto_edit_statement_laws.proofs.Common.{own, AdditionsAreRead, DropsAreRead, IsImportTakenOut, added_text, addition, drop_of, import_place, around, some_marks, fit_long, leaf_long}
-use Rattle.proto_edit_statement_laws.specs.ImportChanges.{AdditionsAreChanges, DropsAreChanges, splice_of_addition, splice_of_drop}
+use Rattle.proto_edit_statement_laws.specs.ImportChanges.{AdditionsAreChanges, DropsAreChanges}
+use Rattle.proto_edit_rules.specs.AddImport.{splice_of_addition}
+use Rattle.proto_edit_rules.specs.DropImport.{splice_of_drop}
 use Rattle.proto_edit_statement_laws.proofs.Apart.{same_tokens}
 use Rattle.proto_edit_statement_laws.proofs.OneFile.{changed_by}
 use Rattle.proto_edit_statement_laws.proofs.Paths.{paths_are_plain}

@@ -4,7 +4,7 @@ use Rattle.std.proofs.lemmas.List.Concat.{flat_map-cons}
 use Rattle.proto_tree.specs.declared.piece.Statement.{Statement}
 use Rattle.proto_tree.specs.Tree.{Tree, End, Leaf, Block}
 use Rattle.proto_ast.specs.Parts.{statements}
-use Rattle.proto_edit_statement_laws.specs.Imports.{behind_import, behind_package, behind_syntax, import_place, last_from}
+use Rattle.proto_edit_rules.specs.AddImport.{behind_import, behind_package, behind_syntax, import_place, last_from}
 
 abbrev pub or_else : Option ℕ → Option ℕ → Option ℕ
 or_else None other = other

@@ -4,7 +4,10 @@ pub use Rattle.proto_edit_statement_laws.proofs.Lists.{more_back, more_front, mo
 pub use Rattle.proto_edit_statement_laws.proofs.MovedNames.{both_moved, extend_moved, extend_uses, field_names_moved, fields_picked, flat_uses_moved, imports_move_names, item_uses_moved, items_moved, member_uses_moved, members_moved, moved_names, path_more, path_of, prefixes_moved, statement_moved}
 pub use Rattle.proto_edit_statement_laws.proofs.SameImports.{import_own, own_import, same_marks, set_imports}
 pub use Rattle.proto_edit_statement_laws.proofs.Scenes.{find_there, index_map, index_past}
-pub use Rattle.proto_edit_statement_laws.specs.Cases.{DeletionCase, IsAlone, IsField, IsPlaceOf, asked_in, is_import_of, kind_not_allowed, last_of_oneof, unknown_path, unknown_target, with_added, with_dropped}
+pub use Rattle.proto_edit_rules.specs.DeleteField.{DeletionCase, IsAlone, IsField, kind_not_allowed, last_of_oneof, unknown_target}
+pub use Rattle.proto_edit_rules.specs.Statements.{IsPlaceOf}
+pub use Rattle.proto_edit_rules.specs.AddImport.{asked_in, is_import_of, unknown_path, with_added}
+pub use Rattle.proto_edit_rules.specs.DropImport.{with_dropped}
 pub use Rattle.proto_edit_statement_laws.specs.Clean.{AreClean}
 pub use Rattle.proto_edit_statement_laws.specs.Files.{IsFieldLess, IsImportMore, MayGoAt}
 pub use Rattle.proto_edit_statement_laws.specs.Kept.{AdditionsKeepLinks, AdditionsKeepMeanings, DropsKeepLinks, DropsKeepMeanings, IsAdded, IsDropped, MeanTheSame}

@@ -8,7 +8,9 @@ use Rattle.proto_text.proofs.Common.{EachByte, class_of, extends_word, is_digit,
 use Rattle.proto_tree.specs.declared.class.Class.TheVariants as class
 use Rattle.proto_tree.specs.declared.class.Want.TheVariants as want
 use Rattle.proto_tree.proofs.Common.{fits, Fit, flat, class_by, classes}
-use Rattle.proto_edit_statement_laws.specs.Statements.{import_tree, import_text, import_tokens, reservation, reservation_text, reservation_tokens, semicolon_token, token_of_text}
+use Rattle.proto_edit_statement_laws.specs.Statements.{import_tree, import_tokens, reservation, reservation_tokens, semicolon_token, token_of_text}
+use Rattle.proto_edit_rules.specs.AddImport.{import_text}
+use Rattle.proto_edit_rules.specs.DeleteField.{reservation_text}
 use Rattle.proto_edit_statement_laws.proofs.TextLaws.{Laws}
 
 -- ---- segments

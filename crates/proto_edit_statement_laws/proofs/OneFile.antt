@@ -6,7 +6,8 @@ use Rattle.proto_text.specs.Edits.{Edit, Puts}
 use Rattle.proto_tree.proofs.Common.{Reads, Tree, End}
 use Rattle.proto_files.proofs.Common.{ReadOf, read_at, FileOf, file_at, IsText, IsBefore, IsWorkspacePath, never_before_itself}
 use Rattle.proto_edit_entries.proofs.Common.{ChangeOf, HasLengths, IsChange, IsEntry, IsMeasured, EachPuts, IsPut, PutsFile, puts_keep_paths}
-use Rattle.proto_edit_statement_laws.specs.OneFile.{AreFiles, IsChangedBy, IsTooLong, length_with, one_change, with_read, with_text}
+use Rattle.proto_edit_statement_laws.specs.OneFile.{AreFiles, IsChangedBy, with_read, with_text}
+use Rattle.proto_edit_rules.specs.Statements.{IsTooLong, length_with, one_change}
 
 -- ---- lengths
 

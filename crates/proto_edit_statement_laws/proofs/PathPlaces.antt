@@ -4,7 +4,7 @@ use Rattle.proto_base.proofs.Common.{cond-false, cond-true, same_from_word}
 use Rattle.proto_files.proofs.Common.{AreWorkspaceFiles, FileOf, file_at, paths_of, IsBefore, bytes_apart, never_before_itself}
 use Rattle.proto_names_rules.specs.Faults.{file_with_path}
 use Rattle.proto_names_imports.proofs.Resolving.{position_cons}
-use Rattle.proto_edit_statement_laws.specs.Cases.{IsNoFile, IsPlaceOf}
+use Rattle.proto_edit_rules.specs.Statements.{IsNoFile, IsPlaceOf}
 
 -- the path of a file is at its place
 at_place : (files : List FileOf) → AllPairs (λ f g. IsBefore f.path g.path) files → (k : ℕ) → k < length files → (path : List ℕ) → (file_at files k).path ≡ path → file_with_path (paths_of files) path ≡ Some k

@@ -6,8 +6,10 @@ use Rattle.proto_text.specs.Texts.{offset_at}
 use Rattle.proto_files.proofs.Common.{ReadOf, read_at, FileOf, file_at, paths_of}
 use Rattle.proto_names_rules.proofs.Common.{IsNeeded, IsOvertaken, import_of, with_imports, imports_of, At, at, IsLinked, Import, Reference, Symbol, Workspace, greatest, hit, hits_at, meaning, same_name, sees, Used, reference_of, greatest_above, greatest_is, name_from_same, same_from_name, has_meaning}
 use Rattle.proto_names_imports.specs.Links.{link_imports, link_skeleton, names_of_files, text_of}
-use Rattle.proto_edit_rename_laws.specs.Cases.{IsFirstPlace, StandsBefore}
-use Rattle.proto_edit_statement_laws.specs.Cases.{AdditionCase, DropCase, IsNeededIn, IsOvertakenIn, IsPlaceOf, already_imported, asked_in, captured, cycle, is_import_of, needed, no_such_file, not_imported, unknown_file, unknown_path, with_added, with_dropped}
+use Rattle.proto_edit_rules.specs.Rename.{IsFirstPlace, StandsBefore}
+use Rattle.proto_edit_rules.specs.AddImport.{AdditionCase, IsOvertakenIn, already_imported, asked_in, captured, cycle, is_import_of, unknown_file, unknown_path, with_added}
+use Rattle.proto_edit_rules.specs.DropImport.{DropCase, IsNeededIn, needed, no_such_file, not_imported, with_dropped}
+use Rattle.proto_edit_rules.specs.Statements.{IsPlaceOf}
 use Rattle.proto_edit_statement_laws.specs.Places.{NeededMeansElse, NeededPlacesAreOne, NeededPlacesAreThere, OvertakenMeansElse, OvertakenPlacesAreOne, OvertakenPlacesAreThere}
 use Rattle.proto_edit_statement_laws.proofs.Kept.{linked}
 

@@ -7,7 +7,9 @@ use Rattle.proto_tree.specs.declared.piece.Header.TheVariants as header
 use Rattle.proto_tree.specs.declared.piece.Statement.{Statement}
 use Rattle.proto_tree.specs.declared.piece.Statement.TheVariants as statement
 use Rattle.proto_tree.proofs.Common.{Mark, mark, only, one, flat_option, flat_type, flat_settings, flat_header, flat_statement, Tree, End, Block, flat, numbered_at}
-use Rattle.proto_edit_statement_laws.specs.Deletions.{FieldsStandOnce, IsFieldOf, StandsAt, InMessage, InOneof, Deeper, PastLeaf, PastBlock, StandsIn, First, AfterLeaf, AfterBlock, first_token}
+use Rattle.proto_edit_statement_laws.specs.Deletions.{FieldsStandOnce}
+use Rattle.proto_edit_rules.specs.DeleteField.{IsFieldOf, StandsAt, InMessage, InOneof, Deeper, PastLeaf, PastBlock}
+use Rattle.proto_edit_rules.specs.Statements.{StandsIn, First, AfterLeaf, AfterBlock, first_token}
 use Rattle.proto_edit_statement_laws.proofs.Found.{found}
 use Rattle.proto_edit_statement_laws.proofs.TakenOut.{before_field, before_it, block_long, stands_within}
 

@@ -1,10 +1,8 @@
 -- The changes of a deletion: the one splice of the one file that declares the field.
 use Rattle.std.specs.List.{Contains}
-use Rattle.std.specs.Prelude.{◌≡◌, ℕ, ◌<◌, ◌^◌, List, length, Option}
+use Rattle.std.specs.Prelude.{◌≡◌, ℕ, ◌<◌, ◌^◌, List, length}
 use Rattle.proto_base.specs.Texts.{Text}
 use Rattle.proto_text.specs.declared.lexer.Token.{Token as TokenOf}
-use Rattle.proto_text.specs.Edits.{Edit}
-use Rattle.proto_tree.specs.declared.piece.Statement.{Statement}
 use Rattle.proto_tree.specs.Tree.{Tree}
 use Rattle.proto_files.specs.FilesRead.{ReadOf, AreRead, read_at}
 use Rattle.proto_files.specs.GivenFiles.{FileOf, file_at}
@@ -12,44 +10,10 @@ use Rattle.proto_names_rules.specs.declared.kind.Kind.TheVariants.{Field}
 use Rattle.proto_names_rules.specs.Skeleton.{Token}
 use Rattle.proto_names_rules.specs.Tree.{Placed, file_placed}
 use Rattle.proto_names_outline.specs.FromTree.{items_in}
-use Rattle.proto_ast.specs.Numbers.{number_value}
-use Rattle.proto_edit_entries.specs.Entries.{ChangeOf}
-use Rattle.proto_edit_statement_laws.specs.Deletions.{IsDeleted, IsFieldOf, StandsAt, deletion}
-use Rattle.proto_edit_statement_laws.specs.OneFile.{AreFiles, IsChangedBy, IsTooLong, one_change, word_of_token}
-
--- a written field: its file, its statement, the `}` of its oneof if it has one, and the
--- tokens of its name and its number
-pub record FieldAt : Type 0 where
-  pub file : ℕ
-  pub statement : Statement
-  pub oneof : Option ℕ
-  pub name : ℕ
-  pub number : ℕ
-
--- the field stands there
-pub record IsFieldAt (files : List FileOf) (reads : List ReadOf) (f : FieldAt) : Type 0 where
-  pub within : f.file < length files
-  pub stands : StandsAt f.statement f.oneof (read_at reads f.file).tree
-  pub declares : IsFieldOf f.statement f.name f.number
-
--- the number of a field, by its value
-abbrev pub field_number_value : List FileOf → List ReadOf → FieldAt → ℕ
-field_number_value files reads f = number_value (word_of_token files reads f.file f.number)
-
--- the name of a field, as it is written
-abbrev pub name_of_field : List FileOf → List ReadOf → FieldAt → Text
-name_of_field files reads f = word_of_token files reads f.file f.name
-
--- the splice of the field's file that deletes the field
-abbrev pub splice_of_deletion : List FileOf → List ReadOf → FieldAt → Edit
-splice_of_deletion files reads f =
-    deletion (file_at files f.file).bytes (read_at reads f.file).tokens f.statement f.oneof
-    (field_number_value files reads f) (name_of_field files reads f)
-
--- what the deletion of a field changes
-abbrev pub changes_of_deletion : List FileOf → List ReadOf → FieldAt → List ChangeOf
-changes_of_deletion files reads f =
-    one_change (file_at files f.file) (splice_of_deletion files reads f)
+use Rattle.proto_edit_statement_laws.specs.Deletions.{IsDeleted}
+use Rattle.proto_edit_statement_laws.specs.OneFile.{AreFiles, IsChangedBy}
+use Rattle.proto_edit_rules.specs.Statements.{IsTooLong}
+use Rattle.proto_edit_rules.specs.DeleteField.{FieldAt, IsFieldAt, field_number_value, name_of_field, splice_of_deletion}
 
 -- the file is read without the field and with its reservation, the others as before
 pub record IsFieldDeleted

@@ -5,8 +5,8 @@ use Rattle.proto_files.specs.Faults.{HasNoFault}
 use Rattle.proto_files.specs.GivenFiles.{FileOf}
 use Rattle.proto_files.specs.FilesRead.{ReadOf, AreRead}
 use Rattle.proto_names_imports.specs.Links.{LinkFaults}
-use Rattle.proto_edit_rename_laws.specs.Targets.{Target}
-use Rattle.proto_edit_statement_laws.specs.Cases.{DeletionCase, IsField}
+use Rattle.proto_edit_rules.specs.Rename.{Target}
+use Rattle.proto_edit_rules.specs.DeleteField.{DeletionCase, IsField}
 
 -- There is a field,
 abbrev pub NamedFieldsAreThere : Type 0

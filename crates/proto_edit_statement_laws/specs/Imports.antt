@@ -1,14 +1,13 @@
 -- An import that is added or dropped: its place, its splice, and what is read then.
-use Rattle.std.specs.Prelude.{◌≡◌, ℕ, zero, suc, List, [], ◌∷◌, ◌++◌, map, flat_map, codes}
+use Rattle.std.specs.Prelude.{◌≡◌, List, [], ◌∷◌, ◌++◌, map}
 use Rattle.std.specs.Str.{IsUtf8}
 use Rattle.proto_base.specs.Texts.{Path, Text}
 use Rattle.proto_text.specs.declared.lexer.Token.{Token}
-use Rattle.proto_text.specs.Edits.{Edit, Puts}
-use Rattle.proto_text.specs.Segments.{end_before, moved, quoted}
+use Rattle.proto_text.specs.Edits.{Puts}
+use Rattle.proto_text.specs.Segments.{moved, quoted}
 use Rattle.proto_text.specs.Strings.{IsString}
 use Rattle.proto_text.specs.Tokens.{lexeme_at}
 use Rattle.proto_tree.specs.declared.context.Context.TheVariants as context
-use Rattle.proto_tree.specs.declared.piece.Statement.{Statement}
 use Rattle.proto_tree.specs.declared.piece.Statement.TheVariants as statement
 use Rattle.proto_tree.specs.declared.tree.Import.{Import}
 use Rattle.proto_tree.specs.Moved.{Move}
@@ -16,56 +15,13 @@ use Rattle.proto_tree.specs.Reads.{Reads}
 use Rattle.proto_tree.specs.Tree.{Tree, End, Leaf}
 use Rattle.proto_names_outline.specs.FromTree.{Wanted, imports_in, statement_imports}
 use Rattle.proto_names_outline.specs.Moved.{move_wanted}
-use Rattle.proto_ast.specs.Parts.{statements}
-use Rattle.proto_edit_statement_laws.specs.Deletions.{StandsIn, begins, ends, own, splice, without}
+use Rattle.proto_edit_statement_laws.specs.Deletions.{own, without}
+use Rattle.proto_edit_rules.specs.Statements.{StandsIn}
 use Rattle.proto_edit_statement_laws.specs.Exchanges.{IsExchanged}
 use Rattle.proto_edit_statement_laws.specs.Insertions.{IsInsertion}
-use Rattle.proto_edit_statement_laws.specs.Statements.{import_tree, import_text, import_tokens}
-
--- ---- the place of an added import
-
--- the token behind a statement, if it is the syntax, as a list of one or of none
-abbrev pub behind_syntax : Statement → List ℕ
-behind_syntax (statement.Syntax s) = suc s.semicolon ∷ []
-behind_syntax _ = []
-
--- the token behind a statement, if it is the package
-abbrev pub behind_package : Statement → List ℕ
-behind_package (statement.Package p) = suc p.semicolon ∷ []
-behind_package _ = []
-
--- the token behind a statement, if it is an import
-abbrev pub behind_import : Statement → List ℕ
-behind_import (statement.Import i) = suc i.semicolon ∷ []
-behind_import _ = []
-
--- the last of some tokens, which follow on one
-abbrev pub last_from : ℕ → List ℕ → ℕ
-last_from n [] = n
-last_from n (k ∷ ks) = last_from k ks
-
--- The token behind the last import; with none, behind the package; with neither,
--- behind the syntax; else the first.
-abbrev pub import_place : Tree → ℕ
-import_place t = last_from 0 (flat_map behind_syntax (statements t)
-    ++ (flat_map behind_package (statements t) ++ flat_map behind_import (statements t)))
-
--- ---- the splices
-
--- a line of its own: behind what stands there, or before all
-abbrev pub added_text : ℕ → Path → Text
-added_text zero path = import_text path ++ codes "\n"
-added_text (suc place) path = codes "\n" ++ import_text path
-
--- nothing goes
-abbrev pub addition : Text → List Token → Tree → Path → Edit
-addition text tokens t path = splice text (end_before tokens (import_place t))
-    (end_before tokens (import_place t)) (added_text (import_place t) path)
-
--- nothing comes
-abbrev pub drop_of : Text → List Token → Import → Edit
-drop_of text tokens i =
-    splice text (begins tokens (statement.Import i)) (ends tokens (statement.Import i)) []
+use Rattle.proto_edit_statement_laws.specs.Statements.{import_tree, import_tokens}
+use Rattle.proto_edit_rules.specs.AddImport.{import_place, addition}
+use Rattle.proto_edit_rules.specs.DropImport.{drop_of}
 
 -- ---- what is read
 

@@ -8,7 +8,9 @@ use Rattle.proto_files.specs.GivenFiles.{FileOf}
 use Rattle.proto_files.specs.FilesRead.{ReadOf, AreRead}
 use Rattle.proto_names_rules.specs.Names.{Reference, meaning}
 use Rattle.proto_names_imports.specs.Links.{LinkFaults, names_of_files}
-use Rattle.proto_edit_statement_laws.specs.Cases.{AdditionCase, DropCase, IsPlaceOf}
+use Rattle.proto_edit_rules.specs.AddImport.{AdditionCase}
+use Rattle.proto_edit_rules.specs.DropImport.{DropCase}
+use Rattle.proto_edit_rules.specs.Statements.{IsPlaceOf}
 use Rattle.proto_edit_statement_laws.specs.Clean.{AreClean}
 use Rattle.proto_edit_statement_laws.specs.Files.{IsFieldLess, IsImportMore}
 

@@ -1,4 +1,3 @@
-pub mod Cases
 pub mod Clean
 pub mod Common
 pub mod DeletionChanges

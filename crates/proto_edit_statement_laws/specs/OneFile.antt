@@ -1,44 +1,22 @@
 -- One file of a workspace that is changed by one splice: its change, the
 -- files then, and what is read of them.
-use Rattle.std.specs.Prelude.{◌≡◌, ℕ, ◌+◌, ◌-◌, ◌<◌, List, [], ◌∷◌, length, slice_set}
-use Rattle.proto_base.specs.Texts.{Text, text_limit}
+use Rattle.std.specs.Prelude.{◌≡◌, ℕ, ◌<◌, List, length, slice_set}
+use Rattle.proto_base.specs.Texts.{Text}
 use Rattle.proto_text.specs.declared.lexer.Token.{Token}
 use Rattle.proto_text.specs.Edits.{Edit}
-use Rattle.proto_text.specs.Texts.{words}
 use Rattle.proto_tree.specs.Tree.{Tree}
-use Rattle.proto_files.specs.FilesRead.{ReadOf, AreRead, read_at}
+use Rattle.proto_files.specs.FilesRead.{ReadOf, AreRead}
 use Rattle.proto_files.specs.GivenFiles.{FileOf, AreWorkspaceFiles, file_at}
 use Rattle.proto_files.specs.ReadFaults.{IsText}
-use Rattle.proto_edit_entries.specs.Entries.{ChangeOf, IsEntry}
+use Rattle.proto_edit_entries.specs.Entries.{IsEntry}
 use Rattle.proto_edit_entries.specs.Putting.{IsPut}
+use Rattle.proto_edit_rules.specs.Statements.{length_with, one_change}
 
 -- files of a workspace that are texts, with their tokens and trees
 pub record AreFiles (files : List FileOf) (reads : List ReadOf) : Type 0 where
   pub workspace : AreWorkspaceFiles files
   pub texts : (k : ℕ) → k < length files → IsText (file_at files k).bytes
   pub read : AreRead files reads
-
--- the text of a token of a file
-abbrev pub word_of_token : List FileOf → List ReadOf → ℕ → ℕ → Text
-word_of_token files reads file token =
-    words (file_at files file).bytes (read_at reads file).tokens token
-
--- the length of a file with a splice
-abbrev pub length_with : FileOf → Edit → ℕ
-length_with f e = (length f.bytes + length e.new) - length e.old
-
--- the change of a file by one splice
-abbrev pub one_change : FileOf → Edit → List ChangeOf
-one_change f e = record {
-  path = f.path;
-  before = length f.bytes;
-  after = length_with f e;
-  splices = e ∷ [];
-} ∷ []
-
--- With the splice the file would be longer than one may be.
-abbrev pub IsTooLong : FileOf → Edit → Type 0
-IsTooLong f e = text_limit + length e.old < length f.bytes + length e.new
 
 -- the files with another text in the place of that of one
 abbrev pub with_text : List FileOf → ℕ → Text → List FileOf

@@ -9,7 +9,8 @@ use Rattle.proto_names_rules.specs.Grown.{At}
 use Rattle.proto_names_rules.specs.Names.{meaning}
 use Rattle.proto_names_rules.specs.Skeleton.{Used, reference_of}
 use Rattle.proto_names_imports.specs.Links.{names_of_files, text_of}
-use Rattle.proto_edit_statement_laws.specs.Cases.{AdditionCase, DropCase, IsNeededAt, IsNeededIn, IsOvertakenAt, IsOvertakenIn, with_added, with_dropped}
+use Rattle.proto_edit_rules.specs.AddImport.{AdditionCase, IsOvertakenAt, IsOvertakenIn, with_added}
+use Rattle.proto_edit_rules.specs.DropImport.{DropCase, IsNeededAt, IsNeededIn, with_dropped}
 use Rattle.proto_edit_statement_laws.specs.Clean.{AreClean}
 
 -- With case 7 there is such a place,

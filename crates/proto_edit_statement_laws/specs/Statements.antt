@@ -1,5 +1,5 @@
 -- The statements that edits put in: their text, their tokens, and their trees.
-use Rattle.std.specs.Prelude.{ℕ, ◌+◌, List, [], ◌∷◌, ◌++◌, codes, None}
+use Rattle.std.specs.Prelude.{ℕ, ◌+◌, List, [], ◌∷◌, codes, None}
 use Rattle.std.specs.Fmt.{decimal}
 use Rattle.proto_text.specs.declared.kind.TokenKind.{TokenKind}
 use Rattle.proto_text.specs.declared.kind.TokenKind.TheVariants.{Word, Number, Text, Punctuation}
@@ -18,11 +18,6 @@ abbrev pub semicolon_token : Lexeme
 semicolon_token = token_of_text Punctuation (codes ";")
 
 -- ---- a number and a name that are reserved
-
--- `reserved N; reserved "name";`
-abbrev pub reservation_text : ℕ → List ℕ → List ℕ
-reservation_text number name =
-    codes "reserved " ++ (decimal number ++ (codes "; reserved " ++ (quoted name ++ codes ";")))
 
 -- the tokens of `reserved N; reserved "name";`
 abbrev pub reservation_tokens : ℕ → List ℕ → List Lexeme
@@ -47,10 +42,6 @@ reservation i =
     })) End)
 
 -- ---- an import
-
--- `import "PATH";`
-abbrev pub import_text : List ℕ → List ℕ
-import_text path = codes "import " ++ (quoted path ++ codes ";")
 
 -- the tokens of `import "PATH";`
 abbrev pub import_tokens : List ℕ → List Lexeme

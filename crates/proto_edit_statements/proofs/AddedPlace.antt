@@ -7,7 +7,7 @@ use Rattle.proto_text.specs.declared.source.Span.{Span}
 use Rattle.proto_tree.proofs.Common.{Reads, Tree}
 use Rattle.proto_files.proofs.Common.{ReadOf, read_at, FileOf, file_at}
 use Rattle.proto_edit_statement_laws.proofs.Common.{splice, AdditionsAreRead, added_text, import_place}
-use Rattle.proto_edit_statement_laws.specs.ImportChanges.{splice_of_addition}
+use Rattle.proto_edit_rules.specs.AddImport.{splice_of_addition}
 use Rattle.proto_edit_statements.specs.ImportPlaces.{behind_all, ends_of, place_behind}
 use Rattle.proto_edit_statements.proofs.ImportEnds.{place_is}
 use Rattle.proto_edit_statements.proofs.TokenSpans.{end_is}

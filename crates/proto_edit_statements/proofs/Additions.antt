@@ -11,8 +11,9 @@ use Rattle.proto_names_rules.proofs.Common.{Leads, IsOvertaken, At, at, used_in,
 use Rattle.proto_edit_captures.proofs.Common.{IsCapturedPlace, RefusalStandsAtToken, IsFirstPlace, StandsBefore}
 use Rattle.proto_edit_captures.specs.Overtaking.{IsFirstOvertaken, Overtakes}
 use Rattle.proto_edit_statement_laws.proofs.ChangesCommon.{splice_of_addition, IsTooLong}
-use Rattle.proto_edit_statement_laws.specs.Cases.{AdditionCase, IsImported, IsNoFile, IsOvertakenIn, IsPlaceOf, already_imported, captured, cycle, unknown_file, unknown_path, with_added}
-use Rattle.proto_edit_statements.specs.Edits.{IsAdditionCase, IsAdditionRefusal, IsLeastOf, RefusesAddition, by_name, too_large}
+use Rattle.proto_edit_rules.specs.AddImport.{AdditionCase, IsImported, IsOvertakenIn, already_imported, captured, cycle, unknown_file, unknown_path, with_added, RefusesAddition, by_name, too_large}
+use Rattle.proto_edit_rules.specs.Statements.{IsNoFile, IsPlaceOf}
+use Rattle.proto_edit_statements.specs.Edits.{IsAdditionCase, IsAdditionRefusal, IsLeastOf}
 use Rattle.proto_names.proofs.UsesOfFiles.{from_use, use_there}
 
 -- ---- the cases by their numbers

@@ -8,7 +8,9 @@ use Rattle.proto_edit_entries.specs.declared.refusal.Refusal.TheVariants as refu
 use Rattle.proto_names_rules.proofs.Common.{At, Used}
 use Rattle.proto_names.specs.Linking.{RefId}
 use Rattle.proto_edit_captures.proofs.Common.{RefusalStandsAtToken, IsFirstPlace}
-use Rattle.proto_edit_statement_laws.specs.Cases.{DropCase, IsImported, IsNeededIn, IsNoFile, IsPlaceOf, needed, no_such_file, not_imported}
+use Rattle.proto_edit_rules.specs.DropImport.{DropCase, IsNeededIn, needed, no_such_file, not_imported}
+use Rattle.proto_edit_rules.specs.AddImport.{IsImported}
+use Rattle.proto_edit_rules.specs.Statements.{IsNoFile, IsPlaceOf}
 use Rattle.proto_edit_statements.specs.Edits.{IsDropCase, IsDropRefusal}
 use Rattle.proto_edit_statements.specs.Steps.{IsFirstNeeded, IsNeededAtToken}
 use Rattle.proto_names.proofs.UsesOfFiles.{from_use}

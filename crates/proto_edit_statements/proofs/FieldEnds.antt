@@ -8,7 +8,8 @@ use Rattle.proto_tree.specs.declared.piece.Statement.TheVariants as statement
 use Rattle.proto_tree.specs.declared.tree.Field.{Field}
 use Rattle.proto_tree.specs.declared.tree.MapField.{MapField}
 use Rattle.proto_tree.specs.Flat.{Mark, flat_option, flat_settings, flat_statement, flat_type, name, one, only}
-use Rattle.proto_edit_statement_laws.specs.Deletions.{IsFieldOf, last_index, next_token}
+use Rattle.proto_edit_rules.specs.DeleteField.{IsFieldOf}
+use Rattle.proto_edit_rules.specs.Statements.{last_index, next_token}
 use Rattle.proto_edit_statements.specs.FieldPlaces.{statement_end}
 
 record EndsAt (k : ℕ) (ms : List Mark) : Type 0 where

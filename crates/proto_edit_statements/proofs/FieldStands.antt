@@ -11,7 +11,8 @@ use Rattle.proto_tree.specs.declared.piece.Heading.{Heading}
 use Rattle.proto_tree.specs.declared.piece.Statement.{Statement}
 use Rattle.proto_tree.specs.declared.piece.Statement.TheVariants as statement
 use Rattle.proto_tree.specs.Tree.{Tree, End, Leaf, Block, IsWellFormed, after, allows, field_kind, header_kind, statement_kind}
-use Rattle.proto_edit_statement_laws.specs.Deletions.{AfterBlock, AfterLeaf, Deeper, First, InMessage, InOneof, IsFieldOf, PastBlock, PastLeaf, StandsAt, StandsIn}
+use Rattle.proto_edit_rules.specs.Statements.{AfterBlock, AfterLeaf, First, StandsIn}
+use Rattle.proto_edit_rules.specs.DeleteField.{Deeper, InMessage, InOneof, IsFieldOf, PastBlock, PastLeaf, StandsAt}
 use Rattle.proto_edit_statements.specs.FieldPlaces.{FieldStatement, field_among, field_if, field_in, has_name, number_token, or_else}
 
 -- ---- the first of two

@@ -11,7 +11,8 @@ use Rattle.proto_names_rules.proofs.Common.{place_from, place_of as place_of_dec
 use Rattle.proto_ast.specs.Numbers.{number_value, past}
 use Rattle.proto_edit_captures.proofs.Common.{IsDeclaredBy, declared_by, path_of_declared, place_last}
 use Rattle.proto_edit_statement_laws.proofs.Common.{IsFieldOf, StandsAt, begins, deletion, first_token, next_token, splice, reservation_text, found, some_marks, fit_long, close_at, closed}
-use Rattle.proto_edit_statement_laws.specs.DeletionChanges.{FieldAt, FieldsAreThere, IsFieldAt, name_of_field, field_number_value, splice_of_deletion}
+use Rattle.proto_edit_statement_laws.specs.DeletionChanges.{FieldsAreThere}
+use Rattle.proto_edit_rules.specs.DeleteField.{FieldAt, IsFieldAt, name_of_field, field_number_value, splice_of_deletion}
 use Rattle.proto_edit_statements.specs.Common.{FieldStatement as FoundAt, field_in, statement_end, number_token, place_of_statement, FieldPlace, IsFieldNamed, IsFieldToken, StandsInOrder, last_by, last_replaced, text_by, text_if, FieldName}
 use Rattle.proto_edit_statements.proofs.FieldCases.{file_there}
 use Rattle.proto_edit_statements.proofs.FieldEnds.{field_last}

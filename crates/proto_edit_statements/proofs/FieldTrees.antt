@@ -1,7 +1,7 @@
 -- The first field of a name token in trees that stand one behind another.
 use Rattle.std.proofs.Common.{◌≡◌, ℕ, List, ◌++◌, Option, Some, None, refl, sym, ap, ◌∙◌, option_map}
 use Rattle.std.proofs.lemmas.Option.{none-some}
-use Rattle.proto_edit_statement_laws.specs.Deletions.{first_index, first_token}
+use Rattle.proto_edit_rules.specs.Statements.{first_index, first_token}
 use Rattle.proto_edit_statements.specs.Common.{FieldPlace, FieldStatement, field_among, field_if, field_in, or_else, place_of_statement}
 use Rattle.proto_tree.specs.declared.piece.Header.TheVariants as header
 use Rattle.proto_tree.specs.declared.class.Want.TheVariants as want

@@ -1,7 +1,7 @@
 -- The last `;` of each kind in trees that stand one behind another, and the place that they give.
 use Rattle.std.proofs.Common.{◌≡◌, ℕ, suc, List, [], ◌∷◌, ◌++◌, Option, Some, None, refl, ap, ◌∙◌, flat_map}
 use Rattle.proto_ast.specs.Parts.{statements}
-use Rattle.proto_edit_statement_laws.specs.Imports.{behind_import, behind_package, behind_syntax, import_place, last_from}
+use Rattle.proto_edit_rules.specs.AddImport.{behind_import, behind_package, behind_syntax, import_place, last_from}
 use Rattle.proto_edit_statements.specs.declared.import_places.LastEnds.{LastEnds}
 use Rattle.proto_edit_statements.specs.Common.{or_else, behind_all, ends_in, ends_of, place_behind, with_statement}
 use Rattle.proto_tree.specs.declared.piece.Statement.TheVariants as statement

@@ -5,7 +5,7 @@ use Rattle.proto_tree.specs.declared.piece.Statement.{Statement}
 use Rattle.proto_tree.specs.declared.piece.Statement.TheVariants as statement
 use Rattle.proto_tree.specs.declared.tree.Import.{Import}
 use Rattle.proto_tree.specs.Tree.{Tree, End, Leaf, Block, joined_trees}
-use Rattle.proto_edit_statement_laws.specs.Deletions.{AfterBlock, AfterLeaf, First, StandsIn}
+use Rattle.proto_edit_rules.specs.Statements.{AfterBlock, AfterLeaf, First, StandsIn}
 use Rattle.proto_edit_statements.specs.FieldPlaces.{or_else}
 use Rattle.proto_edit_statements.specs.Imported.{import_if, import_in}
 

@@ -16,9 +16,8 @@ use Rattle.proto_files.proofs.Common.{ReadOf, AreRead, read_at, FileOf, file_at,
 use Rattle.proto_names_outline.proofs.Common.{Wanted, imports_in, statement_imports, import_here as path_here, imports_are_strings}
 use Rattle.proto_names_rules.proofs.Common.{AskedImport, At}
 use Rattle.proto_names_imports.specs.Links.{all_wanted, asked_as, text_of}
-use Rattle.proto_edit_statement_laws.specs.Deletions.{AfterBlock, AfterLeaf, First, StandsIn}
-use Rattle.proto_edit_statement_laws.specs.OneFile.{word_of_token}
-use Rattle.proto_edit_statement_laws.specs.Cases.{IsImported, asked_in}
+use Rattle.proto_edit_rules.specs.Statements.{AfterBlock, AfterLeaf, First, StandsIn, word_of_token}
+use Rattle.proto_edit_rules.specs.AddImport.{IsImported, asked_in}
 use Rattle.proto_edit_statements.specs.Imported.{IsImportNamed, import_in}
 use Rattle.proto_edit_statements.proofs.ImportTrees.{import_here, import_there, none_there}
 

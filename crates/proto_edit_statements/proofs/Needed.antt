@@ -9,7 +9,7 @@ use Rattle.proto_names_rules.specs.declared.kind.Kind.{Kind}
 use Rattle.proto_names.proofs.Common.{HoldsNames, IsLinkOf, TextMeant, meant_by_link, meant_by_use, LinkOf, NameOf, declaring_file, name_at, own_file, name_text, from_use, use_there}
 use Rattle.proto_names.specs.Linking.{Meant}
 use Rattle.proto_edit_captures.proofs.Common.{StandsBefore, files_are_linked}
-use Rattle.proto_edit_statement_laws.specs.Cases.{IsNeededIn, with_dropped}
+use Rattle.proto_edit_rules.specs.DropImport.{IsNeededIn, with_dropped}
 use Rattle.proto_edit_statements.specs.Steps.{AreSeenIn, IsFirstNeeded, first_hidden, hidden_in, is_hidden}
 
 -- ---- what a reference means is a type

@@ -6,7 +6,8 @@ use Rattle.proto_files.proofs.Common.{FaultAt, HasNoFault, ReadOf, AreRead, read
 use Rattle.proto_text.specs.Texts.{offset_at}
 use Rattle.proto_names_rules.specs.Faults.{AskedImport, Fault, ImportFault, IsLeast, cycle, double, fault, file_with_path, unknown}
 use Rattle.proto_names_imports.specs.Links.{LinkFaults, all_wanted, of_import, text_of}
-use Rattle.proto_edit_statement_laws.specs.Cases.{IsImported, IsNoFile}
+use Rattle.proto_edit_rules.specs.AddImport.{IsImported}
+use Rattle.proto_edit_rules.specs.Statements.{IsNoFile}
 
 module _ (files : List FileOf) (reads : List ReadOf) (are : AreRead files reads) (clean : HasNoFault (LinkFaults files)) where
   abbrev standing : Fault → FaultKind → FaultAt

@@ -5,7 +5,7 @@ use Rattle.proto_text.specs.Edits.{Edit}
 use Rattle.proto_files.specs.GivenFiles.{FileOf}
 use Rattle.proto_edit_entries.specs.declared.entry.Change.{Change}
 use Rattle.proto_edit_entries.specs.Entries.{change_of}
-use Rattle.proto_edit_statement_laws.specs.OneFile.{IsTooLong, one_change}
+use Rattle.proto_edit_rules.specs.Statements.{IsTooLong, one_change}
 use Rattle.proto_edit_statements.specs.Spliced.{IsSpliced}
 
 -- the one change

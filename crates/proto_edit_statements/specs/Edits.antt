@@ -3,18 +3,16 @@
 use Rattle.std.specs.Prelude.{◌≡◌, ℕ, ◌<◌, ◌^◌, List, string_bytes}
 use Rattle.proto_base.specs.Texts.{Path, Text}
 use Rattle.proto_files.specs.FilesRead.{ReadOf, AreRead}
-use Rattle.proto_files.specs.GivenFiles.{FileOf, file_at}
+use Rattle.proto_files.specs.GivenFiles.{FileOf}
 use Rattle.proto_edit_entries.specs.declared.refusal.Refusal.{Refusal}
 use Rattle.proto_edit_entries.specs.declared.refusal.Refusal.TheVariants as refusal
 use Rattle.proto_edit_entries.specs.Entries.{ChangeOf}
 use Rattle.proto_edit_entries.specs.RefusalTable.{refusal_number}
-use Rattle.proto_names_rules.specs.Grown.{at}
-use Rattle.proto_edit_captures.specs.Targets.{Target}
 use Rattle.proto_tree.specs.declared.tree.Import.{Import}
-use Rattle.proto_edit_statement_laws.specs.DeletionChanges.{FieldAt, IsFieldAt, changes_of_deletion, field_number_value, splice_of_deletion}
-use Rattle.proto_edit_statement_laws.specs.ImportChanges.{IsImportOf, changes_of_addition, changes_of_drop, splice_of_addition}
-use Rattle.proto_edit_statement_laws.specs.OneFile.{IsTooLong}
-use Rattle.proto_edit_statement_laws.specs.Cases.{AdditionCase, DeletionCase, DropCase, IsField, IsNeededAt, IsOvertakenAt, IsPlaceOf}
+use Rattle.proto_edit_rules.specs.DeleteField.{FieldAt, IsFieldAt, changes_of_deletion, field_number_value, IsFieldNamed, RefusesDeletion}
+use Rattle.proto_edit_rules.specs.DropImport.{IsImportOf, changes_of_drop, DropCase, IsNeededAt}
+use Rattle.proto_edit_rules.specs.AddImport.{changes_of_addition, IsOvertakenAt, RefusesAddition}
+use Rattle.proto_edit_rules.specs.Statements.{IsPlaceOf}
 
 -- the least of some cases
 pub record IsLeastOf (Says : ℕ → Type 0) (n : ℕ) : Type 0 where
@@ -26,23 +24,6 @@ abbrev pub SomeReading : List FileOf → (List ReadOf → Type 0) → Type 0
 SomeReading files P = (reads : List ReadOf) × AreRead files reads × P reads
 
 -- ---- a field deleted
-
--- the statement of the field of this full name
-pub record IsFieldNamed
-    (files : List FileOf) (reads : List ReadOf) (name : Text) (f : FieldAt) : Type 0 where
-  pub t : Target
-  pub field : IsField files reads name t
-  pub token : t.token ≡ at f.file f.name
-  pub stands : IsFieldAt files reads f
-
--- Case n refuses the deletion; of several the least is answered.
-pub data RefusesDeletion
-    (files : List FileOf) (reads : List ReadOf) (name : Text) : ℕ → Type 0 where
-  by_name : (n : ℕ) → DeletionCase files reads name n → RefusesDeletion files reads name n
-  too_large : (f : FieldAt)
-      → IsFieldNamed files reads name f
-      → IsTooLong (file_at files f.file) (splice_of_deletion files reads f)
-      → RefusesDeletion files reads name 16
 
 -- the case of this number refuses the deletion of the field of this name
 abbrev pub IsDeletionCase : List FileOf → Text → ℕ → Type 0
@@ -71,15 +52,6 @@ HaveSmallNumbers files = (reads : List ReadOf)
     → field_number_value files reads f < 2 ^ 64
 
 -- ---- an import added
-
--- Case n refuses the import; of several the least is answered.
-pub data RefusesAddition
-    (files : List FileOf) (reads : List ReadOf) (file path : Path) : ℕ → Type 0 where
-  by_name : (n : ℕ) → AdditionCase files reads file path n → RefusesAddition files reads file path n
-  too_large : (k : ℕ)
-      → IsPlaceOf files file k
-      → IsTooLong (file_at files k) (splice_of_addition files reads k path)
-      → RefusesAddition files reads file path 16
 
 -- the case of this number refuses that the file imports the path
 abbrev pub IsAdditionCase : List FileOf → Path → Path → ℕ → Type 0

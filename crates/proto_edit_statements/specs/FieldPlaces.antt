@@ -5,7 +5,7 @@ use Rattle.proto_tree.specs.declared.piece.Statement.{Statement}
 use Rattle.proto_tree.specs.declared.piece.Statement.TheVariants as statement
 use Rattle.proto_tree.specs.Tree.{Tree, End, Leaf, Block}
 use Rattle.proto_ast.specs.Parts.{FieldOf, fields_in}
-use Rattle.proto_edit_statement_laws.specs.Deletions.{first_token}
+use Rattle.proto_edit_rules.specs.Statements.{first_token}
 use Rattle.proto_edit_statements.specs.declared.fields.FieldPlace.{FieldPlace}
 
 -- a field's statement, and the `}` of the oneof around it, if it is of one

@@ -9,9 +9,9 @@ use Rattle.proto_files.specs.GivenFiles.{FileOf, file_at}
 use Rattle.proto_names_rules.specs.declared.kind.Kind.{Kind}
 use Rattle.proto_names_rules.specs.declared.kind.Kind.TheVariants.{Field}
 use Rattle.proto_names_rules.specs.Grown.{at}
-use Rattle.proto_edit_captures.specs.Targets.{Target}
+use Rattle.proto_edit_rules.specs.Rename.{Target}
 use Rattle.proto_edit_statements.specs.declared.deleting.FieldName.{FieldName}
-use Rattle.proto_edit_statement_laws.specs.Cases.{IsField}
+use Rattle.proto_edit_rules.specs.DeleteField.{IsField}
 use Rattle.proto_edit_statements.specs.FieldPlaces.{field_in, place_of_statement}
 use Rattle.proto_edit_statements.specs.declared.fields.FieldPlace.{FieldPlace}
 

@@ -8,8 +8,8 @@ use Rattle.proto_tree.specs.declared.piece.Statement.{Statement}
 use Rattle.proto_tree.specs.declared.piece.Statement.TheVariants as statement
 use Rattle.proto_tree.specs.Tree.{Tree, End, Leaf, Block}
 use Rattle.proto_edit_statements.specs.FieldPlaces.{or_else}
-use Rattle.proto_edit_statement_laws.specs.ImportChanges.{IsImportOf}
-use Rattle.proto_edit_statement_laws.specs.Cases.{IsImported}
+use Rattle.proto_edit_rules.specs.DropImport.{IsImportOf}
+use Rattle.proto_edit_rules.specs.AddImport.{IsImported}
 
 -- the file does not import the path; or it does, by this statement
 abbrev pub IsImportNamed : List FileOf → List ReadOf → ℕ → Path → Option Import → Type 0

@@ -6,10 +6,9 @@ use Rattle.proto_files.specs.FilesRead.{ReadOf}
 use Rattle.proto_files.specs.GivenFiles.{FileOf, file_at}
 use Rattle.proto_edit_entries.specs.declared.entry.Change.{Change}
 use Rattle.proto_edit_entries.specs.Entries.{change_of}
-use Rattle.proto_edit_statement_laws.specs.DeletionChanges.{FieldAt, splice_of_deletion}
-use Rattle.proto_edit_statement_laws.specs.ImportChanges.{splice_of_addition}
-use Rattle.proto_edit_statement_laws.specs.OneFile.{IsTooLong, one_change}
-use Rattle.proto_edit_statements.specs.Edits.{IsFieldNamed}
+use Rattle.proto_edit_rules.specs.DeleteField.{FieldAt, splice_of_deletion, IsFieldNamed}
+use Rattle.proto_edit_rules.specs.AddImport.{splice_of_addition}
+use Rattle.proto_edit_rules.specs.Statements.{IsTooLong, one_change}
 
 -- none where the file would be longer than one may be, else the change
 abbrev pub IsSpliced : FileOf → Edit → Option Change → Type 0

@@ -17,8 +17,8 @@ use Rattle.proto_names_rules.specs.Skeleton.{Used}
 use Rattle.proto_names.specs.Linking.{LinkOf, declaring_file as file_of_row}
 use Rattle.proto_names.specs.Linking.{RefId}
 use Rattle.proto_edit_captures.specs.CapturedPlaces.{RefusalStandsAtToken}
-use Rattle.proto_edit_captures.specs.Cases.{StandsBefore}
-use Rattle.proto_edit_statement_laws.specs.Cases.{IsNeededIn}
+use Rattle.proto_edit_rules.specs.Rename.{StandsBefore}
+use Rattle.proto_edit_rules.specs.DropImport.{IsNeededIn}
 
 -- the imports of the files, file by file
 pub record AreImportsOf (files : List FileOf) (imports : List (Vec FileImport)) : Type 0 where

@@ -13,7 +13,7 @@ ghost use Rattle.proto_text.specs.Segments.{bytes_between, end_before};
 ghost use Rattle.proto_text.specs.Texts.{offset_at};
 ghost use Rattle.proto_text.specs.Tokens.{AreTokens};
 ghost use Rattle.proto_text.specs.declared.lexer.Token.{Token};
-ghost use Rattle.proto_edit_statement_laws.specs.Statements.{reservation_text};
+ghost use Rattle.proto_edit_rules.specs.DeleteField.{reservation_text};
 ghost use Rattle.proto_edit_statements.specs.Spliced.{IsChangeOfDeletion};
 
 use crate::alone::is_alone;

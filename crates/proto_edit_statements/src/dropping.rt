@@ -6,10 +6,10 @@ ghost use Rattle.proto_files.specs.Faults.{HasNoFault};
 ghost use Rattle.proto_files.specs.FilesRead.{ReadOf, AreRead};
 ghost use Rattle.proto_names_imports.specs.Links.{LinkFaults};
 ghost use Rattle.proto_names.specs.LinkOfFiles.{IsLinkOf};
-ghost use Rattle.proto_edit_statement_laws.specs.ImportChanges.{IsImportOf};
+ghost use Rattle.proto_edit_rules.specs.DropImport.{IsImportOf};
 ghost use Rattle.proto_edit_statements.specs.Edits.{IsDropCase, HasDropChanges, IsDropRefusal};
 ghost use Rattle.proto_edit_statements.specs.Steps.{IsNeededAtToken};
-ghost use Rattle.proto_edit_statement_laws.specs.Cases.{IsPlaceOf};
+ghost use Rattle.proto_edit_rules.specs.Statements.{IsPlaceOf};
 
 use crate::imported::import_named;
 use crate::imports::seen_without;

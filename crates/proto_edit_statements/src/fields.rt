@@ -1,7 +1,7 @@
 //! Where the statement of a field stands.
 
 ghost use Rattle.std.specs.Prelude.{◌≡◌, Some, None, option_map};
-ghost use Rattle.proto_edit_statement_laws.specs.Deletions.{first_index, first_token};
+ghost use Rattle.proto_edit_rules.specs.Statements.{first_index, first_token};
 ghost use Rattle.proto_edit_statements.specs.FieldPlaces.{field_among, field_if, field_in, place_of_statement};
 ghost use Rattle.proto_tree.specs.declared.piece.Statement.TheVariants as statement;
 ghost use Rattle.proto_tree.specs.File.{field_tree, item_tree, member_tree, message_tree, oneof_tree, tree_of_file, trees};

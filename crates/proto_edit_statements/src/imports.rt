@@ -5,7 +5,8 @@ ghost use Rattle.proto_files.specs.Faults.{HasNoFault};
 ghost use Rattle.proto_files.specs.FilesRead.{ReadOf, AreRead};
 ghost use Rattle.proto_names_imports.specs.Links.{LinkFaults};
 ghost use Rattle.proto_edit_statements.specs.Steps.{AreImportsOf, AreSeenIn};
-ghost use Rattle.proto_edit_statement_laws.specs.Cases.{IsPlaceOf, with_dropped};
+ghost use Rattle.proto_edit_rules.specs.Statements.{IsPlaceOf};
+ghost use Rattle.proto_edit_rules.specs.DropImport.{with_dropped};
 
 use proto_base::NoMemory;
 use proto_files::{Files, all_paths, are_read};

@@ -6,7 +6,7 @@ ghost use Rattle.proto_files.specs.FilesRead.{ReadOf, AreRead};
 ghost use Rattle.proto_names_imports.specs.Links.{LinkFaults};
 ghost use Rattle.proto_names.specs.LinkOfFiles.{IsLinkOf};
 ghost use Rattle.proto_edit_statements.specs.Steps.{AreSeenIn, IsFirstNeeded, first_hidden, is_hidden};
-ghost use Rattle.proto_edit_statement_laws.specs.Cases.{with_dropped};
+ghost use Rattle.proto_edit_rules.specs.DropImport.{with_dropped};
 
 use proto_files::{Files, are_read};
 use proto_names::{Link, RefId, SymbolId};

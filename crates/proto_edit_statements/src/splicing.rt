@@ -3,7 +3,7 @@
 ghost use Rattle.std.specs.Prelude.{◌<◌, length, IfOk};
 ghost use Rattle.proto_text.specs.SourceFacts.{IsSpan};
 ghost use Rattle.proto_files.specs.GivenFiles.{file_at};
-ghost use Rattle.proto_edit_statement_laws.specs.Deletions.{splice};
+ghost use Rattle.proto_edit_rules.specs.Statements.{splice};
 ghost use Rattle.proto_edit_statements.specs.Spliced.{IsSpliced};
 
 use proto_base::{MAX_LEN, NoMemory};

@@ -2,7 +2,7 @@ use Rattle.std.proofs.Common.{◌≡◌, ◌↔◌, ◌++◌, List, ℕ, Bor, Op
 use Rattle.proto_case.specs.Camel.{entry_name}
 use Rattle.proto_names_imports.specs.Links.{names_of_files, text_of}
 use Rattle.proto_names_rules.proofs.Common.{Collides, name_of}
-use Rattle.proto_edit_rename_laws.specs.Targets.{name_map}
+use Rattle.proto_edit_rules.specs.Rename.{name_map}
 use Rattle.proto_edit_captures.specs.Collisions.{IsOneTaken}
 use Rattle.proto_edit_captures.proofs.Aimed.{spelled_aim}
 use Rattle.proto_edit_captures.proofs.Aims.{aim_inside}

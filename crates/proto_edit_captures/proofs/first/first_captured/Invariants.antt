@@ -1,6 +1,6 @@
 use Rattle.std.proofs.Common.{ℕ, ◌<◌, List, None}
 use Rattle.proto_files.specs.FilesRead.{ReadOf, AreRead}
-use Rattle.proto_edit_rename_laws.specs.Targets.{Target}
+use Rattle.proto_edit_rules.specs.Rename.{Target}
 use Rattle.proto_edit_captures.specs.Common.{IsAimedAt, IsFirstIn}
 use Rattle.proto_edit_captures.proofs.first.first_captured.Given as goal
 

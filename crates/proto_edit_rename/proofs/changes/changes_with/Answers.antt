@@ -1,7 +1,7 @@
 use Rattle.std.proofs.Common.{◌≡◌, ◌<◌, ◌+◌, length, map, arith}
 use Rattle.std.proofs.lemmas.Result.{err_from_is_err_and}
 use Rattle.proto_edit_entries.specs.Entries.{change_of}
-use Rattle.proto_edit_rename_laws.specs.Targets.{renamed_words}
+use Rattle.proto_edit_rules.specs.Rename.{renamed_words}
 use Rattle.proto_edit_rename.proofs.Refused.{fault_among}
 use Rattle.proto_edit_rename.proofs.WholeChanges.{more_changes, whole_changes}
 use Rattle.proto_edit_rename.proofs.changes.changes_with.Goals as goal

@@ -1,7 +1,7 @@
 use Rattle.std.proofs.Common.{List, map}
 use Rattle.proto_edit_entries.specs.Entries.{change_of}
 use Rattle.proto_files.specs.FilesRead.{ReadOf, AreRead}
-use Rattle.proto_edit_rename_laws.specs.Targets.{Target, renamed_words}
+use Rattle.proto_edit_rules.specs.Rename.{Target, renamed_words}
 use Rattle.proto_edit_rename.proofs.WholeChanges.{AreChangesUpTo}
 use Rattle.proto_edit_captures.specs.Aims.{IsAimedAt}
 use Rattle.proto_edit_rename.proofs.changes.changes_with.Given as goal

@@ -1,6 +1,6 @@
 use Rattle.std.proofs.Common.{◌≡◌, true, false, sym, ◌∙◌}
 use Rattle.proto_text.specs.Words.{is_run}
-use Rattle.proto_edit_rename_laws.specs.Cases.{is_keyword_of}
+use Rattle.proto_edit_rules.specs.Rename.{is_keyword_of}
 use Rattle.proto_edit_rename.proofs.Refused.{keyword_free, keyword_refused, run_of, same_free, same_refused, word_free, word_refused}
 use Rattle.proto_edit_rename.proofs.checks.check_word.Goals as goal
 

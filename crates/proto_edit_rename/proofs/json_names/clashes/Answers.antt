@@ -1,7 +1,7 @@
 use Rattle.std.proofs.Common.{◌↔◌, IsTrue, map, sym, subst, ap, ◌∙◌}
 use Rattle.proto_base.proofs.Common.{list_any, IfOk-weaker}
 use Rattle.proto_tree.specs.File.{tree_of_file}
-use Rattle.proto_edit_rename_laws.specs.Cases.{JsonNameClashes}
+use Rattle.proto_edit_rules.specs.Rename.{JsonNameClashes}
 use Rattle.proto_edit_rename.proofs.Common.{block_of, clash_in}
 use Rattle.proto_edit_rename.proofs.AimedAt.{aim_inside}
 use Rattle.proto_edit_rename.proofs.JsonClashes.{clash_from, clash_to}

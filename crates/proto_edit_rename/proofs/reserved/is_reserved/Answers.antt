@@ -1,7 +1,7 @@
 use Rattle.std.proofs.Common.{◌↔◌, IsTrue, map, sym, subst, ap, ◌∙◌}
 use Rattle.proto_base.proofs.Common.{list_any, IfOk-weaker}
 use Rattle.proto_tree.specs.File.{tree_of_file}
-use Rattle.proto_edit_captures.specs.Cases.{ReservesWord}
+use Rattle.proto_edit_rules.specs.Rename.{ReservesWord}
 use Rattle.proto_edit_rename.specs.MembersCommon.{block_of, reserves}
 use Rattle.proto_edit_rename.proofs.AimedAt.{aim_inside}
 use Rattle.proto_edit_rename.proofs.ReservedNames.{reserves_from, reserves_to}

@@ -5,8 +5,8 @@ use Rattle.proto_text.specs.declared.lexer.Token.{Token}
 use Rattle.proto_text.proofs.Common.{Edit, end_before, one_token_list}
 use Rattle.proto_tree.specs.File.{tree_of_file}
 use Rattle.proto_files.proofs.Common.{AreRead, ReadOf, read_at, file_at, same_tree}
-use Rattle.proto_edit_statement_laws.specs.Deletions.{splice}
-use Rattle.proto_edit_statement_laws.specs.ImportChanges.{splice_of_addition}
+use Rattle.proto_edit_rules.specs.Statements.{splice}
+use Rattle.proto_edit_rules.specs.AddImport.{splice_of_addition}
 use Rattle.proto_edit_statements.specs.Common.{behind_all, ends_of, place_behind, IsChangeOfAddition, IsSpliced}
 use Rattle.proto_edit_statements.proofs.AddedPlace.{addition_is, empty_span, place_by, place_inside, place_of_some}
 use Rattle.proto_edit_statements.proofs.MoreOrLess.{place_within}

@@ -1,6 +1,6 @@
 use Rattle.std.proofs.Common.{refl, subst}
 use Rattle.proto_files.specs.GivenFiles.{file_at}
-use Rattle.proto_edit_statement_laws.specs.ImportChanges.{splice_of_addition}
+use Rattle.proto_edit_rules.specs.AddImport.{splice_of_addition}
 use Rattle.proto_edit_statements.specs.Spliced.{IsChangeOfAddition}
 use Rattle.proto_edit_statements.proofs.Additions.{free_16, refused_16}
 use Rattle.proto_edit_statements.proofs.Spliced.{changes_are, not_long}

@@ -2,7 +2,7 @@ use Rattle.std.proofs.Common.{◌<◌, All, refl, sym, arith, subst}
 use Rattle.proto_names_imports.specs.declared.import.FileImport.{FileImport}
 use Rattle.proto_names_rules.specs.Marks.{MarksSeen}
 use Rattle.proto_edit_captures.specs.Overtaking.{IsFirstOvertaken}
-use Rattle.proto_edit_statement_laws.specs.Cases.{with_added}
+use Rattle.proto_edit_rules.specs.AddImport.{with_added}
 use Rattle.proto_edit_statements.proofs.Additions.{free_7, refused_7}
 use Rattle.proto_edit_statements.proofs.MoreOrLess.{place_within}
 use Rattle.proto_edit_statements.proofs.SeenMore.{sees_added}

@@ -4,8 +4,8 @@ use Rattle.proto_text.specs.declared.kind.TokenKind.TheVariants.{Word}
 use Rattle.proto_text.proofs.Common.{Edit, word_at}
 use Rattle.proto_files.proofs.Common.{AreRead, ReadOf, read_at, file_at}
 use Rattle.proto_ast.specs.Numbers.{past}
-use Rattle.proto_edit_statement_laws.specs.Deletions.{splice}
-use Rattle.proto_edit_statement_laws.specs.DeletionChanges.{field_number_value, splice_of_deletion}
+use Rattle.proto_edit_rules.specs.Statements.{splice}
+use Rattle.proto_edit_rules.specs.DeleteField.{field_number_value, splice_of_deletion}
 use Rattle.proto_edit_statements.specs.Common.{IsChangeOfDeletion, IsSpliced, last_replaced, text_by}
 use Rattle.proto_edit_statements.proofs.FieldCases.{file_there}
 use Rattle.proto_edit_statements.proofs.FieldThere.{deleted_is, field_at, in_order, is_field_at, is_named, min_past, number_told}

@@ -1,6 +1,6 @@
 use Rattle.std.proofs.Common.{refl, subst}
 use Rattle.proto_files.specs.GivenFiles.{file_at}
-use Rattle.proto_edit_statement_laws.specs.DeletionChanges.{splice_of_deletion}
+use Rattle.proto_edit_rules.specs.DeleteField.{splice_of_deletion}
 use Rattle.proto_edit_statements.specs.Spliced.{IsChangeOfDeletion}
 use Rattle.proto_edit_statements.proofs.FieldCases.{free_16, refused_16}
 use Rattle.proto_edit_statements.proofs.Spliced.{changes_are, not_long}

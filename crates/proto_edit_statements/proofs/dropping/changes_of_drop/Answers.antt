@@ -5,8 +5,8 @@ use Rattle.proto_text.specs.declared.lexer.Token.{Token}
 use Rattle.proto_text.proofs.Common.{Edit, end_before, offset_at, one_token_list}
 use Rattle.proto_files.proofs.Common.{read_at, file_at}
 use Rattle.proto_tree.specs.declared.piece.Statement.TheVariants as statement
-use Rattle.proto_edit_statement_laws.specs.Deletions.{begins, ends, splice}
-use Rattle.proto_edit_statement_laws.specs.ImportChanges.{splice_of_drop}
+use Rattle.proto_edit_rules.specs.Statements.{begins, ends, splice}
+use Rattle.proto_edit_rules.specs.DropImport.{splice_of_drop}
 use Rattle.proto_edit_statements.specs.Spliced.{IsSpliced}
 use Rattle.proto_edit_statements.proofs.MoreOrLess.{place_within}
 use Rattle.proto_edit_statements.proofs.Spliced.{changes_are, no_longer}

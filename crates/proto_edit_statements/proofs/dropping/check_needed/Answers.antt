@@ -1,6 +1,6 @@
 use Rattle.std.proofs.Common.{length, List, Bool, sym, ◌∙◌, ap, subst}
 use Rattle.std.specs.Global.{Vec}
-use Rattle.proto_edit_statement_laws.specs.Cases.{with_dropped}
+use Rattle.proto_edit_rules.specs.DropImport.{with_dropped}
 use Rattle.proto_edit_statements.specs.Steps.{AreSeenIn}
 use Rattle.proto_edit_statements.proofs.Drops.{free_15, needed_inside, refused_15}
 use Rattle.proto_edit_statements.proofs.dropping.check_needed.Goals as goal

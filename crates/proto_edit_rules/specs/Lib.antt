@@ -1,0 +1,5 @@
+pub mod AddImport
+pub mod DeleteField
+pub mod DropImport
+pub mod Rename
+pub mod Statements
