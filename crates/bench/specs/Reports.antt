@@ -32,7 +32,7 @@ pub record HasCounts (bytes : List ℕ) (c : Counts) : Type 0 where
   pub reads : Reads bytes tokens (tree_of_file file)
   pub counts : AreCounts file c
 
--- what is said is a fault of the text, or want of memory
+-- what is said is a fault of the text, or out of memory
 pub record SaysTextFault (bytes : List ℕ) (said : Fault) : Type 0 where
   pub fault : TextFault
   pub is : IsLexError bytes fault
@@ -40,7 +40,7 @@ pub record SaysTextFault (bytes : List ℕ) (said : Fault) : Type 0 where
   pub name : said.name.now ≡ text_name fault
   pub offset : said.offset ≡ text_offset fault
 
--- what is said is a fault of the grammar, or want of memory
+-- what is said is a fault of the grammar, or out of memory
 pub record SaysGrammarFault (bytes : List ℕ) (said : Fault) : Type 0 where
   pub tokens : List Token
   pub are : AreTokens bytes tokens

@@ -44,7 +44,7 @@ fn is_among(sorted: &[&str], name: &str) -> bool
 }
 
 impl<'a> ValueNames<'a> {
-    /// Takes the names in their order. Only want of memory is refused.
+    /// Takes the names in their order. Fails only when out of memory.
     pub fn new(alloc: Global, all: Vec<&'a str>) -> Result<ValueNames<'a>, NoMemory>
         ensures { IfOk result (λ n. n ≡ map (λ s. s.now) all.entry.items) }
     {

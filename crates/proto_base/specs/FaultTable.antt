@@ -132,12 +132,12 @@ phase_of RequiredExtension = 6
 
 -- ---- what is answered in place of files, a link, descriptors or a schema
 
--- the number of the fault, from 1 to 38; for want of memory, which is no fault of a schema, 0
+-- the number of the fault, from 1 to 38; when out of memory, which is no fault of a schema, 0
 abbrev pub answer_number : SchemaFault → ℕ
 answer_number (answer.Schema fault) = kind_number fault.kind
 answer_number answer.NoMemory = 0
 
--- the word for the fault; for want of memory `NoMemory`
+-- the word for the fault; when out of memory `NoMemory`
 abbrev pub answer_name : SchemaFault → Text
 answer_name (answer.Schema fault) = kind_name fault.kind
 answer_name answer.NoMemory = codes "NoMemory"

@@ -16,8 +16,8 @@ pub struct Change<T: Drop> {
     pub was: T,
 }
 
-/// Puts a value at a place of a list, and notes in the log what stood there. Only want of memory is
-/// refused; then neither the list nor the log has changed.
+/// Puts a value at a place of a list, and notes in the log what stood there. Fails only when out of
+/// memory; then neither the list nor the log has changed.
 pub fn change_at<T: Drop>(
     items: &mut Vec<T>,
     log: &mut Vec<Change<T>>,
@@ -39,8 +39,8 @@ pub fn change_at<T: Drop>(
     Ok(())
 }
 
-/// Puts values at places of a list, one after another, and notes in the log what stood there. Only
-/// want of memory is refused; then some of them may stand there, and the log tells which.
+/// Puts values at places of a list, one after another, and notes in the log what stood there. Fails
+/// only when out of memory; then some of them may stand there, and the log tells which.
 pub fn change_all_at<T: Drop>(
     items: &mut Vec<T>,
     log: &mut Vec<Change<T>>,

@@ -314,7 +314,7 @@ impl Fault {
 }
 
 /// Why no files, no link, no descriptors or no schema is answered: the least fault of the schemas,
-/// or want of memory.
+/// or out of memory.
 #[derive(Debug, Drop, Error)]
 pub enum SchemaFault {
     /// The schemas have faults: the least of them.
@@ -326,7 +326,7 @@ pub enum SchemaFault {
 }
 
 impl SchemaFault {
-    /// The number of the fault, from 1 to 38, or 0 for want of memory.
+    /// The number of the fault, from 1 to 38, or 0 when out of memory.
     pub fn number(&self) -> u32
         ensures { result ≡ answer_number self.now }
     {

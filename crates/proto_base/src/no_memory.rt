@@ -1,17 +1,17 @@
-//! Want of memory.
+//! Out of memory.
 
 ghost use Rattle.std.specs.Prelude.{◌≡◌, codes};
 
 use std::alloc::{AllocError, AllocFailed};
 use thiserror::Error;
 
-/// Want of memory: a growth was refused, and what the call says of that holds.
+/// Out of memory: a growth was refused, and what the call says of that holds.
 #[derive(Clone, Copy, Debug, PartialEq, Eq, Error)]
 #[error("no memory")]
 pub struct NoMemory;
 
 impl NoMemory {
-    /// Always 0: want of memory is no fault of a schema.
+    /// Always 0: out of memory is no fault of a schema.
     pub fn number(self) -> u32
         ensures { result ≡ 0 }
     {

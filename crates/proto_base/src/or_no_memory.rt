@@ -1,4 +1,4 @@
-//! A fault of some kind, or want of memory.
+//! A fault of some kind, or out of memory.
 
 ghost use Rattle.std.specs.Prelude.{◌≡◌};
 ghost use Rattle.proto_base.specs.declared.or_no_memory.OrNoMemory.TheVariants as or;
@@ -6,7 +6,7 @@ ghost use Rattle.proto_base.specs.declared.or_no_memory.OrNoMemory.TheVariants a
 use crate::no_memory::NoMemory;
 use std::alloc::{AllocError, AllocFailed};
 
-/// Why a call gives no value: its fault, or want of memory.
+/// Why a call gives no value: its fault, or out of memory.
 #[derive(Drop)]
 pub enum OrNoMemory<F> {
     /// What is wrong.

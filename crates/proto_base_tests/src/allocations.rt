@@ -1,5 +1,5 @@
-//! Want of memory: the call fails, is counted and changes nothing, and the next one works. In a run that refuses one
-//! allocation this test still passes, whichever it is.
+//! Out of memory: the call fails, is counted and changes nothing, and the next one works. In a run
+//! that refuses one allocation this test still passes, whichever it is.
 
 use crate::calls::store_of;
 use crate::memory::{FILES, Step, take};

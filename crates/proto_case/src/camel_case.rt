@@ -23,7 +23,7 @@ fn push_raised<'a>(name: &mut Vec<u8>, bytes: &'a [u8]) -> Result<&'a [u8], NoMe
 }
 
 /// A word without each `_`, the character after one in upper case, as is the first where `is_up`
-/// says so. Letters of ASCII alone have an upper case. Refused for want of memory alone.
+/// says so. Letters of ASCII alone have an upper case. Fails only when out of memory.
 pub fn camel_from(alloc: Global, is_up: bool, word: &str) -> Result<String, NoMemory>
     ensures { IfOk result (λ name. string_bytes name ≡ camel_from is_up word.now) }
 {

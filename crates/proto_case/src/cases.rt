@@ -114,7 +114,7 @@ fn begins_word(before: Option<char>, c: char, rest: &str) -> bool
 }
 
 /// A name in upper case, with `_` before each word but the first: `HTTPCode` gives `HTTP_CODE`.
-/// Letters of ASCII alone have an upper case. Refused for want of memory alone.
+/// Letters of ASCII alone have an upper case. Fails only when out of memory.
 pub fn upper(alloc: Global, name: &str) -> Result<String, NoMemory>
     ensures { IfOk result (λ s. string_bytes s ≡ upper name.now) }
 {

@@ -10,7 +10,7 @@ use std::alloc::Global;
 
 /// The name of the message that stands for a map field's pairs: the field's word without each `_`,
 /// what follows one in upper case, as is the first, and `Entry` behind it. Letters of ASCII alone
-/// have an upper case. Refused for want of memory alone.
+/// have an upper case. Fails only when out of memory.
 pub fn entry_name(alloc: Global, word: &str) -> Result<String, NoMemory>
     ensures name { IfOk result (λ name. string_bytes name ≡ entry_name word.now) }
 {

@@ -1,4 +1,5 @@
--- What is made anew of edited files, beside what was made of the files that the edit spares, is what is made of all files, and no file has a flaw.
+-- What is made anew of edited files, beside what was made of the files that the edit does not
+-- affect, is what is made of all files, and no file has a flaw.
 use Rattle.std.proofs.Common.{◌≡◌, ℕ, zero, suc, ◌+◌, ◌<◌, Bool, true, false, List, [], ◌∷◌, ◌++◌, length, get_or, map, Option, Some, None, option_map, slice_get, sym, refl, ap, ap₂, subst, ◌∙◌, inl, inr, arith, Contains, true≢false}
 use Rattle.std.specs.Global.{Box}
 use Rattle.proto_base.proofs.Common.{cases_Bool, get_or-map, get_or_from_slice_get, length-map, slice_get-get_or}
@@ -13,11 +14,11 @@ use Rattle.proto_resolved.specs.LinkOfFiles.{IsLinkOf}
 use Rattle.proto_names.specs.Following.{WasMadeOf}
 use Rattle.proto_names.specs.Linking.{LinkOf}
 use Rattle.proto_desc_extensions.proofs.NoExtensions.{no_flaw}
-use Rattle.proto_desc_affected.specs.Checked.{AreKeptOf, KeptFileOf, KeptFilesTellSpared, StaysKept, kept_file, nothing_kept}
-use Rattle.proto_desc_affected.specs.Extended.{ExtendsAreSpared, HasNoExtend, SparedFilesStayFlawless}
-use Rattle.proto_desc_affected.specs.Spared.{AreSoundlyEdited, CleanEditsAreSound, SparedDescriptorsStay}
-use Rattle.proto_desc_affected.specs.Common.{AreOthersKept, AreOthersKeptAsTold, HasNoMarkedExtends, kept_file_of, kept_files_of}
-use Rattle.proto_desc_affected.specs.declared.kept_file.KeptFile.{KeptFile}
+use Rattle.proto_desc_affected.specs.Checked.{AreKeptOf, FileSummaryOf, KeptFilesTellUnaffected, StaysKept, file_summary, nothing_kept}
+use Rattle.proto_desc_affected.specs.Extended.{ExtendsAreUnaffected, HasNoExtend, UnaffectedFilesStayFlawless}
+use Rattle.proto_desc_affected.specs.Unaffected.{AreSoundlyEdited, CleanEditsAreSound, UnaffectedDescriptorsStay}
+use Rattle.proto_desc_affected.specs.Common.{AreOthersKept, AreOthersKeptAsTold, HasNoMarkedExtends, file_summary_of, file_summaries_of}
+use Rattle.proto_desc_affected.specs.declared.file_summary.FileSummary.{FileSummary}
 use Rattle.proto_desc.specs.Checked.{AreDescribed}
 use Rattle.proto_desc.specs.Common.{CheckFaults, described_from, fault_of_flaw, flaws_of, of_flaw}
 use Rattle.proto_desc.specs.Edited.{AreCheckedDescriptors, AreDescriptorsOf, WereDescribed}
@@ -55,8 +56,8 @@ module _ (files : List FileOf) (reads : List ReadOf) where
   as_many_described : (ds : List FileDescriptor) → AreRead files reads → AreDescribed files (map file_desc ds) → length ds ≡ length files
   as_many_described ds are is = sym (length-map ds file_desc) ∙ ap length (is reads are) ∙ described_count 0 reads ∙ are.same
 
-as_many_kept : (files : List FileOf) (ks : List KeptFile) → AreKeptOf files (kept_files_of ks) → length ks ≡ length files
-as_many_kept files ks are = sym (length-map ks kept_file_of) ∙ are.len
+as_many_kept : (files : List FileOf) (ks : List FileSummary) → AreKeptOf files (file_summaries_of ks) → length ks ≡ length files
+as_many_kept files ks are = sym (length-map ks file_summary_of) ∙ are.len
 
 -- ---- files without a flaw
 
@@ -109,7 +110,8 @@ counts files places told d was =
       as_many_kept was.before d.kept.items was.made.0.kept ∙ same,
     )
 
--- where marks were told, those that were made by them leave out none but what the edit spares
+-- where marks were told, those that were made by them leave out none but what the edit does not
+-- affect
 pub kept_as_told : CleanEditsAreSound → (files : List FileOf) (places : List ℕ) (told : List Bool) (d : Descriptors) → WasMade files places (Some told) d → HasNoFault (LinkFaults files) → (reads : List ReadOf) → AreRead files reads → (l : LinkOf) (marks : List Bool)
     → AreOthersKeptAsTold places files l (files_kept d) told marks → AreOthersKept places files l (files_kept d) marks
 kept_as_told sound files places told d was clean reads read l marks kept =
@@ -117,13 +119,14 @@ kept_as_told sound files places told d was clean reads read l marks kept =
     (sound places was.before was.reads files reads (record { same = was.same; were_read = was.read; are_read = read }) was.clean clean)
     was.clean was.made.0.kept (was.look.look was.reads reads was.read read)
 
--- marks of files that leave out none but what the edit spares, and none that has or had an `extend` block
-pub record AreMarks (places : List ℕ) (files : List FileOf) (l : LinkOf) (ks : List KeptFileOf) (marks : List Bool) : Type 0 where
+-- marks of files that leave out none but what the edit does not affect, and none that has or had an
+-- `extend` block
+pub record AreMarks (places : List ℕ) (files : List FileOf) (l : LinkOf) (ks : List FileSummaryOf) (marks : List Bool) : Type 0 where
   pub link : IsLinkOf files l
   pub others : AreOthersKept places files l ks marks
   pub none : HasNoMarkedExtends files ks marks
 
-module _ (tells : KeptFilesTellSpared) (places : List ℕ) (before : List FileOf) (was : List ReadOf) (files : List FileOf) (reads : List ReadOf) (sound : AreSoundlyEdited places before was files reads) (clean : HasNoFault (LinkFaults before))
+module _ (tells : KeptFilesTellUnaffected) (places : List ℕ) (before : List FileOf) (was : List ReadOf) (files : List FileOf) (reads : List ReadOf) (sound : AreSoundlyEdited places before was files reads) (clean : HasNoFault (LinkFaults before))
     (l : LinkOf) (old : Descriptors) (kept : AreKeptOf before (files_kept old)) (marks : List Bool) (are : AreMarks places files l (files_kept old) marks) where
   were : AreRead before was
   were = sound.edited.were_read
@@ -131,7 +134,7 @@ module _ (tells : KeptFilesTellSpared) (places : List ℕ) (before : List FileOf
   was_within : (file : ℕ) → file < length files → file < length before
   was_within file within = omega (arith, within, as_many places before files sound.edited.same)
 
-  kept_before : (file : ℕ) → file < length files → get_or (files_kept old) file nothing_kept ≡ kept_file before was file
+  kept_before : (file : ℕ) → file < length files → get_or (files_kept old) file nothing_kept ≡ file_summary before was file
   kept_before file within = kept.each file nothing_kept (omega (arith, was_within file within, kept.len)) was were
 
   stays : (file : ℕ) → file < length files → get_or marks file false ≡ false → StaysKept places before was files reads file
@@ -140,13 +143,13 @@ module _ (tells : KeptFilesTellSpared) (places : List ℕ) (before : List FileOf
   has_none : (file : ℕ) → file < length files → get_or marks file false ≡ true → HasNoExtend was reads file
   has_none file within marked =
       let none = are.none reads sound.edited.are_read file within marked in
-      (ap (λ (k : KeptFileOf). k.has_extend) (sym (kept_before file within)) ∙ none.0, none.1)
+      (ap (λ (k : FileSummaryOf). k.has_extend) (sym (kept_before file within)) ∙ none.0, none.1)
 
-  extends_are_spared : ExtendsAreSpared places before was files reads
-  extends_are_spared = record {
-    spared = λ file within. elim (cases_Bool (get_or marks file false)) [
+  extends_are_unaffected : ExtendsAreUnaffected places before was files reads
+  extends_are_unaffected = record {
+    unaffected = λ file within. elim (cases_Bool (get_or marks file false)) [
       | inl marked ↦ inr (has_none file within marked)
-      | inr unmarked ↦ inl (stays file within unmarked).spared
+      | inr unmarked ↦ inl (stays file within unmarked).unaffected
     ];
     elsewhere = λ file is. elim (cases_Bool (get_or marks file false)) [
       | inl marked ↦ inl (has_none file is.within marked).1
@@ -159,10 +162,10 @@ module _ (tells : KeptFilesTellSpared) (places : List ℕ) (before : List FileOf
     made_at : (file : ℕ) → file < length files → get_or marks file false ≡ true → (m : Box Made) × (get_or all file None ≡ Some m) × IsMade files file m.value
     made_at file within marked = made_of files (get_or marks file false) file (get_or all file None) (made.each file None (omega (arith, within, made.len))) marked
 
-    flawless : SparedFilesStayFlawless → HasNoFault (CheckFaults before) → (file : ℕ) → file < length files → flaws_of files reads file ≡ []
+    flawless : UnaffectedFilesStayFlawless → HasNoFault (CheckFaults before) → (file : ℕ) → file < length files → flaws_of files reads file ≡ []
     flawless stay clean_before file within = elim (cases_Bool (get_or marks file false)) [
       | inl marked ↦ ap₂ (λ (own others : List Flaw). own ++ others) ((made_at file within marked).2.flawless reads sound.edited.are_read) (no_flaw None files reads file (has_none file within marked).1)
-      | inr unmarked ↦ stay places before was files reads sound extends_are_spared file (stays file within unmarked).spared (clean_file before clean_before was were file (was_within file within))
+      | inr unmarked ↦ stay places before was files reads sound extends_are_unaffected file (stays file within unmarked).unaffected (clean_file before clean_before was were file (was_within file within))
     ]
 
     module _ (new : Descriptors) (put : ArePut all old new) where
@@ -172,7 +175,7 @@ module _ (tells : KeptFilesTellSpared) (places : List ℕ) (before : List FileOf
       put_none : (file : ℕ) → file < length files → get_or marks file false ≡ false → IsPut None file old new
       put_none file within unmarked = put_at file within None (made_none files (get_or marks file false) file (get_or all file None) (made.each file None (omega (arith, within, made.len))) unmarked)
 
-      described_now : SparedDescriptorsStay → AreDescribed before (files_desc old) → (file : ℕ) → file < length files → slice_get (files_desc new) file ≡ Some (described_at files reads file (read_at reads file).tree)
+      described_now : UnaffectedDescriptorsStay → AreDescribed before (files_desc old) → (file : ℕ) → file < length files → slice_get (files_desc new) file ≡ Some (described_at files reads file (read_at reads file).tree)
       described_now stay were_described file within = slice_get-map file_desc new.file.items file ∙ elim (cases_Bool (get_or marks file false)) [
         | inl marked ↦ (let m = made_at file within marked in
             ap (option_map file_desc) (put_at file within (Some m.0) m.1).0 ∙ ap (λ (d : FileDesc). Some d) (m.2.described reads sound.edited.are_read))
@@ -180,27 +183,27 @@ module _ (tells : KeptFilesTellSpared) (places : List ℕ) (before : List FileOf
             ap (option_map file_desc) (put_none file within unmarked).0
             ∙ sym (slice_get-map file_desc old.file.items file)
             ∙ one_described before was (files_desc old) were were_described file (was_within file within)
-            ∙ ap (λ (d : FileDesc). Some d) (sym (stay places before was files reads sound file (stays file within unmarked).spared None))
+            ∙ ap (λ (d : FileDesc). Some d) (sym (stay places before was files reads sound file (stays file within unmarked).unaffected None))
       ]
 
-      kept_now : (file : ℕ) → file < length files → slice_get (files_kept new) file ≡ Some (kept_file files reads file)
-      kept_now file within = slice_get-map kept_file_of new.kept.items file ∙ elim (cases_Bool (get_or marks file false)) [
+      kept_now : (file : ℕ) → file < length files → slice_get (files_kept new) file ≡ Some (file_summary files reads file)
+      kept_now file within = slice_get-map file_summary_of new.kept.items file ∙ elim (cases_Bool (get_or marks file false)) [
         | inl marked ↦ (let m = made_at file within marked in
-            ap (option_map kept_file_of) (put_at file within (Some m.0) m.1).1 ∙ ap (λ (k : KeptFileOf). Some k) (m.2.kept reads sound.edited.are_read))
+            ap (option_map file_summary_of) (put_at file within (Some m.0) m.1).1 ∙ ap (λ (k : FileSummaryOf). Some k) (m.2.kept reads sound.edited.are_read))
         | inr unmarked ↦
-            ap (option_map kept_file_of) (put_none file within unmarked).1
-            ∙ sym (slice_get-map kept_file_of old.kept.items file)
+            ap (option_map file_summary_of) (put_none file within unmarked).1
+            ∙ sym (slice_get-map file_summary_of old.kept.items file)
             ∙ slice_get-get_or (files_kept old) file nothing_kept (omega (arith, was_within file within, kept.len))
-            ∙ ap (λ (k : KeptFileOf). Some k) (kept_before file within ∙ sym (stays file within unmarked).kept)
+            ∙ ap (λ (k : FileSummaryOf). Some k) (kept_before file within ∙ sym (stays file within unmarked).kept)
       ]
 
 -- ---- all of it
 
 pub record AreLaws : Type 0 where
   pub sound : CleanEditsAreSound
-  pub tells : KeptFilesTellSpared
-  pub described : SparedDescriptorsStay
-  pub flawless : SparedFilesStayFlawless
+  pub tells : KeptFilesTellUnaffected
+  pub described : UnaffectedDescriptorsStay
+  pub flawless : UnaffectedFilesStayFlawless
 
 module _ (laws : AreLaws) (places : List ℕ) (files : List FileOf) (clean : HasNoFault (LinkFaults files)) (told : Option (List Bool)) (old : Descriptors) (was : WasMade files places told old)
     (l : LinkOf) (marks : List Bool) (are : AreMarks places files l (files_kept old) marks) (all : List (Option (Box Made))) (made : AreMade files marks all) where
@@ -216,11 +219,11 @@ module _ (laws : AreLaws) (places : List ℕ) (files : List FileOf) (clean : Has
 
     renewed_kept : AreKeptOf files (files_kept new)
     renewed_kept =
-        let n : length (files_kept new) ≡ length files = length-map new.kept.items kept_file_of ∙ put.kept ∙ as_many_kept was.before old.kept.items was.made.0.kept ∙ count in
+        let n : length (files_kept new) ≡ length files = length-map new.kept.items file_summary_of ∙ put.kept ∙ as_many_kept was.before old.kept.items was.made.0.kept ∙ count in
         record {
           len = n;
           each = λ file k within reads read.
-              get_or_from_slice_get (files_kept new) file (kept_file files reads file) k
+              get_or_from_slice_get (files_kept new) file (file_summary files reads file) k
               (kept_now laws.tells places was.before was.reads files reads (is_sound reads read) was.clean l old was.made.0.kept marks are all made new put file (omega (arith, within, n)));
         }
 
@@ -229,7 +232,8 @@ module _ (laws : AreLaws) (places : List ℕ) (files : List FileOf) (clean : Has
         each_described files reads new.file.items read (put.files ∙ as_many_described was.before was.reads old.file.items was.read was.made.0.described ∙ count)
         (described_now laws.tells places was.before was.reads files reads (is_sound reads read) was.clean l old was.made.0.kept marks are all made new put laws.described was.made.0.described)
 
--- what was made and put, beside what was spared, is what is made of the files, which have no flaw
+-- what was made and put, beside what was unaffected, is what is made of the files, which have no
+-- flaw
 pub renewed : AreLaws → (places : List ℕ) (files : List FileOf) → HasNoFault (LinkFaults files) → (told : Option (List Bool)) (old new : Descriptors) → WasMade files places told old → (l : LinkOf) (marks : List Bool) → AreMarks places files l (files_kept old) marks → (all : List (Option (Box Made))) → AreMade files marks all → ArePut all old new → HasNoFault (CheckFaults files) × AreDescriptorsOf files new
 renewed laws places files clean told old new was l marks are all made put = (
   renewed_clean laws places files clean told old was l marks are all made,

@@ -25,7 +25,7 @@ AreOfWorkspace files file flaws =
     (reads : List ReadOf) → AreRead files reads
     → flaws ≡ workspace_flaws (Some past) files reads file
 
--- the error is want of memory, or the flaw as a fault of the file
+-- the error is out of memory, or the flaw as a fault of the file
 abbrev pub IsFaultOf : List FileOf → ℕ → Flaw → SchemaFault → Type 0
 IsFaultOf files file f (Schema fault) =
     (reads : List ReadOf) → AreRead files reads → fault_at fault ≡ fault_of_flaw files reads file f
@@ -38,7 +38,7 @@ pub record IsLeastFlaw (files : List FileOf) (file : ℕ) (e : SchemaFault) : Ty
   pub least : (reads : List ReadOf) → AreRead files reads
       → IsLeastOfFlaws (Contains (flaws_of files reads file)) (Some flaw)
 
--- the error is want of memory, or the file's least flaw as a fault
+-- the error is out of memory, or the file's least flaw as a fault
 abbrev pub IsLeastFlawError : List FileOf → ℕ → SchemaFault → Type 0
 IsLeastFlawError files file (Schema fault) = IsLeastFlaw files file (Schema fault)
 IsLeastFlawError files file NoMemory = Unit {0}

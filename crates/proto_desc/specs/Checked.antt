@@ -50,7 +50,7 @@ AreDescribed files ds = (reads : List ReadOf) → AreRead files reads → ds ≡
 
 -- ---- what is answered where checks fail
 
--- the error is want of memory, or the least fault of the files
+-- the error is out of memory, or the least fault of the files
 abbrev pub IsCheckError : List FileOf → SchemaFault → Type 0
 IsCheckError files (Schema f) = IsLeastFault (CheckFaults files) (fault_at f)
 IsCheckError files NoMemory = Unit {0}

@@ -9,7 +9,7 @@ use Rattle.proto_base.specs.declared.fault.SchemaFault.{SchemaFault}
 use Rattle.proto_desc.specs.Whole.{WorkspaceFaults}
 use Rattle.proto_base.specs.declared.fault.SchemaFault.TheVariants.{Schema, NoMemory}
 
--- the error is want of memory, or the least fault of the files given
+-- the error is out of memory, or the least fault of the files given
 abbrev pub IsOpenError : List FileOf → SchemaFault → Type 0
 IsOpenError given (Schema f) = IsLeastFault (WorkspaceFaults given) (fault_at f)
 IsOpenError given NoMemory = Unit {0}

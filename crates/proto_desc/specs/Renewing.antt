@@ -1,4 +1,4 @@
--- What is made of files that an edit does not spare, and put in place of what was there.
+-- What is made of files that an edit affects, and put in place of what was there.
 use Rattle.std.specs.Prelude.{◌≡◌, ℕ, Bool, true, false, List, [], length, get_or, slice_get, Option, Some, None}
 use Rattle.std.specs.Global.{Box}
 use Rattle.proto_desc_checks.specs.FileFlaws.{file_flaws}
@@ -10,7 +10,7 @@ use Rattle.proto_files.specs.FilesRead.{AreRead, Each, ReadOf, read_at}
 use Rattle.proto_files.specs.GivenFiles.{FileOf, file_at}
 use Rattle.proto_desc_affected.specs.Checked.{IsKeptOf}
 use Rattle.proto_resolved.specs.SceneOf.{scene_of}
-use Rattle.proto_desc_affected.specs.Kept.{kept_file_of}
+use Rattle.proto_desc_affected.specs.Kept.{file_summary_of}
 
 -- nothing is wrong with the file alone, and this is its descriptor, with what is kept of it
 pub record IsMade (files : List FileOf) (file : ℕ) (m : Made) : Type 0 where
@@ -20,7 +20,7 @@ pub record IsMade (files : List FileOf) (file : ℕ) (m : Made) : Type 0 where
       → file_desc m.descriptor
       ≡ file_described (scene_of None files reads file) (file_at files file).path
       (read_at reads file).tree
-  pub kept : IsKeptOf files file (kept_file_of m.kept)
+  pub kept : IsKeptOf files file (file_summary_of m.kept)
 
 -- so it is made of the file, if that is marked; nothing is made of another
 abbrev pub IsMadeIfMarked : List FileOf → Bool → ℕ → Option (Box Made) → Type 0

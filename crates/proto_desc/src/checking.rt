@@ -21,7 +21,7 @@ use crate::descriptors::Descriptors;
 use indexmap::IndexMap;
 use proto_ast::Scene;
 use proto_base::{NoMemory, SchemaFault};
-use proto_desc_affected::kept_files;
+use proto_desc_affected::file_summaries;
 use proto_desc_checks::{Flaw, file_flaws, least};
 use proto_desc_extensions::workspace_flaws;
 use proto_descriptors::FileDescriptor;
@@ -166,7 +166,7 @@ pub(crate) fn describe(
 }
 
 /// The descriptors of linked files, in the order of their paths, where their checks find no fault;
-/// else the least fault by path, offset and number, or want of memory.
+/// else the least fault by path, offset and number, or out of memory.
 pub fn check(alloc: Global, files: &Files, link: &Link) -> Result<Descriptors, SchemaFault>
     requires { IsLinkOf files.now link.now }
     ensures clean { IfOk result (λ _. HasNoFault (CheckFaults files.now)) }
@@ -175,7 +175,7 @@ pub fn check(alloc: Global, files: &Files, link: &Link) -> Result<Descriptors, S
     ensures fault { IfErr result (IsCheckError files.now) }
 {
     let file = describe(alloc, files, link)?;
-    let kept = kept_files(alloc, files, link)?;
+    let kept = file_summaries(alloc, files, link)?;
     Ok(Descriptors { file, kept })
 }
 
@@ -196,7 +196,7 @@ fn pass_checks_with(
 }
 
 /// Whether the checks of linked files find no fault; else the least fault by path, offset and
-/// number, or want of memory: what `check` answers, of which no descriptor is made here.
+/// number, or out of memory: what `check` answers, of which no descriptor is made here.
 pub fn pass_checks(alloc: Global, files: &Files, link: &Link) -> Result<(), SchemaFault>
     requires { IsLinkOf files.now link.now }
     ensures clean { IfOk result (λ _. HasNoFault (CheckFaults files.now)) }

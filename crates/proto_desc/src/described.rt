@@ -31,7 +31,7 @@ fn messages_of(
 }
 
 /// The descriptor of the file at the path. Of numbers outside their limits, which checks refuse,
-/// nothing is said. Fails for want of memory alone.
+/// nothing is said. Fails only when out of memory.
 pub fn file_descriptor(
     alloc: Global,
     scene: &Scene,

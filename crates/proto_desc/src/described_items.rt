@@ -31,7 +31,7 @@ fn item_message(
 }
 
 /// The messages right in a file, each with those nested in it; `around` is what stands before their
-/// names. Fails for want of memory alone, as do all of these.
+/// names. Fails only when out of memory, as do all of these.
 pub(crate) fn message_descriptors(
     alloc: Global,
     scene: &Scene,

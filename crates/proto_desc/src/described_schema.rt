@@ -63,7 +63,7 @@ fn described_files(alloc: Global, files: &Files) -> Result<Vec<FileDescriptor>, 
 
 impl DescribedSchema {
     /// The files given, as paths and bytes, in the order of their paths, where they compile; else
-    /// their least fault by phase, path, offset and number, or want of memory: as `Schema::open`,
+    /// their least fault by phase, path, offset and number, or out of memory: as `Schema::open`,
     /// without the link.
     pub fn open(
         alloc: Global,

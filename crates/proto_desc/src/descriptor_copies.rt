@@ -12,20 +12,20 @@ ghost use Rattle.proto_resolved.specs.LinkOfFiles.{IsLinkOf};
 use crate::checking::check;
 use crate::descriptors::Descriptors;
 use proto_base::{NoMemory, SchemaFault};
-use proto_desc_affected::copy_kept_files;
+use proto_desc_affected::copy_file_summaries;
 use proto_descriptors::copy_files;
 use proto_files::Files;
-use proto_resolved::{Link, MadeOfLink};
+use proto_resolved::{Derived, Link};
 use std::alloc::Global;
 
 impl Descriptors {
-    /// A copy of the descriptors. Refused for want of memory alone.
+    /// A copy of the descriptors. Fails only when out of memory.
     pub fn copy(&self, alloc: Global) -> Result<Descriptors, NoMemory>
         ensures descriptors { IfOk result (λ d. files_desc d ≡ files_desc self.now) }
         ensures kept { IfOk result (λ d. files_kept d ≡ files_kept self.now) }
     {
         let file = copy_files(alloc, &self.file)?;
-        let kept = copy_kept_files(alloc, &self.kept)?;
+        let kept = copy_file_summaries(alloc, &self.kept)?;
         Ok(Descriptors { file, kept })
     }
 
@@ -76,12 +76,12 @@ impl Descriptors {
     }
 }
 
-impl MadeOfLink for Descriptors {
+impl Derived for Descriptors {
     ghost IsMade = { AreCheckedDescriptors };
 
     ghost IsRefused = { IsCheckError };
 
-    /// As `replace`; the marks that are told spare a look at each reference of all files.
+    /// As `replace`; the marks that are told save a look at each reference of all files.
     fn follow(
         &mut self,
         alloc: Global,

@@ -11,7 +11,7 @@ use proto_descriptors::FileDescriptor;
 use proto_descriptors_json::text_of_files;
 use std::alloc::Global;
 
-/// The JSON text of descriptors of files, as `to_json` makes it. Fails for want of memory alone.
+/// The JSON text of descriptors of files, as `to_json` makes it. Fails only when out of memory.
 pub fn files_to_json(alloc: Global, files: &[FileDescriptor]) -> Result<String, NoMemory>
     ensures { IfOk result (λ s. string_bytes s ≡ json_text (map file_desc files.now)) }
 {
@@ -20,7 +20,7 @@ pub fn files_to_json(alloc: Global, files: &[FileDescriptor]) -> Result<String, 
 
 /// The JSON text of the descriptors: one compact object, keys in the order of their bytes. Numbers
 /// are always written; empty lists, options that are not given and false marks are left out. Fails
-/// for want of memory alone.
+/// only when out of memory.
 pub fn to_json(alloc: Global, descriptors: &Descriptors) -> Result<String, NoMemory>
     ensures { IfOk result (λ s. string_bytes s ≡ json_text (files_desc descriptors.now)) }
 {

@@ -33,8 +33,8 @@ fn put_text(files: &mut Files, text: ReadText) -> ReadText
     }
 }
 
-/// Puts texts at their places; answers what stood there, to be put back by `put_back`. Only want of
-/// memory is refused; then the files have not changed.
+/// Puts texts at their places; answers what stood there, to be put back by `put_back`. Fails only
+/// when out of memory; then the files have not changed.
 pub fn put_texts(
     alloc: Global,
     files: &mut Files,

@@ -1,4 +1,4 @@
-//! Descriptors of edited files, made anew as far as the edit does not spare them.
+//! Descriptors of edited files, made anew as far as the edit affects them.
 
 ghost use Rattle.std.specs.Prelude.{◌≡◌, ℕ, ◌<◌, true, false, length, get_or, option_map, All, IfOk, IfSome, OnErr};
 ghost use Rattle.proto_desc.specs.Checked.{CheckFaults};
@@ -16,9 +16,10 @@ use crate::described::file_descriptor;
 use crate::descriptors::Descriptors;
 use indexmap::IndexMap;
 use proto_base::NoMemory;
-use proto_desc_affected::KeptFile;
+use proto_desc_affected::FileSummary;
 use proto_desc_affected::laws::{
-    clean_edits_are_sound, kept_files_tell_spared, spared_files_stay, wanted_enums_are_there,
+    clean_edits_are_sound, kept_files_tell_unaffected, unaffected_files_stay,
+    wanted_enums_are_there,
 };
 use proto_desc_affected::marks::{
     files_of_enums, files_to_check, has_no_marked_extends, told_files_to_check,
@@ -36,11 +37,11 @@ use std::hash::{BuildHasherDefault, FoldHasher};
 #[derive(Drop)]
 pub(crate) struct Made {
     descriptor: FileDescriptor,
-    kept: KeptFile,
+    kept: FileSummary,
 }
 
 /// Checks a file again that has no `extend` block, and describes it; none where it has a flaw.
-/// Refused for want of memory alone.
+/// Fails only when out of memory.
 fn check_again(
     alloc: Global,
     files: &Files,
@@ -60,13 +61,13 @@ fn check_again(
         return Ok(None);
     }
     let descriptor = file_descriptor(alloc, &scene, files.path(file), tree)?;
-    let kept = KeptFile::new(alloc, files, link, file)?;
+    let kept = FileSummary::new(alloc, files, link, file)?;
     Ok(Some(Made { descriptor, kept }))
 }
 
 /// Checks the marked files again, which have no `extend` block, and describes them: for each file in
 /// the order of their paths what was made of it, or nothing where it is not marked. Answers none
-/// where one has a flaw. Refused for want of memory alone. What is made is boxed, so that a file of
+/// where one has a flaw. Fails only when out of memory. What is made is boxed, so that a file of
 /// which nothing is made takes one word.
 fn check_marked(
     alloc: Global,
@@ -123,10 +124,10 @@ impl Descriptors {
         }
     }
 
-    /// Marks of the files that the edit does not spare. Where it is told which have to be looked at
+    /// Marks of the files that the edit affects. Where it is told which have to be looked at
     /// again, these are asked, and those that refer to an enum of an edited file or have an `extend`
-    /// block; else all files. Refused for want of memory alone.
-    fn unspared(
+    /// block; else all files. Fails only when out of memory.
+    fn affected(
         &self,
         alloc: Global,
         files: &Files,
@@ -153,9 +154,9 @@ impl Descriptors {
     }
 
     /// Makes these the descriptors of the files, which are those that they were of but at these
-    /// places, as far as the edit does not spare a file. Marks may be told of the files that have
-    /// to be looked at again. Answers false where it gives up: where a file that is not spared has
-    /// a flaw, or has or had an `extend` block. Refused for want of memory alone. Where it does not
+    /// places, as far as the edit affects a file. Marks may be told of the files that have
+    /// to be looked at again. Answers false where it gives up: where a file that is affected has
+    /// a flaw, or has or had an `extend` block. Fails only when out of memory. Where it does not
     /// answer true, nothing is changed.
     pub(crate) fn renew(
         &mut self,
@@ -176,13 +177,13 @@ impl Descriptors {
         ensures given_up { IfOk result (λ done. done ≡ false → self.new ≡ self.old) }
         ensures kept { OnErr result (self.new ≡ self.old) }
     {
-        // By these laws what is kept tells the files that the edit spares, of these all is as it
-        // was, and the table has what the other files mean.
+        // By these laws what is kept tells the files that the edit does not affect, of these all is
+        // as it was, and the table has what the other files mean.
         clean_edits_are_sound();
-        kept_files_tell_spared();
-        spared_files_stay();
+        kept_files_tell_unaffected();
+        unaffected_files_stay();
         wanted_enums_are_there::<BuildHasherDefault<FoldHasher>>();
-        let marks = self.unspared(alloc, files, link, places, told)?;
+        let marks = self.affected(alloc, files, link, places, told)?;
         if !has_no_marked_extends(files, &marks, &self.kept) {
             return Ok(false);
         }

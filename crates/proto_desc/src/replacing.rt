@@ -15,7 +15,7 @@ use proto_tree::Steps;
 use std::alloc::Global;
 
 impl Schema {
-    /// A copy of the schemas. Refused for want of memory alone.
+    /// A copy of the schemas. Fails only when out of memory.
     pub fn copy(&self, alloc: Global) -> Result<Schema, NoMemory>
         ensures { IfOk result (λ s. s ≡ self.now) }
     {
@@ -30,7 +30,7 @@ impl Schema {
     }
 
     /// Gives the files at these places, which rise, these texts, where the files then compile; else
-    /// their least fault by phase, path, offset and number, or want of memory, and nothing changes.
+    /// their least fault by phase, path, offset and number, or out of memory, and nothing changes.
     /// Only these texts are read.
     pub fn replace(
         &mut self,

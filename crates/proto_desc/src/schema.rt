@@ -119,7 +119,7 @@ fn checked_link(alloc: Global, files: &Files) -> Result<Link, SchemaFault>
 
 impl CheckedSchema {
     /// The files given, as paths and bytes, in the order of their paths, where they compile; else
-    /// their least fault by phase, path, offset and number, or want of memory: as `Schema::open`,
+    /// their least fault by phase, path, offset and number, or out of memory: as `Schema::open`,
     /// without the descriptors.
     pub fn open(alloc: Global, files: Vec<(String, Vec<u8>)>) -> Result<CheckedSchema, SchemaFault>
         ensures files { IfOk result (λ s. IsSortedOf (files_of files.items) s) }
@@ -161,7 +161,7 @@ impl CheckedSchema {
 
 impl Schema {
     /// The files given, as paths and bytes, in the order of their paths, where they compile; else
-    /// their least fault by phase, path, offset and number, or want of memory.
+    /// their least fault by phase, path, offset and number, or out of memory.
     pub fn open(alloc: Global, files: Vec<(String, Vec<u8>)>) -> Result<Schema, SchemaFault>
         ensures files { IfOk result (λ s. IsSortedOf (files_of files.items) s) }
         ensures clean { IfOk result (λ _. HasNoFault (WorkspaceFaults (files_of files.items))) }

@@ -1,4 +1,4 @@
--- What is kept of a file, and the link of the edited files, tell that the file is spared.
+-- What is kept of a file, and the link of the edited files, tell that the file is unaffected.
 use Rattle.std.proofs.Common.{◌≡◌, ℕ, suc, ◌+◌, ◌<◌, Bool, true, false, List, [], ◌∷◌, length, get_or, map, Option, Some, None, option_map, refl, sym, ◌∙◌, ap, subst, subst₂, inl, inr, ◌⊎◌, arith, true≢false, All, Contains}
 use Rattle.proto_base.proofs.Common.{contains_cases, same_Some}
 use Rattle.proto_files.proofs.Common.{AreRead, FileOf, HasNoFault, ReadOf, read_at}
@@ -13,12 +13,12 @@ use Rattle.proto_names_update.specs.Edited.{AreEdited}
 use Rattle.proto_names_update.proofs.Clean.{no_reference}
 use Rattle.proto_resolved.specs.SceneOf.{declared_as, enum_named, is_proto3_file, meaning_of}
 use Rattle.proto_desc_extensions.specs.Extends.{has_extend}
-use Rattle.proto_desc_affected.specs.Checked.{AreKeptOf, AreMeantStill, DoesMeanStill, IsEnumStill, IsKeptStill, IsMeantStill, KeepsEnum, KeptFileOf, KeptFilesTellSpared, is_message_kind, kept_file, kept_name, nothing_kept}
+use Rattle.proto_desc_affected.specs.Checked.{AreKeptOf, AreMeantStill, DoesMeanStill, IsEnumStill, IsKeptStill, IsMeantStill, KeepsEnum, FileSummaryOf, KeptFilesTellUnaffected, is_message_kind, file_summary, type_use, nothing_kept}
 use Rattle.proto_desc_affected.specs.Extended.{RefersElsewhere}
-use Rattle.proto_desc_affected.specs.Spared.{AreSoundlyEdited, NamesSameEnum, StoodElsewhere}
+use Rattle.proto_desc_affected.specs.Unaffected.{AreSoundlyEdited, NamesSameEnum, StoodElsewhere}
 use Rattle.proto_desc_affected.specs.Values.{IsSameEnum}
 use Rattle.proto_desc_affected.proofs.Declared.{IsNamed, declared_named, meant_named, named_still}
-use Rattle.proto_desc_affected.proofs.KeptEnums.{kept_enums_stay, kept_is, kept_named}
+use Rattle.proto_desc_affected.proofs.EnumSummaries.{kept_enums_stay, kept_is, kept_named}
 use Rattle.proto_desc_affected.proofs.Linked.{has_meant, message_kind, no_enum_named}
 use Rattle.proto_desc_affected.proofs.SameScenes.{same_enum}
 use Rattle.proto_desc_affected.proofs.Unedited.{as_many, same_reading, same_version}
@@ -62,7 +62,7 @@ module _ (places : List ℕ) (before : List FileOf) (was : List ReadOf) (files :
   stood : (name : List (List ℕ)) (d : Declared At) → declared_as before was name ≡ Some d → (Contains places (place_of d).file → ⊥) → StoodElsewhere places before was name
   stood name d found elsewhere x q = subst (λ (y : Declared At). Contains places (place_of y).file → ⊥) (same_Some d x (sym found ∙ q)) elsewhere
 
-  module _ (clean : HasNoFault (LinkFaults before)) (ks : List KeptFileOf) (keeps : AreKeptOf before ks) (l : LinkOf) (link : IsLinkRead files reads l) (file : ℕ) (is : IsKeptStill places files l ks file) where
+  module _ (clean : HasNoFault (LinkFaults before)) (ks : List FileSummaryOf) (keeps : AreKeptOf before ks) (l : LinkOf) (link : IsLinkRead files reads l) (file : ℕ) (is : IsKeptStill places files l ks file) where
     reading : read_at reads file ≡ read_at was file
     reading = same_reading places before was files reads are.edited file is.within is.left
 
@@ -72,11 +72,11 @@ module _ (places : List ℕ) (before : List FileOf) (was : List ReadOf) (files :
     within_before : file < length was
     within_before = omega (arith, is.within, as_many places before was files reads are.edited, are.edited.were_read.same)
 
-    kept_before : (k : ℕ) → k < length files → get_or ks k nothing_kept ≡ kept_file before was k
+    kept_before : (k : ℕ) → k < length files → get_or ks k nothing_kept ≡ file_summary before was k
     kept_before k within = keeps.each k nothing_kept (omega (arith, within, keeps.len, as_many places before was files reads are.edited)) was are.edited.were_read
 
-    abbrev by_which : KeptFileOf
-    by_which = kept_file before was file
+    abbrev by_which : FileSummaryOf
+    by_which = file_summary before was file
 
     abbrev had_extend : Bool
     had_extend = has_extend (read_at was file).tree
@@ -90,14 +90,14 @@ module _ (places : List ℕ) (before : List FileOf) (was : List ReadOf) (files :
       name : List (List ℕ)
       meant_before : meaning_of before was file u ≡ Some name
       meant_now : meaning_of files reads file u ≡ Some name
-      kept : kept_name files reads (Some name) ≡ kept_name before was (Some name)
+      kept : type_use files reads (Some name) ≡ type_use before was (Some name)
       settled : StoodElsewhere places before was name ⊎ ((had_extend ≡ false) × NamesSameEnum version before was files reads name)
 
     -- where the name is that of an enum which is kept, and is the same to the file, it is so
-    enum_stays : (name : List (List ℕ)) → ArePlain name → IsEnumStill files ks version (joined name) → (kept_name files reads (Some name) ≡ kept_name before was (Some name)) × NamesSameEnum version before was files reads name
+    enum_stays : (name : List (List ℕ)) → ArePlain name → IsEnumStill files ks version (joined name) → (type_use files reads (Some name) ≡ type_use before was (Some name)) × NamesSameEnum version before was files reads name
     enum_stays name plain still =
         let within : still.file < length before = omega (arith, still.within, as_many places before was files reads are.edited) in
-        let b = kept_is before was are.edited.were_read still.file within name plain still.before (subst (λ (k : KeptFileOf). KeepsEnum k (joined name) still.before) (kept_before still.file still.within) still.was) in
+        let b = kept_is before was are.edited.were_read still.file within name plain still.before (subst (λ (k : FileSummaryOf). KeepsEnum k (joined name) still.before) (kept_before still.file still.within) still.was) in
         let n = kept_is files reads are.edited.are_read still.file still.within name plain still.now (still.is reads are.edited.are_read) in
         let kind_before : kind_of (declared_as before was name) ≡ false = ap kind_of (declared_named before was are.apart_before name b.declared b.named) ∙ ap (λ (k : Kind). is_message_kind (Some k)) b.kind in
         let kind_now : kind_of (declared_as files reads name) ≡ false = ap kind_of (declared_named files reads are.apart_now name n.declared n.named) ∙ ap (λ (k : Kind). is_message_kind (Some k)) n.kind in
@@ -106,10 +106,10 @@ module _ (places : List ℕ) (before : List FileOf) (was : List ReadOf) (files :
         (λ i. record { text = joined name; is_message = (kind_now ∙ sym kind_before) i }, subst₂ (IsSameEnum version) (sym named_before) (sym named_now) still.same)
 
     stays_meant : (u : Used ℕ) → Contains (uses_of reads file) u → (m : Meant) → meant_by_link l m ≡ meant_by_use files reads file u → (n : NameOf) × (name_at l m.row ≡ Some n)
-        → IsMeantStill places files l ks by_which (kept_name before was (meaning_of before was file u)) m → StaysMeant u
+        → IsMeantStill places files l ks by_which (type_use before was (meaning_of before was file u)) m → StaysMeant u
     stays_meant u c m e within still = by (meaning_of before was file u) refl still
       where
-        by : (o : Option (List (List ℕ))) → meaning_of before was file u ≡ o → IsMeantStill places files l ks by_which (kept_name before was o) m → StaysMeant u
+        by : (o : Option (List (List ℕ))) → meaning_of before was file u ≡ o → IsMeantStill places files l ks by_which (type_use before was o) m → StaysMeant u
         by None none still = absurd (resolved before was are.edited.were_read clean file u within_before (subst (λ us. Contains us u) uses_were c) none)
         by (Some name) means still =
             let h = has_meant files reads l link file u m e within in
@@ -155,7 +155,7 @@ module _ (places : List ℕ) (before : List FileOf) (was : List ReadOf) (files :
 
     -- each reference has what is kept of it, and what the link has
     go : (us : List (Used ℕ)) (ms : List Meant) → map (meant_by_link l) ms ≡ map (meant_by_use files reads file) us → All (λ (m : Meant). (n : NameOf) × (name_at l m.row ≡ Some n)) ms
-        → AreMeantStill places files l ks by_which (map (λ u. kept_name before was (meaning_of before was file u)) us) ms
+        → AreMeantStill places files l ks by_which (map (λ u. type_use before was (meaning_of before was file u)) us) ms
         → (u : Used ℕ) → Contains us u → Contains (uses_of reads file) u → StaysMeant u
     go [] ms e rows still u c whole = absurd (omega (arith, c.1))
     go (v ∷ us) [] e rows still u c whole = absurd still
@@ -170,7 +170,7 @@ module _ (places : List ℕ) (before : List FileOf) (was : List ReadOf) (files :
     each : (u : Used ℕ) → Contains (uses_of reads file) u → StaysMeant u
     each u c =
         go (uses_of reads file) (get_or l.meant file []) (link.means file is.within).texts (link.means file is.within).within
-        (subst (λ (us : List (Used ℕ)). AreMeantStill places files l ks by_which (map (λ u. kept_name before was (meaning_of before was file u)) us) (get_or l.meant file [])) (sym uses_were)
+        (subst (λ (us : List (Used ℕ)). AreMeantStill places files l ks by_which (map (λ u. type_use before was (meaning_of before was file u)) us) (get_or l.meant file [])) (sym uses_were)
         (subst (DoesMeanStill places files l ks file) (kept_before file is.within) is.means)) u c c
 
     settled_by : (u : Used ℕ) (s : StaysMeant u) (name : List (List ℕ)) → meaning_of files reads file u ≡ Some name → StoodElsewhere places before was name ⊎ ((had_extend ≡ false) × NamesSameEnum version before was files reads name)
@@ -182,13 +182,13 @@ module _ (places : List ℕ) (before : List FileOf) (was : List ReadOf) (files :
       | inr same ↦ inr same.1
     ]
 
-    kept_stays : kept_file files reads file ≡ kept_file before was file
+    kept_stays : file_summary files reads file ≡ file_summary before was file
     kept_stays =
-        let now = λ (u : Used ℕ). kept_name files reads (meaning_of files reads file u) in
-        let earlier = λ (u : Used ℕ). kept_name before was (meaning_of before was file u) in
+        let now = λ (u : Used ℕ). type_use files reads (meaning_of files reads file u) in
+        let earlier = λ (u : Used ℕ). type_use before was (meaning_of before was file u) in
         let names = map_agree now earlier (uses_of reads file) (λ u c. (
         let s = each u c in
-        ap (kept_name files reads) s.meant_now ∙ s.kept ∙ sym (ap (kept_name before was) s.meant_before))) in
+        ap (type_use files reads) s.meant_now ∙ s.kept ∙ sym (ap (type_use before was) s.meant_before))) in
         λ i. record {
           means = (names ∙ ap (map earlier) uses_were) i;
           enums = kept_enums_stay places before was files reads are.edited file is.within is.left i;
@@ -203,11 +203,11 @@ module _ (places : List ℕ) (before : List FileOf) (was : List ReadOf) (files :
       | inr same ↦ absurd (true≢false (sym e ∙ ap (λ (r : ReadOf). has_extend r.tree) reading ∙ same.0))
     ])
 
-pub kept_files_tell_spared : KeptFilesTellSpared
-kept_files_tell_spared places before was files reads are clean ks kept l link file is =
+pub kept_files_tell_unaffected : KeptFilesTellUnaffected
+kept_files_tell_unaffected places before was files reads are clean ks kept l link file is =
     let read = link reads are.edited.are_read in
     record {
-      spared = record {
+      unaffected = record {
         within = is.within;
         left = is.left;
         means = λ u c. (let s = each places before was files reads are clean ks kept l read file is u c in s.meant_now ∙ sym s.meant_before);

@@ -12,7 +12,7 @@ use Rattle.proto_names_imports.specs.Links.{LinkFaults, link_skeleton, names_in,
 use Rattle.proto_names_update.specs.Edited.{AreEdited}
 use Rattle.proto_names_update.specs.Relinked.{NoNameClashes}
 use Rattle.proto_resolved.specs.SceneOf.{declared_as, meaning_of}
-use Rattle.proto_desc_affected.specs.Spared.{CleanEditsAreSound}
+use Rattle.proto_desc_affected.specs.Unaffected.{CleanEditsAreSound}
 use Rattle.proto_desc_affected.proofs.Unedited.{as_many, same_reading, same_text}
 
 -- ---- what is found

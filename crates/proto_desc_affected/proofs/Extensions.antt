@@ -1,4 +1,5 @@
--- What is wrong with the extensions of a spared file stays, where all files that have some are spared.
+-- What is wrong with the extensions of an unaffected file stays, where all files that have some are
+-- unaffected.
 use Rattle.std.proofs.Common.{◌≡◌, ℕ, zero, suc, ◌<◌, Bool, true, false, not, ◌==◌, List, [], ◌∷◌, ◌++◌, length, map, flat_map, find, Option, Some, None, option_map, option_and_then, refl, sym, ap, ap₂, subst, ◌∙◌, inl, inr, ◌⊎◌, arith, pos, true≢false, Contains}
 use Rattle.proto_base.proofs.Common.{any_from, contains_head, contains_later, from_map, list_any, none-some}
 use Rattle.proto_base.specs.declared.fault.FaultKind.TheVariants as kind
@@ -22,8 +23,8 @@ use Rattle.proto_resolved.specs.SceneOf.{meaning_of, scene_of}
 use Rattle.proto_desc_extensions.specs.Common.{ExtensionOf, all_flaws, block_extensions, extendee_in, extension_ranges_at, extensions_before, extensions_in, extensions_of, has_extend, is_extend, is_extendable, is_message_at, name_meant, not_extendable, ranges_at_place, ranges_within, repeated_extensions}
 use Rattle.proto_desc_extensions.proofs.NoExtensions.{no_flaw}
 use Rattle.proto_desc_extensions.proofs.WrittenExtensions.{from_flat}
-use Rattle.proto_desc_affected.specs.Extended.{ExtendsAreSpared, HasNoExtend, SparedFilesStayFlawless, SparedFlawsOfFilesStay, SparedFlawsStay}
-use Rattle.proto_desc_affected.specs.Spared.{AreSoundlyEdited, IsSparedFile, StoodElsewhere}
+use Rattle.proto_desc_affected.specs.Extended.{ExtendsAreUnaffected, HasNoExtend, UnaffectedFilesStayFlawless, UnaffectedFlawsOfFilesStay, UnaffectedFlawsStay}
+use Rattle.proto_desc_affected.specs.Unaffected.{AreSoundlyEdited, IsUnaffectedFile, StoodElsewhere}
 use Rattle.proto_desc_affected.proofs.Declared.{found_passes}
 use Rattle.proto_desc_affected.proofs.SameScenes.{extensions_same, flaws_same}
 use Rattle.proto_desc_affected.proofs.Scenes.{name_left, reading, scene_stays}
@@ -104,74 +105,74 @@ module _ (places : List ℕ) (before : List FileOf) (was : List ReadOf) (files :
         ranges_stay (find (λ b. is_message_at a.token b.header) (blocks_in (read_at reads a.file).tree))
         ∙ ap (λ (r : ReadOf). ranges_within (scene_of None before was a.file) (find (λ b. is_message_at a.token b.header) (blocks_in r.tree))) (same_reading places before was files reads are.edited a.file within left)
 
-  -- ---- extensions of a spared file
+  -- ---- extensions of an unaffected file
 
-  module _ (file : ℕ) (spared : IsSparedFile places before was files reads file) where
+  module _ (file : ℕ) (unaffected : IsUnaffectedFile places before was files reads file) where
     name_stays : (r : Reference) → name_meant files reads file r ≡ name_meant before was file r
     name_stays r =
-        found_same (λ (u : Used ℕ). u.first == first_of r.dot r.words) (meaning_of files reads file) (meaning_of before was file) (uses_of reads file) spared.means
-        ∙ ap (λ (x : ReadOf). option_and_then (meaning_of before was file) (find (λ (u : Used ℕ). u.first == first_of r.dot r.words) (names_in x).used)) (reading places before was files reads are file spared)
+        found_same (λ (u : Used ℕ). u.first == first_of r.dot r.words) (meaning_of files reads file) (meaning_of before was file) (uses_of reads file) unaffected.means
+        ∙ ap (λ (x : ReadOf). option_and_then (meaning_of before was file) (find (λ (u : Used ℕ). u.first == first_of r.dot r.words) (names_in x).used)) (reading places before was files reads are file unaffected)
 
     extensions_stay : (cap : Option ℕ) → extensions_in cap files reads file ≡ extensions_in cap before was file
     extensions_stay cap =
         let named : BlockOf → Option (List (List ℕ)) = λ b. option_and_then (name_meant files reads file) (extendee_in b.header) in
         flat_map_same (block_extensions cap files reads file) (λ (b : BlockOf). extensions_of (scene_of cap before was file) (named b) b.within)
-        (λ b. extensions_same (scene_of cap files reads file) (scene_of cap before was file) (scene_stays places before was files reads are file spared cap) (named b) b.within) (blocks_in (read_at reads file).tree)
-        ∙ (λ i. flat_map (λ (b : BlockOf). extensions_of (scene_of cap before was file) (option_and_then (λ r. name_stays r i) (extendee_in b.header)) b.within) (blocks_in (reading places before was files reads are file spared i).tree))
+        (λ b. extensions_same (scene_of cap files reads file) (scene_of cap before was file) (scene_stays places before was files reads are file unaffected cap) (named b) b.within) (blocks_in (read_at reads file).tree)
+        ∙ (λ i. flat_map (λ (b : BlockOf). extensions_of (scene_of cap before was file) (option_and_then (λ r. name_stays r i) (extendee_in b.header)) b.within) (blocks_in (reading places before was files reads are file unaffected i).tree))
 
     file_flaws_stay : (cap : Option ℕ) → file_flaws (scene_of cap files reads file) (read_at reads file).tree ≡ file_flaws (scene_of cap before was file) (read_at was file).tree
     file_flaws_stay cap =
-        flaws_same (scene_of cap files reads file) (scene_of cap before was file) (scene_stays places before was files reads are file spared cap) (read_at reads file).tree
-        ∙ ap (λ (r : ReadOf). file_flaws (scene_of cap before was file) r.tree) (reading places before was files reads are file spared)
+        flaws_same (scene_of cap files reads file) (scene_of cap before was file) (scene_stays places before was files reads are file unaffected cap) (read_at reads file).tree
+        ∙ ap (λ (r : ReadOf). file_flaws (scene_of cap before was file) r.tree) (reading places before was files reads are file unaffected)
 
     without_extend : has_extend (read_at reads file).tree ≡ false → (cap : Option ℕ) → all_flaws cap files reads file ≡ all_flaws cap before was file
     without_extend none cap =
         ap₂ (λ (x y : List Flaw). x ++ y) (file_flaws_stay cap)
         (no_flaw cap files reads file none
-        ∙ sym (no_flaw cap before was file (ap (λ (r : ReadOf). has_extend r.tree) (sym (reading places before was files reads are file spared)) ∙ none)))
+        ∙ sym (no_flaw cap before was file (ap (λ (r : ReadOf). has_extend r.tree) (sym (reading places before was files reads are file unaffected)) ∙ none)))
 
-  module _ (extends : ExtendsAreSpared places before was files reads) where
+  module _ (extends : ExtendsAreUnaffected places before was files reads) where
     each_stays : (k : ℕ) → k < length files → extensions_in None files reads k ≡ extensions_in None before was k
-    each_stays k l = by (extends.spared k l)
+    each_stays k l = by (extends.unaffected k l)
       where
-        by : IsSparedFile places before was files reads k ⊎ HasNoExtend was reads k → extensions_in None files reads k ≡ extensions_in None before was k
-        by (inl spared) = extensions_stay k spared None
+        by : IsUnaffectedFile places before was files reads k ⊎ HasNoExtend was reads k → extensions_in None files reads k ≡ extensions_in None before was k
+        by (inl unaffected) = extensions_stay k unaffected None
         by (inr none) = none_extend None files reads k none.1 ∙ sym (none_extend None before was k none.0)
 
     before_stays : (k : ℕ) → k < suc (length files) → extensions_before None files reads k ≡ extensions_before None before was k
     before_stays zero l = refl
     before_stays (suc k) l = ap₂ (λ (x y : List ExtensionOf). x ++ y) (before_stays k (omega (arith, l))) (each_stays k (omega (arith, l)))
 
-    -- what an extension of a spared file extends stood in a file that is not edited
-    extendee_elsewhere : (file : ℕ) → IsSparedFile places before was files reads file → (e : ExtensionOf) → Contains (extensions_in None files reads file) e → (u : Used ℕ) → Contains (uses_of reads file) u → meaning_of files reads file u ≡ Some e.extendee → StoodElsewhere places before was e.extendee
-    extendee_elsewhere file spared e c u there means = elim (extends.elsewhere file spared) [
+    -- what an extension of an unaffected file extends stood in a file that is not edited
+    extendee_elsewhere : (file : ℕ) → IsUnaffectedFile places before was files reads file → (e : ExtensionOf) → Contains (extensions_in None files reads file) e → (u : Used ℕ) → Contains (uses_of reads file) u → meaning_of files reads file u ≡ Some e.extendee → StoodElsewhere places before was e.extendee
+    extendee_elsewhere file unaffected e c u there means = elim (extends.elsewhere file unaffected) [
       | inl none ↦ (let n : Contains [] e = subst (λ (es : List ExtensionOf). Contains es e) (none_extend None files reads file none) c in absurd (omega (arith, n.1)))
       | inr refers ↦ refers u e.extendee there means
     ]
 
     -- so the message leaves numbers to extensions as it did
-    extendable_stays : (file : ℕ) → IsSparedFile places before was files reads file → (e : ExtensionOf) → Contains (extensions_in None files reads file) e → is_extendable None files reads e ≡ is_extendable None before was e
-    extendable_stays file spared e c =
+    extendable_stays : (file : ℕ) → IsUnaffectedFile places before was files reads file → (e : ExtensionOf) → Contains (extensions_in None files reads file) e → is_extendable None files reads e ≡ is_extendable None before was e
+    extendable_stays file unaffected e c =
         let u = extendee_meant None files reads file e c in
-        let x = name_left places before was files reads are file u.0 e.extendee (sym (spared.means u.0 u.1) ∙ u.2) (extendee_elsewhere file spared e c u.0 u.1 u.2) in
+        let x = name_left places before was files reads are file u.0 e.extendee (sym (unaffected.means u.0 u.1) ∙ u.2) (extendee_elsewhere file unaffected e c u.0 u.1 u.2) in
         let inside : List RangeAt → Bool = list_any (is_inside e.number.number) in
         ap (λ (o : Option (Declared At)). inside (ranges_at_place None files reads (option_map place_of o))) x.found_now
         ∙ ap inside (ranges_left (place_of x.declared) x.within x.left)
         ∙ sym (ap (λ (o : Option (Declared At)). inside (ranges_at_place None before was (option_map place_of o))) x.found_before)
 
-    flaws_stay : (file : ℕ) → IsSparedFile places before was files reads file → all_flaws None files reads file ≡ all_flaws None before was file
-    flaws_stay file spared =
-        ap₂ (λ (x y : List Flaw). x ++ y) (file_flaws_stay file spared None)
+    flaws_stay : (file : ℕ) → IsUnaffectedFile places before was files reads file → all_flaws None files reads file ≡ all_flaws None before was file
+    flaws_stay file unaffected =
+        ap₂ (λ (x y : List Flaw). x ++ y) (file_flaws_stay file unaffected None)
         (ap₂ (λ (x y : List Flaw). x ++ y)
-        (same_outside before was files reads (extensions_in None files reads file) (extendable_stays file spared)
-        ∙ ap (not_extendable None before was) (extensions_stay file spared None))
-        (ap₂ repeated_extensions (before_stays file (omega (arith, spared.within))) (extensions_stay file spared None)))
+        (same_outside before was files reads (extensions_in None files reads file) (extendable_stays file unaffected)
+        ∙ ap (not_extendable None before was) (extensions_stay file unaffected None))
+        (ap₂ repeated_extensions (before_stays file (omega (arith, unaffected.within))) (extensions_stay file unaffected None)))
 
-pub spared_flaws_of_files_stay : SparedFlawsOfFilesStay
-spared_flaws_of_files_stay places before was files reads are file spared cap = file_flaws_stay places before was files reads are file spared cap
+pub unaffected_flaws_of_files_stay : UnaffectedFlawsOfFilesStay
+unaffected_flaws_of_files_stay places before was files reads are file unaffected cap = file_flaws_stay places before was files reads are file unaffected cap
 
-pub spared_files_stay_flawless : SparedFilesStayFlawless
-spared_files_stay_flawless places before was files reads are extends file spared none = flaws_stay places before was files reads are extends file spared ∙ none
+pub unaffected_files_stay_flawless : UnaffectedFilesStayFlawless
+unaffected_files_stay_flawless places before was files reads are extends file unaffected none = flaws_stay places before was files reads are extends file unaffected ∙ none
 
-pub spared_flaws_stay : SparedFlawsStay
-spared_flaws_stay places before was files reads are file spared none cap = without_extend places before was files reads are file spared none cap
+pub unaffected_flaws_stay : UnaffectedFlawsStay
+unaffected_flaws_stay places before was files reads are file unaffected none cap = without_extend places before was files reads are file unaffected none cap

@@ -2,7 +2,7 @@ mod Checked
 mod Declared
 mod EnumsByLink
 mod Extensions
-mod KeptEnums
+mod EnumSummaries
 mod Linked
 mod Listed
 mod Marked

@@ -17,7 +17,7 @@ use Rattle.proto_ast.specs.Parts.{BlockOf}
 use Rattle.proto_resolved.proofs.MeantPlaces.{row_means}
 use Rattle.proto_resolved.specs.Meanings.{enum_of_name}
 use Rattle.proto_resolved.specs.SceneOf.{declared_as, enum_at, enum_named, enum_within, is_proto3_file, lexemes_of, meaning_of}
-use Rattle.proto_desc_affected.specs.Checked.{KeptNameOf, LinksHaveWhatIsKept, MeantMessagesAreNoEnums, is_message_kind, kept_by_link, kept_name}
+use Rattle.proto_desc_affected.specs.Checked.{TypeUseOf, LinksHaveWhatIsKept, MeantMessagesAreNoEnums, is_message_kind, kept_by_link, type_use}
 use Rattle.proto_desc_affected.proofs.Declared.{IsNamed, declared_by, found_passes, meant_named, no_package, some_found}
 use Rattle.proto_desc_affected.proofs.MessageBlocks.{in_items, no_enum_there}
 
@@ -107,11 +107,11 @@ module _ (files : List FileOf) (reads : List ReadOf) (l : LinkOf) (link : IsLink
       }
 
   -- so it has what is kept
-  kept_is : (file : ℕ) (u : Used ℕ) (m : Meant) → HasMeant file u m → kept_by_link l m ≡ kept_name files reads (meaning_of files reads file u)
+  kept_is : (file : ℕ) (u : Used ℕ) (m : Meant) → HasMeant file u m → kept_by_link l m ≡ type_use files reads (meaning_of files reads file u)
   kept_is file u m h =
       let kind : option_map (λ (n : NameOf). n.kind) (name_at l m.row) ≡ option_map (λ (d : Declared At). d.kind) (declared_as files reads h.name) = h.kind ∙ sym (ap (option_map (λ (d : Declared At). d.kind)) h.found) in
-      let of_name : kept_by_link l m ≡ kept_name files reads (Some h.name) = λ i. record { text = or_nothing (h.text i); is_message = is_message_kind (kind i) } in
-      of_name ∙ ap (kept_name files reads) (sym h.means)
+      let of_name : kept_by_link l m ≡ type_use files reads (Some h.name) = λ i. record { text = or_nothing (h.text i); is_message = is_message_kind (kind i) } in
+      of_name ∙ ap (type_use files reads) (sym h.means)
 
   -- and where it has a message, there is no enum
   no_enum_meant : AreRead files reads → (file : ℕ) (u : Used ℕ) (m : Meant) → HasMeant file u m → (kept_by_link l m).is_message ≡ true → enum_of_name l (enum_at files reads) m.row ≡ None
@@ -132,14 +132,14 @@ links_have_what_is_kept files l link reads read file within =
     is = link reads read
 
     go : (ms : List Meant) (us : List (Used ℕ)) → map (meant_by_link l) ms ≡ map (meant_by_use files reads file) us → All (λ (m : Meant). (n : NameOf) × (name_at l m.row ≡ Some n)) ms
-        → map (kept_by_link l) ms ≡ map (λ u. kept_name files reads (meaning_of files reads file u)) us
+        → map (kept_by_link l) ms ≡ map (λ u. type_use files reads (meaning_of files reads file u)) us
     go [] [] e rows = refl
     go [] (u ∷ us) e rows = absurd (cc)
     go (m ∷ ms) [] e rows = absurd (cc)
     go (m ∷ ms) (u ∷ us) e rows =
         let here : meant_by_link l m ≡ meant_by_use files reads file u = cc in
         let on : map (meant_by_link l) ms ≡ map (meant_by_use files reads file) us = cc in
-        ap₂ (λ (x : KeptNameOf) (xs : List KeptNameOf). x ∷ xs)
+        ap₂ (λ (x : TypeUseOf) (xs : List TypeUseOf). x ∷ xs)
         (kept_is files reads l is file u m (has_meant files reads l is file u m here (rows 0 m (omega arith))))
         (go ms us on (λ k d n. rows (suc k) d (omega (arith, n))))
 

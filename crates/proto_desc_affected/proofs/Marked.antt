@@ -1,4 +1,4 @@
--- What is kept of a file that need not be looked at again tells that the file is spared.
+-- What is kept of a file that need not be looked at again tells that the file is unaffected.
 use Rattle.std.proofs.Common.{◌≡◌, ℕ, suc, ◌+◌, ◌<◌, Bool, false, List, [], ◌∷◌, length, get_or, map, Option, Some, None, option_map, refl, sym, ◌∙◌, ap, subst, inl, inr, ◌⊎◌, arith, All, Contains}
 use Rattle.proto_base.proofs.Common.{cases_eq, contains_cases, contains_head, contains_later, contains_map, false≢true, from_map, same_Some}
 use Rattle.proto_case.specs.Camel.{entry_name}
@@ -14,8 +14,8 @@ use Rattle.proto_names_update.specs.Edited.{EditedFilesDiffer}
 use Rattle.proto_names_update.specs.Relinked.{HasToLook, UnmarkedFilesMeanTheSame}
 use Rattle.proto_names_update.proofs.Differing.{same_reference}
 use Rattle.proto_resolved.specs.SceneOf.{declared_as, meaning_of}
-use Rattle.proto_desc_affected.specs.Checked.{AreKeptOf, AreMeantStill, DoesMeanStill, IsMeantStill, IsSettled, KeptFileOf, MarksTellKept, is_message_kind, kept_file, kept_name, nothing_kept}
-use Rattle.proto_desc_affected.specs.Spared.{AreSoundlyEdited}
+use Rattle.proto_desc_affected.specs.Checked.{AreKeptOf, AreMeantStill, DoesMeanStill, IsMeantStill, IsSettled, FileSummaryOf, MarksTellKept, is_message_kind, file_summary, type_use, nothing_kept}
+use Rattle.proto_desc_affected.specs.Unaffected.{AreSoundlyEdited}
 use Rattle.proto_desc_affected.proofs.Checked.{resolved}
 use Rattle.proto_desc_affected.proofs.Declared.{IsNamed, declared_named, meant_named}
 use Rattle.proto_desc_affected.proofs.Linked.{has_meant, message_kind}
@@ -40,7 +40,7 @@ reference_there files reads file u l c =
     (subst (λ n. Contains (all_used 0 (map names_in reads)) (used_in n u)) zero_more (use_in 0 file reads u l c))
 
 module _ (differ : EditedFilesDiffer) (unmarked : UnmarkedFilesMeanTheSame) (key : List ℕ → ℕ) (places : List ℕ) (before : List FileOf) (was : List ReadOf) (files : List FileOf) (reads : List ReadOf) (marks : List Bool) (are : AreSoundlyEdited places before was files reads) (clean : HasNoFault (LinkFaults before))
-    (told : HasToLook key places before was files reads marks) (ks : List KeptFileOf) (kept : AreKeptOf before ks) (l : LinkOf) (link : IsLinkRead files reads l) (file : ℕ) (within : file < length files) (off : get_or marks file false ≡ false) where
+    (told : HasToLook key places before was files reads marks) (ks : List FileSummaryOf) (kept : AreKeptOf before ks) (l : LinkOf) (link : IsLinkRead files reads l) (file : ℕ) (within : file < length files) (off : get_or marks file false ≡ false) where
   left : Contains places file → ⊥
   left c = false≢true (sym off ∙ told.edited file c)
 
@@ -80,19 +80,19 @@ module _ (differ : EditedFilesDiffer) (unmarked : UnmarkedFilesMeanTheSame) (key
       let named : IsNamed files reads name t.0 = record { there = t.1; typed = ap is_type kind ∙ is.typed; spelled = ap (λ (s : Symbol). s.name) t.2 ∙ is.spelled } in
       ap (λ (y : Declared At). y.kind) (same_Some x t.0 (sym found ∙ declared_named files reads are.apart_now name t.0 named)) ∙ kind
 
-  abbrev by_which : KeptFileOf
-  by_which = kept_file before was file
+  abbrev by_which : FileSummaryOf
+  by_which = file_summary before was file
 
   kept_before : get_or ks file nothing_kept ≡ by_which
   kept_before = kept.each file nothing_kept (omega (arith, within, kept.len, as_many places before was files reads are.edited)) was are.edited.were_read
 
-  stays_meant : (u : Used ℕ) → Contains (uses_of reads file) u → (m : Meant) → meant_by_link l m ≡ meant_by_use files reads file u → (n : NameOf) × (name_at l m.row ≡ Some n) → IsSettled places files l ks by_which m → IsMeantStill places files l ks by_which (kept_name before was (meaning_of before was file u)) m
+  stays_meant : (u : Used ℕ) → Contains (uses_of reads file) u → (m : Meant) → meant_by_link l m ≡ meant_by_use files reads file u → (n : NameOf) × (name_at l m.row ≡ Some n) → IsSettled places files l ks by_which m → IsMeantStill places files l ks by_which (type_use before was (meaning_of before was file u)) m
   stays_meant u c m e there settled = by (meaning_of before was file u) refl
     where
       c_before : Contains (uses_of was file) u
       c_before = subst (λ us. Contains us u) uses_were c
 
-      by : (o : Option (List (List ℕ))) → meaning_of before was file u ≡ o → IsMeantStill places files l ks by_which (kept_name before was o) m
+      by : (o : Option (List (List ℕ))) → meaning_of before was file u ≡ o → IsMeantStill places files l ks by_which (type_use before was o) m
       by None none = absurd (resolved before was are.edited.were_read clean file u within_before c_before none)
       by (Some name) means =
           let h = has_meant files reads l link file u m e there in
@@ -119,7 +119,7 @@ module _ (differ : EditedFilesDiffer) (unmarked : UnmarkedFilesMeanTheSame) (key
 
   -- each reference, one for one
   go : (us : List (Used ℕ)) (ms : List Meant) → map (meant_by_link l) ms ≡ map (meant_by_use files reads file) us → All (λ (m : Meant). (n : NameOf) × (name_at l m.row ≡ Some n)) ms → All (IsSettled places files l ks by_which) ms
-      → ((u : Used ℕ) → Contains us u → Contains (uses_of reads file) u) → AreMeantStill places files l ks by_which (map (λ u. kept_name before was (meaning_of before was file u)) us) ms
+      → ((u : Used ℕ) → Contains us u → Contains (uses_of reads file) u) → AreMeantStill places files l ks by_which (map (λ u. type_use before was (meaning_of before was file u)) us) ms
   go [] [] e rows settled whole = tt
   go [] (m ∷ ms) e rows settled whole = absurd (cc)
   go (u ∷ us) [] e rows settled whole = absurd (cc)
@@ -130,9 +130,9 @@ module _ (differ : EditedFilesDiffer) (unmarked : UnmarkedFilesMeanTheSame) (key
         go us ms on (λ k x n. rows (suc k) x (omega (arith, n))) (λ k x n. settled (suc k) x (omega (arith, n))) (λ v c. whole v (contains_later u v us c)),
       )
 
-  still : All (IsSettled places files l ks by_which) (get_or l.meant file []) → AreMeantStill places files l ks by_which (map (λ u. kept_name before was (meaning_of before was file u)) (uses_of was file)) (get_or l.meant file [])
+  still : All (IsSettled places files l ks by_which) (get_or l.meant file []) → AreMeantStill places files l ks by_which (map (λ u. type_use before was (meaning_of before was file u)) (uses_of was file)) (get_or l.meant file [])
   still settled =
-      subst (λ (us : List (Used ℕ)). AreMeantStill places files l ks by_which (map (λ u. kept_name before was (meaning_of before was file u)) us) (get_or l.meant file [])) uses_were
+      subst (λ (us : List (Used ℕ)). AreMeantStill places files l ks by_which (map (λ u. type_use before was (meaning_of before was file u)) us) (get_or l.meant file [])) uses_were
       (go (uses_of reads file) (get_or l.meant file []) (link.means file within).texts (link.means file within).within settled (λ u c. c))
 
 pub marks_tell_kept : EditedFilesDiffer → UnmarkedFilesMeanTheSame → MarksTellKept
@@ -145,5 +145,5 @@ marks_tell_kept differ unmarked key places before was files reads marks are clea
       means =
           subst (DoesMeanStill places files l ks file) (sym same)
           (still differ unmarked key places before was files reads marks are clean told ks kept l read file within off
-          (subst (λ (k : KeptFileOf). All (IsSettled places files l ks k) (get_or l.meant file [])) same settled));
+          (subst (λ (k : FileSummaryOf). All (IsSettled places files l ks k) (get_or l.meant file [])) same settled));
     }

@@ -1,4 +1,4 @@
--- The descriptor of a spared file is what it was, and its scene as far as that is asked for.
+-- The descriptor of an unaffected file is what it was, and its scene as far as that is asked for.
 use Rattle.std.proofs.Common.{◌≡◌, ℕ, ◌<◌, Bool, true, false, List, length, map, Option, Some, None, option_map, refl, sym, ◌∙◌, ap, ap₂, subst, inl, inr, ◌⊎◌, option_and_then, Contains}
 use Rattle.proto_files.proofs.Common.{FileOf, ReadOf, file_at, read_at}
 use Rattle.proto_names_rules.proofs.Common.{At, Declared, Used, joined, map_agree, map_map, place_of}
@@ -6,7 +6,7 @@ use Rattle.proto_names.specs.Links.{names_in, uses_of}
 use Rattle.proto_ast.specs.Scenes.{EnumOf, MeantOf}
 use Rattle.proto_resolved.specs.SceneOf.{declared_as, enum_at, enum_named, is_proto3_file, lexemes_of, meaning_of, means_of, meant_as, scene_of}
 use Rattle.proto_desc_build.specs.Described.{file_described}
-use Rattle.proto_desc_affected.specs.Spared.{AreSoundlyEdited, IsSparedFile, NamesSameEnum, SparedDescriptorsStay, SparedScenesStay, StoodElsewhere}
+use Rattle.proto_desc_affected.specs.Unaffected.{AreSoundlyEdited, IsUnaffectedFile, NamesSameEnum, UnaffectedDescriptorsStay, UnaffectedScenesStay, StoodElsewhere}
 use Rattle.proto_desc_affected.specs.Values.{IsSameScene, enum_without_names, meant_without_names}
 use Rattle.proto_desc_affected.proofs.Declared.{declared_named, meant_named, named_still}
 use Rattle.proto_desc_affected.proofs.SameScenes.{described_same, same_enum}
@@ -40,12 +40,12 @@ module _ (places : List ℕ) (before : List FileOf) (was : List ReadOf) (files :
       ∙ same_enums places before was files reads are.edited (place_of is.declared).file is.within is.left (place_of is.declared) refl
       ∙ sym (ap (option_and_then (λ (d : Declared At). enum_at before was (place_of d))) is.found_before)
 
-  module _ (file : ℕ) (spared : IsSparedFile places before was files reads file) where
+  module _ (file : ℕ) (unaffected : IsUnaffectedFile places before was files reads file) where
     abbrev version : Bool
     version = is_proto3_file before was file
 
     enum_stays : (u : Used ℕ) (name : List (List ℕ)) → Contains (uses_of reads file) u → meaning_of before was file u ≡ Some name → NamesSameEnum version before was files reads name
-    enum_stays u name c means = by (spared.enums u name c (spared.means u c ∙ means))
+    enum_stays u name c means = by (unaffected.enums u name c (unaffected.means u c ∙ means))
       where
         by : StoodElsewhere places before was name ⊎ NamesSameEnum version before was files reads name → NamesSameEnum version before was files reads name
         by (inl elsewhere) = same_enum version (enum_named before was name) (enum_named files reads name) (sym (enum_left name (name_left file u name means elsewhere)))
@@ -55,14 +55,14 @@ module _ (places : List ℕ) (before : List FileOf) (was : List ReadOf) (files :
     one_stays : (asked : MeantOf → MeantOf)
         → ((token : ℕ) (name : List (List ℕ)) → NamesSameEnum version before was files reads name → asked (meant_as files reads token (Some name)) ≡ asked (meant_as before was token (Some name)))
         → (u : Used ℕ) → Contains (uses_of reads file) u → asked (meant_as files reads u.first (meaning_of files reads file u)) ≡ asked (meant_as before was u.first (meaning_of before was file u))
-    one_stays asked same u c = ap (λ (o : Option (List (List ℕ))). asked (meant_as files reads u.first o)) (spared.means u c) ∙ by (meaning_of before was file u) refl
+    one_stays asked same u c = ap (λ (o : Option (List (List ℕ))). asked (meant_as files reads u.first o)) (unaffected.means u c) ∙ by (meaning_of before was file u) refl
       where
         by : (o : Option (List (List ℕ))) → meaning_of before was file u ≡ o → asked (meant_as files reads u.first o) ≡ asked (meant_as before was u.first o)
         by None e = refl
         by (Some name) e = same u.first name (enum_stays u name c e)
 
     pub reading : read_at reads file ≡ read_at was file
-    reading = same_reading places before was files reads are.edited file spared.within spared.left
+    reading = same_reading places before was files reads are.edited file unaffected.within unaffected.left
 
     each_stays : (asked : MeantOf → MeantOf)
         → ((token : ℕ) (name : List (List ℕ)) → NamesSameEnum version before was files reads name → asked (meant_as files reads token (Some name)) ≡ asked (meant_as before was token (Some name)))
@@ -85,10 +85,10 @@ module _ (places : List ℕ) (before : List FileOf) (was : List ReadOf) (files :
         ∙ sym (map_map (λ (u : Used ℕ). meant_as before was u.first (meaning_of before was file u)) meant_without_names (uses_of was file))
 
     lexemes_stay : lexemes_of files reads file ≡ lexemes_of before was file
-    lexemes_stay = same_lexemes places before was files reads are.edited file spared.within spared.left
+    lexemes_stay = same_lexemes places before was files reads are.edited file unaffected.within unaffected.left
 
     version_stays : is_proto3_file files reads file ≡ version
-    version_stays = same_version places before was files reads are.edited file spared.within spared.left
+    version_stays = same_version places before was files reads are.edited file unaffected.within unaffected.left
 
     pub scene_stays : (cap : Option ℕ) → IsSameScene (scene_of cap files reads file) (scene_of cap before was file)
     scene_stays cap = by version refl
@@ -100,10 +100,10 @@ module _ (places : List ℕ) (before : List FileOf) (was : List ReadOf) (files :
     descriptor_stays : (cap : Option ℕ) → file_described (scene_of cap files reads file) (file_at files file).path (read_at reads file).tree ≡ file_described (scene_of cap before was file) (file_at before file).path (read_at was file).tree
     descriptor_stays cap =
         described_same (scene_of cap files reads file) (scene_of cap before was file) (scene_stays cap) (file_at files file).path (read_at reads file).tree
-        ∙ ap₂ (λ (f : FileOf) (r : ReadOf). file_described (scene_of cap before was file) f.path r.tree) (same_file places before was files reads are.edited file spared.within spared.left) reading
+        ∙ ap₂ (λ (f : FileOf) (r : ReadOf). file_described (scene_of cap before was file) f.path r.tree) (same_file places before was files reads are.edited file unaffected.within unaffected.left) reading
 
-pub spared_scenes_stay : SparedScenesStay
-spared_scenes_stay places before was files reads are file spared cap = scene_stays places before was files reads are file spared cap
+pub unaffected_scenes_stay : UnaffectedScenesStay
+unaffected_scenes_stay places before was files reads are file unaffected cap = scene_stays places before was files reads are file unaffected cap
 
-pub spared_descriptors_stay : SparedDescriptorsStay
-spared_descriptors_stay places before was files reads are file spared cap = descriptor_stays places before was files reads are file spared cap
+pub unaffected_descriptors_stay : UnaffectedDescriptorsStay
+unaffected_descriptors_stay places before was files reads are file unaffected cap = descriptor_stays places before was files reads are file unaffected cap

@@ -4,7 +4,7 @@ use Rattle.proto_base.proofs.Common.{false≢true, same_Some}
 use Rattle.proto_files.proofs.Common.{AreRead, FileOf, ReadOf}
 use Rattle.proto_names.specs.Linking.{LinkOf, name_text}
 use Rattle.proto_ast.specs.Scenes.{EnumOf}
-use Rattle.proto_desc_affected.specs.Checked.{IsEnumAtRow, IsEnumStill, KeepsEnum, KeptEnumOf, KeptFileOf, kept_file, nothing_kept}
+use Rattle.proto_desc_affected.specs.Checked.{IsEnumAtRow, IsEnumStill, KeepsEnum, EnumSummaryOf, FileSummaryOf, file_summary, nothing_kept}
 use Rattle.proto_desc_affected.specs.Values.{IsSameEnum}
 use Rattle.proto_desc_affected.proofs.SameScenes.{same_enum}
 use Rattle.proto_desc_affected.specs.Common.{AreStillEnums, IsEnumAsKept, is_still_to}
@@ -15,12 +15,12 @@ compared true a b version starts values = λ i. Some (record { is_proto3 = versi
 compared false a b version starts values = λ i. Some (record { is_proto3 = version i; starts_past_zero = starts i; values = [] })
 
 -- an enum that is kept of a file under the name of another, which is so what is kept of it
-pub kept_by_name : (k : KeptFileOf) (name : List ℕ) (was : EnumOf) (now : KeptEnumOf) → KeepsEnum k name was → name ≡ now.name → (r : Option Bool) → IfSome r (λ whole. IsSameEnum (not whole) (Some was) (Some now.enum)) → IfSome r (IsEnumAsKept k now)
+pub kept_by_name : (k : FileSummaryOf) (name : List ℕ) (was : EnumOf) (now : EnumSummaryOf) → KeepsEnum k name was → name ≡ now.name → (r : Option Bool) → IfSome r (λ whole. IsSameEnum (not whole) (Some was) (Some now.enum)) → IfSome r (IsEnumAsKept k now)
 kept_by_name k name was now there same None h = tt
 kept_by_name k name was now there same (Some whole) h = (was, subst (λ (n : List ℕ). KeepsEnum k n was) same there, h)
 
 -- what is so whole is so to any file
-whole_to_any : (files : List FileOf) (l : LinkOf) (ks : List KeptFileOf) (proto3 : Bool) (row : ℕ) → IsEnumAtRow files l ks false row → IsEnumAtRow files l ks proto3 row
+whole_to_any : (files : List FileOf) (l : LinkOf) (ks : List FileSummaryOf) (proto3 : Bool) (row : ℕ) → IsEnumAtRow files l ks false row → IsEnumAtRow files l ks proto3 row
 whole_to_any files l ks proto3 row is name text =
     let still = is name text in
     record {
@@ -34,8 +34,8 @@ whole_to_any files l ks proto3 row is name text =
     }
 
 -- an enum that is what is kept of it, of the name in this row
-pub still_at : (files : List FileOf) (l : LinkOf) (ks : List KeptFileOf) (k : KeptFileOf) (now : KeptEnumOf) (whole : Bool) → IsEnumAsKept k now whole → (file : ℕ) → file < length files → get_or ks file nothing_kept ≡ k
-    → ((reads : List ReadOf) → AreRead files reads → KeepsEnum (kept_file files reads file) now.name now.enum) → (row : ℕ) → name_text l row ≡ Some now.name → IsEnumAtRow files l ks (not whole) row
+pub still_at : (files : List FileOf) (l : LinkOf) (ks : List FileSummaryOf) (k : FileSummaryOf) (now : EnumSummaryOf) (whole : Bool) → IsEnumAsKept k now whole → (file : ℕ) → file < length files → get_or ks file nothing_kept ≡ k
+    → ((reads : List ReadOf) → AreRead files reads → KeepsEnum (file_summary files reads file) now.name now.enum) → (row : ℕ) → name_text l row ≡ Some now.name → IsEnumAtRow files l ks (not whole) row
 still_at files l ks k now whole as_kept file within here is row text name h =
     subst (IsEnumStill files ks (not whole)) (same_Some now.name name (sym text ∙ h))
     (record {
@@ -43,13 +43,13 @@ still_at files l ks k now whole as_kept file within here is row text name h =
       within = within;
       before = as_kept.0;
       now = now.enum;
-      was = subst (λ (x : KeptFileOf). KeepsEnum x now.name as_kept.0) (sym here) as_kept.1;
+      was = subst (λ (x : FileSummaryOf). KeepsEnum x now.name as_kept.0) (sym here) as_kept.1;
       is = is;
       same = as_kept.2;
     })
 
 -- one row more
-pub still_more : (files : List FileOf) (l : LinkOf) (ks : List KeptFileOf) (old new : ℕ → Option Bool) (row : ℕ) (whole : Bool) → ((q : ℕ) → new q ≡ cond (nat_eq row q) (Some whole) (old q)) → IsEnumAtRow files l ks (not whole) row → AreStillEnums files l ks old → AreStillEnums files l ks new
+pub still_more : (files : List FileOf) (l : LinkOf) (ks : List FileSummaryOf) (old new : ℕ → Option Bool) (row : ℕ) (whole : Bool) → ((q : ℕ) → new q ≡ cond (nat_eq row q) (Some whole) (old q)) → IsEnumAtRow files l ks (not whole) row → AreStillEnums files l ks old → AreStillEnums files l ks new
 still_more files l ks old new row whole put is are other w h = by (nat_eq row other) refl (sym (put other) ∙ h)
   where
     by : (b : Bool) → nat_eq row other ≡ b → cond b (Some whole) (old other) ≡ Some w → IsEnumAtRow files l ks (not w) other
@@ -57,7 +57,7 @@ still_more files l ks old new row whole put is are other w h = by (nat_eq row ot
     by false e t = are other w t
 
 -- so it is with a row of which that is told
-pub still_row : (files : List FileOf) (l : LinkOf) (ks : List KeptFileOf) (still : ℕ → Option Bool) → AreStillEnums files l ks still → (proto3 : Bool) (row : ℕ) → is_still_to proto3 (still row) ≡ true → IsEnumAtRow files l ks proto3 row
+pub still_row : (files : List FileOf) (l : LinkOf) (ks : List FileSummaryOf) (still : ℕ → Option Bool) → AreStillEnums files l ks still → (proto3 : Bool) (row : ℕ) → is_still_to proto3 (still row) ≡ true → IsEnumAtRow files l ks proto3 row
 still_row files l ks still are proto3 row e = by (still row) refl e
   where
     by : (o : Option Bool) → still row ≡ o → is_still_to proto3 o ≡ true → IsEnumAtRow files l ks proto3 row

@@ -1,10 +1,11 @@
--- Marks of the files that refer to names of edited files: what is marked stays so, and then all others are spared.
+-- Marks of the files that refer to names of edited files: what is marked stays so, and then all
+-- others are unaffected.
 use Rattle.std.proofs.Common.{◌≡◌, ℕ, ◌<◌, Bool, true, false, not, List, [], length, get_or, refl, sym, ◌∙◌, inl, inr, arith, All}
 use Rattle.std.proofs.lemmas.List.Elements.{All-weaker}
 use Rattle.proto_base.proofs.Common.{All-contains, false_from_ne_true, false≢true, or_parts}
 use Rattle.std.proofs.lemmas.Bool.{not-false}
 use Rattle.proto_files.proofs.Common.{AreRead, FileOf, ReadOf}
-use Rattle.proto_desc_affected.specs.Checked.{IsListed, IsSettled, KeptFileOf, LinksListReferences, MarksTellKept, kept_by_link, nothing_kept}
+use Rattle.proto_desc_affected.specs.Checked.{IsListed, IsSettled, FileSummaryOf, LinksListReferences, MarksTellKept, kept_by_link, nothing_kept}
 use Rattle.proto_names_affected.specs.Marking.{MarksStay}
 use Rattle.proto_names.specs.LinkOfFiles.{IsLinkOf}
 use Rattle.proto_names.specs.Linking.{LinkOf, Meant, RefId}
@@ -13,7 +14,7 @@ use Rattle.proto_desc_affected.specs.Common.{AreOthersKeptAsTold, AreUnsureKept,
 
 -- ---- what is marked stays so
 
-module _ (l : LinkOf) (ks : List KeptFileOf) (old new : List Bool) (stay : MarksStay old new) where
+module _ (l : LinkOf) (ks : List FileSummaryOf) (old new : List Bool) (stay : MarksStay old new) where
   pub users_stay : (row : ℕ) (rs : List RefId) → All (IsUserMarked l ks old row) rs → All (IsUserMarked l ks new row) rs
   users_stay row = All-weaker (IsUserMarked l ks old row) (IsUserMarked l ks new row) (λ r h counts within. stay.set r.file (h counts (omega (arith, within, stay.count))))
 
@@ -26,7 +27,7 @@ module _ (l : LinkOf) (ks : List KeptFileOf) (old new : List Bool) (stay : Marks
 
 -- ---- so each reference of another file is settled
 
-module _ (lists : LinksListReferences) (places : List ℕ) (files : List FileOf) (l : LinkOf) (link : IsLinkOf files l) (ks : List KeptFileOf) (marks : List Bool) (len : length marks ≡ length files) (users : AreUsersOfFilesMarked places l ks marks)
+module _ (lists : LinksListReferences) (places : List ℕ) (files : List FileOf) (l : LinkOf) (link : IsLinkOf files l) (ks : List FileSummaryOf) (marks : List Bool) (len : length marks ≡ length files) (users : AreUsersOfFilesMarked places l ks marks)
     (reads : List ReadOf) (are : AreRead files reads) (file : ℕ) (within : file < length files) (off : get_or marks file false ≡ false) where
   settled : All (IsSettled places files l ks (get_or ks file nothing_kept)) (get_or l.meant file [])
   settled k d n = by (counts_to l ks m.row file) refl
@@ -47,7 +48,7 @@ module _ (lists : LinksListReferences) (places : List ℕ) (files : List FileOf)
           let parts = or_parts (not (kept_by_link l m).is_message) (get_or ks file nothing_kept).has_extend free in
           inr (parts.1, inl (not-false (kept_by_link l m).is_message parts.0))
 
-pub told_others : MarksTellKept → LinksListReferences → (places : List ℕ) (files : List FileOf) (l : LinkOf) → IsLinkOf files l → (ks : List KeptFileOf) (told unsure marks : List Bool) → length told ≡ length files → MarksStay told unsure → AreUsersOfFilesMarked places l ks unsure → AreUnsureKept places files l ks unsure marks → AreOthersKeptAsTold places files l ks told marks
+pub told_others : MarksTellKept → LinksListReferences → (places : List ℕ) (files : List FileOf) (l : LinkOf) → IsLinkOf files l → (ks : List FileSummaryOf) (told unsure marks : List Bool) → length told ≡ length files → MarksStay told unsure → AreUsersOfFilesMarked places l ks unsure → AreUnsureKept places files l ks unsure marks → AreOthersKeptAsTold places files l ks told marks
 told_others tell lists places files l link ks told unsure marks len stay users asked before was reads sound clean kept look file within off = elim (asked file within off) [
   | inr still ↦ still
   | inl sure ↦

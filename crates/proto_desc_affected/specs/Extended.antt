@@ -1,5 +1,5 @@
--- What is wrong with files that an edit of other files spares. The numbers of extensions depend on
--- other files: on the ranges of what they extend, and on the extensions before them.
+-- What is wrong with files that an edit of other files does not affect. The numbers of extensions
+-- depend on other files: on the ranges of what they extend, and on the extensions before them.
 use Rattle.std.specs.Prelude.{◌≡◌, ◌⊎◌, ℕ, ◌<◌, false, List, [], length, Option, Some, None}
 use Rattle.std.specs.List.{Contains}
 use Rattle.proto_base.specs.Texts.{Text}
@@ -11,7 +11,7 @@ use Rattle.proto_desc_checks.specs.FileFlaws.{file_flaws}
 use Rattle.proto_resolved.specs.SceneOf.{meaning_of, scene_of}
 use Rattle.proto_desc_extensions.specs.Extends.{has_extend}
 use Rattle.proto_desc_extensions.specs.Extensions.{all_flaws}
-use Rattle.proto_desc_affected.specs.Spared.{AreSoundlyEdited, IsSparedFile, StoodElsewhere}
+use Rattle.proto_desc_affected.specs.Unaffected.{AreSoundlyEdited, IsUnaffectedFile, StoodElsewhere}
 
 -- the file has no `extend` block, neither before nor now
 abbrev pub HasNoExtend : List ReadOf → List ReadOf → ℕ → Type 0
@@ -25,44 +25,44 @@ RefersElsewhere places before was files reads file =
     (u : Used ℕ) (name : List Text) → Contains (uses_of reads file) u
     → meaning_of files reads file u ≡ Some name → StoodElsewhere places before was name
 
--- each file with an `extend` block is spared, and what it refers to stood in files that are not
+-- each file with an `extend` block is unaffected, and what it refers to stood in files that are not
 -- edited
-pub record ExtendsAreSpared (places : List ℕ) (before : List FileOf) (was : List ReadOf)
+pub record ExtendsAreUnaffected (places : List ℕ) (before : List FileOf) (was : List ReadOf)
     (files : List FileOf) (reads : List ReadOf) : Type 0 where
-  pub spared : (file : ℕ) → file < length files
-      → IsSparedFile places before was files reads file ⊎ HasNoExtend was reads file
-  pub elsewhere : (file : ℕ) → IsSparedFile places before was files reads file
+  pub unaffected : (file : ℕ) → file < length files
+      → IsUnaffectedFile places before was files reads file ⊎ HasNoExtend was reads file
+  pub elsewhere : (file : ℕ) → IsUnaffectedFile places before was files reads file
       → (has_extend (read_at reads file).tree ≡ false)
       ⊎ RefersElsewhere places before was files reads file
 
--- what is wrong with a spared file alone is what was
-abbrev pub SparedFlawsOfFilesStay : Type 0
-SparedFlawsOfFilesStay =
+-- what is wrong with an unaffected file alone is what was
+abbrev pub UnaffectedFlawsOfFilesStay : Type 0
+UnaffectedFlawsOfFilesStay =
     (places : List ℕ) (before : List FileOf) (was : List ReadOf)
     → (files : List FileOf) (reads : List ReadOf)
     → AreSoundlyEdited places before was files reads
-    → (file : ℕ) → IsSparedFile places before was files reads file
+    → (file : ℕ) → IsUnaffectedFile places before was files reads file
     → (cap : Option ℕ)
     → file_flaws (scene_of cap files reads file) (read_at reads file).tree
     ≡ file_flaws (scene_of cap before was file) (read_at was file).tree
 
--- nothing is wrong with a spared file with which nothing was wrong
-abbrev pub SparedFilesStayFlawless : Type 0
-SparedFilesStayFlawless =
+-- nothing is wrong with an unaffected file with which nothing was wrong
+abbrev pub UnaffectedFilesStayFlawless : Type 0
+UnaffectedFilesStayFlawless =
     (places : List ℕ) (before : List FileOf) (was : List ReadOf)
     → (files : List FileOf) (reads : List ReadOf)
     → AreSoundlyEdited places before was files reads
-    → ExtendsAreSpared places before was files reads
-    → (file : ℕ) → IsSparedFile places before was files reads file
+    → ExtendsAreUnaffected places before was files reads
+    → (file : ℕ) → IsUnaffectedFile places before was files reads file
     → all_flaws None before was file ≡ [] → all_flaws None files reads file ≡ []
 
--- what is wrong with a spared file that has no `extend` block is what was, whatever the other files
--- have
-abbrev pub SparedFlawsStay : Type 0
-SparedFlawsStay =
+-- what is wrong with an unaffected file that has no `extend` block is what was, whatever the other
+-- files have
+abbrev pub UnaffectedFlawsStay : Type 0
+UnaffectedFlawsStay =
     (places : List ℕ) (before : List FileOf) (was : List ReadOf)
     → (files : List FileOf) (reads : List ReadOf)
     → AreSoundlyEdited places before was files reads
-    → (file : ℕ) → IsSparedFile places before was files reads file
+    → (file : ℕ) → IsUnaffectedFile places before was files reads file
     → has_extend (read_at reads file).tree ≡ false
     → (cap : Option ℕ) → all_flaws cap files reads file ≡ all_flaws cap before was file

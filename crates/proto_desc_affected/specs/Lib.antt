@@ -3,6 +3,6 @@ pub mod Common
 pub mod Extended
 pub mod Kept
 pub mod Marks
-pub mod Spared
+pub mod Unaffected
 pub mod StillEnums
 pub mod Values

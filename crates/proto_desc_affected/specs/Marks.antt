@@ -1,4 +1,4 @@
--- Marks of files, one for each: those that an edit does not spare, and those whose enums they mean.
+-- Marks of files, one for each: those that an edit affects, and those whose enums they mean.
 use Rattle.std.specs.Prelude.{◌≡◌, ◌⊎◌, ℕ, ◌<◌, Bool, true, false, not, ◌||◌, List, [], length, get_or, Some, option_map}
 use Rattle.std.specs.List.{All}
 use Rattle.indexmap.specs.IndexMap.{IndexMap}
@@ -15,19 +15,19 @@ use Rattle.proto_resolved.specs.Enums.{IsEnumTableOf}
 use Rattle.proto_resolved.specs.Meanings.{HasEnumsMeant}
 use Rattle.proto_resolved.specs.declared.enum_table.EnumRow.{EnumRow}
 use Rattle.proto_desc_extensions.specs.Extends.{has_extend}
-use Rattle.proto_desc_affected.specs.Checked.{AreKeptOf, IsKeptStill, KeptFileOf, is_message_kind, kept_by_link, nothing_kept}
-use Rattle.proto_desc_affected.specs.Spared.{AreSoundlyEdited}
+use Rattle.proto_desc_affected.specs.Checked.{AreKeptOf, IsKeptStill, FileSummaryOf, is_message_kind, kept_by_link, nothing_kept}
+use Rattle.proto_desc_affected.specs.Unaffected.{AreSoundlyEdited}
 
 -- each file that is not marked is not edited, and by the link its references mean what is kept
 abbrev pub AreOthersKept
-    : List ℕ → List FileOf → LinkOf → List KeptFileOf → List Bool → Type 0
+    : List ℕ → List FileOf → LinkOf → List FileSummaryOf → List Bool → Type 0
 AreOthersKept places files l ks marks =
     (file : ℕ) → file < length files → get_or marks file false ≡ false
     → IsKeptStill places files l ks file
 
 -- so it is with each file that is not marked, if it was unsure
 abbrev pub AreUnsureKept
-    : List ℕ → List FileOf → LinkOf → List KeptFileOf → List Bool → List Bool → Type 0
+    : List ℕ → List FileOf → LinkOf → List FileSummaryOf → List Bool → List Bool → Type 0
 AreUnsureKept places files l ks unsure marks =
     (file : ℕ) → file < length files → get_or marks file false ≡ false
     → (get_or unsure file false ≡ false)
@@ -37,23 +37,23 @@ AreUnsureKept places files l ks unsure marks =
 
 -- who refers to the name in this row has to be checked again, where that is edited: the name is no
 -- message's, or this file, which refers to it, had an `extend` block
-abbrev pub counts_to : LinkOf → List KeptFileOf → ℕ → ℕ → Bool
+abbrev pub counts_to : LinkOf → List FileSummaryOf → ℕ → ℕ → Bool
 counts_to l ks row file =
     not (is_message_kind (option_map (λ n. n.kind) (name_at l row)))
     || (get_or ks file nothing_kept).has_extend
 
 -- the file of this reference to the name in this row is marked, if the name counts to it
-abbrev pub IsUserMarked : LinkOf → List KeptFileOf → List Bool → ℕ → RefId → Type 0
+abbrev pub IsUserMarked : LinkOf → List FileSummaryOf → List Bool → ℕ → RefId → Type 0
 IsUserMarked l ks marks row r =
     counts_to l ks row r.file ≡ true → r.file < length marks → IsMarked marks r.file
 
 -- so it is with each reference to the name in this row
-abbrev pub AreUsersMarked : LinkOf → List KeptFileOf → List Bool → ℕ → Type 0
+abbrev pub AreUsersMarked : LinkOf → List FileSummaryOf → List Bool → ℕ → Type 0
 AreUsersMarked l ks marks row = All (IsUserMarked l ks marks row) (get_or l.references row [])
 
 -- so it is with each name that one of the files at these places declares
 abbrev pub AreUsersOfFilesMarked
-    : List ℕ → LinkOf → List KeptFileOf → List Bool → Type 0
+    : List ℕ → LinkOf → List FileSummaryOf → List Bool → Type 0
 AreUsersOfFilesMarked places l ks marks =
     All (λ file. All (AreUsersMarked l ks marks) (get_or l.rows file [])) places
 
@@ -61,7 +61,7 @@ AreUsersOfFilesMarked places l ks marks =
 -- have to be looked at again once these are edited: each file that is not marked is not edited, and
 -- by the link its references mean what is kept
 abbrev pub AreOthersKeptAsTold
-    : List ℕ → List FileOf → LinkOf → List KeptFileOf → List Bool → List Bool → Type 0
+    : List ℕ → List FileOf → LinkOf → List FileSummaryOf → List Bool → List Bool → Type 0
 AreOthersKeptAsTold places files l ks told marks =
     (before : List FileOf) (was reads : List ReadOf)
     → AreSoundlyEdited places before was files reads → HasNoFault (LinkFaults before)
@@ -71,7 +71,7 @@ AreOthersKeptAsTold places files l ks told marks =
 -- ---- what is asked of marked files
 
 -- no marked file has an `extend` block, and none had one
-abbrev pub HasNoMarkedExtends : List FileOf → List KeptFileOf → List Bool → Type 0
+abbrev pub HasNoMarkedExtends : List FileOf → List FileSummaryOf → List Bool → Type 0
 HasNoMarkedExtends files ks marks =
     (reads : List ReadOf) → AreRead files reads
     → (file : ℕ) → file < length files → IsMarked marks file

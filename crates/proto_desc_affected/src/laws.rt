@@ -1,8 +1,8 @@
 //! The laws, as functions that do nothing.
 
-ghost use Rattle.proto_desc_affected.specs.Checked.{KeptFilesTellSpared, LinksHaveEnumsKept, LinksHaveWhatIsKept, LinksListReferences, MarksTellKept, MeantMessagesAreNoEnums};
-ghost use Rattle.proto_desc_affected.specs.Extended.{SparedFilesStayFlawless, SparedFlawsStay, SparedFlawsOfFilesStay};
-ghost use Rattle.proto_desc_affected.specs.Spared.{CleanEditsAreSound, SparedDescriptorsStay, SparedScenesStay};
+ghost use Rattle.proto_desc_affected.specs.Checked.{KeptFilesTellUnaffected, LinksHaveEnumsKept, LinksHaveWhatIsKept, LinksListReferences, MarksTellKept, MeantMessagesAreNoEnums};
+ghost use Rattle.proto_desc_affected.specs.Extended.{UnaffectedFilesStayFlawless, UnaffectedFlawsStay, UnaffectedFlawsOfFilesStay};
+ghost use Rattle.proto_desc_affected.specs.Unaffected.{CleanEditsAreSound, UnaffectedDescriptorsStay, UnaffectedScenesStay};
 ghost use Rattle.proto_desc_affected.specs.Values.{ValueNamesMatterToNoDescriptor, ValueNamesMatterToNoExtension, ValueNamesMatterToNoProto3Flaws};
 ghost use Rattle.proto_desc_affected.specs.Marks.{WantedEnumsAreThere};
 
@@ -13,17 +13,17 @@ pub fn clean_edits_are_sound()
     ensures { CleanEditsAreSound }
 {}
 
-/// Of a file that an edit spares the scene is what it was, with any cap, and of a proto3 file but for
-/// the names of enums' values (`scenes`). So are the descriptor (`descriptors`) and what is wrong
-/// with the file alone (`own`), and all that is wrong with one without an `extend` block (`flaws`).
-/// Where each file that has one is spared, and refers to what stood in files that are not edited, a
-/// spared file without a flaw has none still (`flawless`).
-pub fn spared_files_stay()
-    ensures scenes { SparedScenesStay }
-    ensures descriptors { SparedDescriptorsStay }
-    ensures own { SparedFlawsOfFilesStay }
-    ensures flaws { SparedFlawsStay }
-    ensures flawless { SparedFilesStayFlawless }
+/// Of a file that an edit does not affect the scene is what it was, with any cap, and of a proto3
+/// file but for the names of enums' values (`scenes`). So are the descriptor (`descriptors`) and
+/// what is wrong with the file alone (`own`), and all that is wrong with one without an `extend`
+/// block (`flaws`). Where each file that has one is unaffected, and refers to what stood in files
+/// that are not edited, a unaffected file without a flaw has none still (`flawless`).
+pub fn unaffected_files_stay()
+    ensures scenes { UnaffectedScenesStay }
+    ensures descriptors { UnaffectedDescriptorsStay }
+    ensures own { UnaffectedFlawsOfFilesStay }
+    ensures flaws { UnaffectedFlawsStay }
+    ensures flawless { UnaffectedFilesStayFlawless }
 {}
 
 /// A link has of each reference what is kept of it (`kept`), and of what a file declares the enums
@@ -38,11 +38,11 @@ pub fn links_have_what_is_kept()
 {}
 
 /// What is kept of files tells with the link of the edited files that a file which is not edited is
-/// spared: where by the link its references mean the names that are kept, and these stand in files
-/// that are not edited, or the file has no `extend` block and they are messages' still, or enums'
-/// that are to the file what is kept of them.
-pub fn kept_files_tell_spared()
-    ensures { KeptFilesTellSpared }
+/// unaffected: where by the link its references mean the names that are kept, and these stand in
+/// files that are not edited, or the file has no `extend` block and they are messages' still, or
+/// enums' that are to the file what is kept of them.
+pub fn kept_files_tell_unaffected()
+    ensures { KeptFilesTellUnaffected }
 {}
 
 /// Where two files are the same but for the names of the values of the enums that their references
@@ -55,8 +55,8 @@ pub fn value_names_matter_to_proto2_alone()
 {}
 
 /// Where the files that have to be looked at again are marked, what is kept of any other tells that
-/// it is spared, if what its references mean stands in files that are not edited, or the file had
-/// no `extend` block and it is messages', or enums' that are to the file what is kept of them.
+/// it is unaffected, if what its references mean stands in files that are not edited, or the file
+/// had no `extend` block and it is messages', or enums' that are to the file what is kept of them.
 pub fn marks_tell_kept()
     ensures { MarksTellKept }
 {

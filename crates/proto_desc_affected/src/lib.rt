@@ -3,9 +3,9 @@
 //! which the scenes, the descriptors and the flaws of all others stay.
 #![tactic(auto)]
 
-pub mod kept_file;
+pub mod file_summary;
 pub mod laws;
 pub mod marks;
 mod still_enums;
 
-pub use kept_file::{KeptEnum, KeptFile, KeptName, copy_kept_files, kept_files};
+pub use file_summary::{EnumSummary, FileSummary, TypeUse, copy_file_summaries, file_summaries};

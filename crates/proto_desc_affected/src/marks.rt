@@ -1,4 +1,4 @@
-//! The files that an edit does not spare, and those whose enums they mean, as marks: one for each
+//! The files that an edit affects, and those whose enums they mean, as marks: one for each
 //! file.
 
 ghost use Rattle.std.specs.Prelude.{◌≡◌, ◌↔◌, ◌⊎◌, ◌||◌, ℕ, ◌<◌, List, [], true, false, length, get_or, map, nat_eq, option_map, slice_get, Some, IfOk, IfSome};
@@ -7,15 +7,15 @@ ghost use Rattle.indexmap.specs.IndexMap.{get};
 ghost use Rattle.proto_desc_extensions.specs.Extends.{has_extend};
 ghost use Rattle.proto_files.specs.FilesRead.{AreRead, ReadOf, read_at};
 ghost use Rattle.proto_files.specs.GivenFiles.{FileOf};
-ghost use Rattle.proto_desc_affected.specs.Checked.{AreMeantStill, IsElsewhere, IsEnumAtRow, IsKeptStill, IsMeantStill, KeptFileOf, is_message_kind, nothing_kept};
+ghost use Rattle.proto_desc_affected.specs.Checked.{AreMeantStill, IsElsewhere, IsEnumAtRow, IsKeptStill, IsMeantStill, FileSummaryOf, is_message_kind, nothing_kept};
 ghost use Rattle.proto_names_affected.specs.Marking.{ArePlacesMarked, IsMarked, MarksStay};
 ghost use Rattle.proto_names.specs.LinkOfFiles.{IsLinkOf};
 ghost use Rattle.proto_names.specs.Linking.{name_at, name_text};
-ghost use Rattle.proto_desc_affected.specs.Kept.{kept_file_of, kept_files_of, kept_name_of};
+ghost use Rattle.proto_desc_affected.specs.Kept.{file_summary_of, file_summaries_of, type_use_of};
 ghost use Rattle.proto_desc_affected.specs.Marks.{AreEnumsMarked, AreOthersKept, AreOthersKeptAsTold, AreUnsureKept, AreUsersMarked, AreUsersOfFilesMarked, HasNoMarkedExtends, IsEnumMarked, IsUserMarked};
 ghost use Rattle.proto_desc_affected.specs.StillEnums.{AreStillEnums};
 
-use crate::kept_file::{KeptFile, KeptName, has_extend_at, is_message};
+use crate::file_summary::{FileSummary, TypeUse, has_extend_at, is_message};
 use crate::laws::{links_have_what_is_kept, marks_tell_kept};
 use crate::still_enums::{is_still, still_enums};
 use indexmap::IndexMap;
@@ -49,11 +49,11 @@ fn has_text(link: &Link, name: SymbolId, text: &str) -> bool
 fn is_type_still(
     link: &Link,
     still: &IndexMap<usize, bool>,
-    file: &KeptFile,
-    kept: &KeptName,
+    file: &FileSummary,
+    kept: &TypeUse,
     name: SymbolId,
 ) -> bool
-    ensures { result ≡ true → (files : List FileOf) (ks : List KeptFileOf)
+    ensures { result ≡ true → (files : List FileOf) (ks : List FileSummaryOf)
         → AreStillEnums files link.now ks (get nat_eq still.now)
         → ((kept.now.is_message ≡ true)
         × (is_message_kind (option_map (λ n. n.kind) (name_at link.now name.row)) ≡ true))
@@ -70,14 +70,14 @@ fn is_meant_still(
     link: &Link,
     edited: &[bool],
     still: &IndexMap<usize, bool>,
-    file: &KeptFile,
-    kept: &KeptName,
+    file: &FileSummary,
+    kept: &TypeUse,
     meant: Meant,
 ) -> bool
     ensures { result ≡ true → (places : List ℕ) → ArePlacesMarked edited.now places
-        → (files : List FileOf) (ks : List KeptFileOf)
+        → (files : List FileOf) (ks : List FileSummaryOf)
         → AreStillEnums files link.now ks (get nat_eq still.now)
-        → IsMeantStill places files link.now ks (kept_file_of file.now) (kept_name_of kept.now)
+        → IsMeantStill places files link.now ks (file_summary_of file.now) (type_use_of kept.now)
         meant }
 {
     let name = meant.symbol();
@@ -91,14 +91,14 @@ fn are_meant_still(
     link: &Link,
     edited: &[bool],
     still: &IndexMap<usize, bool>,
-    kept: &KeptFile,
+    kept: &FileSummary,
     meant: &[Meant],
 ) -> bool
     ensures { result ≡ true → (places : List ℕ) → ArePlacesMarked edited.now places
-        → (files : List FileOf) (ks : List KeptFileOf)
+        → (files : List FileOf) (ks : List FileSummaryOf)
         → AreStillEnums files link.now ks (get nat_eq still.now)
-        → AreMeantStill places files link.now ks (kept_file_of kept.now)
-        (map kept_name_of kept.now.means.items) meant.now }
+        → AreMeantStill places files link.now ks (file_summary_of kept.now)
+        (map type_use_of kept.now.means.items) meant.now }
 {
     if kept.means.len() != meant.len() {
         return false;
@@ -117,13 +117,13 @@ fn is_kept_still(
     link: &Link,
     edited: &[bool],
     still: &IndexMap<usize, bool>,
-    kept: &KeptFile,
+    kept: &FileSummary,
     file: u32,
 ) -> bool
     ensures { result ≡ true → (places : List ℕ) → ArePlacesMarked edited.now places
-        → (files : List FileOf) (ks : List KeptFileOf)
+        → (files : List FileOf) (ks : List FileSummaryOf)
         → AreStillEnums files link.now ks (get nat_eq still.now)
-        → file < length files → get_or ks file nothing_kept ≡ kept_file_of kept.now
+        → file < length files → get_or ks file nothing_kept ≡ file_summary_of kept.now
         → IsKeptStill places files link.now ks file }
 {
     !is_marked(edited, file) && are_meant_still(link, edited, still, kept, link.meant_in(file))
@@ -136,13 +136,13 @@ fn is_left_out(
     edited: &[bool],
     still: &IndexMap<usize, bool>,
     unsure: &[bool],
-    kept: &KeptFile,
+    kept: &FileSummary,
     file: u32,
 ) -> bool
     ensures { result ≡ true → (get_or unsure.now file false ≡ false) ⊎ ((places : List ℕ)
-        → ArePlacesMarked edited.now places → (files : List FileOf) (ks : List KeptFileOf)
+        → ArePlacesMarked edited.now places → (files : List FileOf) (ks : List FileSummaryOf)
         → AreStillEnums files link.now ks (get nat_eq still.now)
-        → file < length files → get_or ks file nothing_kept ≡ kept_file_of kept.now
+        → file < length files → get_or ks file nothing_kept ≡ file_summary_of kept.now
         → IsKeptStill places files link.now ks file) }
 {
     if !is_marked(unsure, file) {
@@ -154,14 +154,14 @@ fn is_left_out(
 /// Marks of those of the unsure files that are edited, at these places, or of which a reference, by
 /// the link now, does not mean what is kept of it, or means what stands in an edited file. If the
 /// file has no `extend` block, a message may stand there, where it was one, and an enum, where it
-/// is to the file what is kept of it. The link is that of the files. Refused for want of memory
-/// alone.
+/// is to the file what is kept of it. The link is that of the files. Fails only when out of
+/// memory.
 fn unsure_to_check(
     alloc: Global,
     files: &Files,
     link: &Link,
     places: &[u32],
-    kept: &[KeptFile],
+    kept: &[FileSummary],
     unsure: &[bool],
 ) -> Result<Vec<bool>, NoMemory>
     requires link { IsLinkOf files.now link.now }
@@ -169,7 +169,7 @@ fn unsure_to_check(
     requires paired { length kept.now ≡ length files.now }
     ensures len { IfOk result (λ marks. length marks.items ≡ length files.now) }
     ensures others { IfOk result (λ marks. AreUnsureKept places.now files.now link.now
-        (kept_files_of kept.now) unsure.now marks.items) }
+        (file_summaries_of kept.now) unsure.now marks.items) }
 {
     let mut edited = vec![in alloc; false; files.len()]?;
     mark_places(&mut edited, places);
@@ -182,32 +182,32 @@ fn unsure_to_check(
     Ok(marks)
 }
 
-/// Marks of the files that an edit of the files at these places does not spare: these, and each of
+/// Marks of the files that an edit of the files at these places affects: these, and each of
 /// which a reference, by the link now, does not mean what is kept of it, or means what stands in an
 /// edited file. If the file has no `extend` block, a message may stand there, where it was one, and
-/// an enum, where it is to the file what is kept of it. The link is that of the files. Refused for
-/// want of memory alone.
+/// an enum, where it is to the file what is kept of it. The link is that of the files. Fails only
+/// when out of memory.
 pub fn files_to_check(
     alloc: Global,
     files: &Files,
     link: &Link,
     places: &[u32],
-    kept: &[KeptFile],
+    kept: &[FileSummary],
 ) -> Result<Vec<bool>, NoMemory>
     requires link { IsLinkOf files.now link.now }
     requires places { All (λ place. place < length files.now) places.now }
     requires paired { length kept.now ≡ length files.now }
     ensures len { IfOk result (λ marks. length marks.items ≡ length files.now) }
     ensures others { IfOk result (λ marks. AreOthersKept places.now files.now link.now
-        (kept_files_of kept.now) marks.items) }
+        (file_summaries_of kept.now) marks.items) }
 {
     let unsure = vec![in alloc; true; files.len()]?;
     unsure_to_check(alloc, files, link, places, kept, &unsure)
 }
 
 /// Whether a file had an `extend` block, by what is kept of it; false where nothing is.
-fn had_extend(kept: &[KeptFile], file: u32) -> bool
-    ensures { result ≡ (get_or (kept_files_of kept.now) file nothing_kept).has_extend }
+fn had_extend(kept: &[FileSummary], file: u32) -> bool
+    ensures { result ≡ (get_or (file_summaries_of kept.now) file nothing_kept).has_extend }
 {
     match kept.get(file as usize) {
         Some(kept) => kept.has_extend,
@@ -217,9 +217,9 @@ fn had_extend(kept: &[KeptFile], file: u32) -> bool
 
 /// Marks a file that refers to a name, unless that is a message's and the file had no `extend`
 /// block.
-fn mark_user(marks: &mut Vec<bool>, link: &Link, kept: &[KeptFile], name: SymbolId, user: RefId)
+fn mark_user(marks: &mut Vec<bool>, link: &Link, kept: &[FileSummary], name: SymbolId, user: RefId)
     ensures stay { MarksStay marks.old.items marks.new.items }
-    ensures marked { IsUserMarked link.now (kept_files_of kept.now) marks.new.items name.row user }
+    ensures marked { IsUserMarked link.now (file_summaries_of kept.now) marks.new.items name.row user }
 {
     if !is_message(link.kind_of(name)) || had_extend(kept, user.file) {
         mark_file(marks, Some(user.file));
@@ -227,9 +227,9 @@ fn mark_user(marks: &mut Vec<bool>, link: &Link, kept: &[KeptFile], name: Symbol
 }
 
 /// Marks so the files that refer to a name.
-fn mark_users_of_name(marks: &mut Vec<bool>, link: &Link, kept: &[KeptFile], name: SymbolId)
+fn mark_users_of_name(marks: &mut Vec<bool>, link: &Link, kept: &[FileSummary], name: SymbolId)
     ensures stay { MarksStay marks.old.items marks.new.items }
-    ensures marked { AreUsersMarked link.now (kept_files_of kept.now) marks.new.items name.row }
+    ensures marked { AreUsersMarked link.now (file_summaries_of kept.now) marks.new.items name.row }
 {
     for user in link.references(name) {
         mark_user(marks, link, kept, name, *user);
@@ -240,13 +240,13 @@ fn mark_users_of_name(marks: &mut Vec<bool>, link: &Link, kept: &[KeptFile], nam
 fn mark_users_at(
     marks: &mut Vec<bool>,
     link: &Link,
-    kept: &[KeptFile],
+    kept: &[FileSummary],
     names: &DeclaredNames<'_>,
     place: usize,
 )
     ensures stay { MarksStay marks.old.items marks.new.items }
     ensures marked { IfSome (slice_get names.now.rows.now place)
-        (AreUsersMarked link.now (kept_files_of kept.now) marks.new.items) }
+        (AreUsersMarked link.now (file_summaries_of kept.now) marks.new.items) }
 {
     if let Some(name) = names.get(place) {
         mark_users_of_name(marks, link, kept, name);
@@ -254,9 +254,9 @@ fn mark_users_at(
 }
 
 /// The same of each name that a file declares.
-fn mark_users_of_file(marks: &mut Vec<bool>, link: &Link, kept: &[KeptFile], file: u32)
+fn mark_users_of_file(marks: &mut Vec<bool>, link: &Link, kept: &[FileSummary], file: u32)
     ensures stay { MarksStay marks.old.items marks.new.items }
-    ensures marked { All (AreUsersMarked link.now (kept_files_of kept.now) marks.new.items)
+    ensures marked { All (AreUsersMarked link.now (file_summaries_of kept.now) marks.new.items)
         (get_or link.now.rows file []) }
 {
     let names = link.declared_in(file);
@@ -266,26 +266,26 @@ fn mark_users_of_file(marks: &mut Vec<bool>, link: &Link, kept: &[KeptFile], fil
 }
 
 /// The same of each name that the files at these places declare.
-fn mark_users(marks: &mut Vec<bool>, link: &Link, kept: &[KeptFile], places: &[u32])
+fn mark_users(marks: &mut Vec<bool>, link: &Link, kept: &[FileSummary], places: &[u32])
     ensures stay { MarksStay marks.old.items marks.new.items }
     ensures marked { AreUsersOfFilesMarked
-        places.now link.now (kept_files_of kept.now) marks.new.items }
+        places.now link.now (file_summaries_of kept.now) marks.new.items }
 {
     for place in places {
         mark_users_of_file(marks, link, kept, *place);
     }
 }
 
-/// Marks of the files that an edit of the files at these places does not spare, by the marks of
+/// Marks of the files that an edit of the files at these places affects, by the marks of
 /// those that have to be looked at again, which are told. Of these, and of the files that refer to a
 /// name of an edited file, where it is no message's or they had an `extend` block, it is asked what
-/// their references mean; no other file is asked. Refused for want of memory alone.
+/// their references mean; no other file is asked. Fails only when out of memory.
 pub fn told_files_to_check(
     alloc: Global,
     files: &Files,
     link: &Link,
     places: &[u32],
-    kept: &[KeptFile],
+    kept: &[FileSummary],
     told: &[bool],
 ) -> Result<Vec<bool>, NoMemory>
     requires link { IsLinkOf files.now link.now }
@@ -294,7 +294,7 @@ pub fn told_files_to_check(
     requires told { length told.now ≡ length files.now }
     ensures len { IfOk result (λ marks. length marks.items ≡ length files.now) }
     ensures others { IfOk result (λ marks. AreOthersKeptAsTold places.now files.now link.now
-        (kept_files_of kept.now) told.now marks.items) }
+        (file_summaries_of kept.now) told.now marks.items) }
 {
     // By these laws a file that is not asked means what it meant, and each reference is in the
     // lists that are walked here.
@@ -306,7 +306,7 @@ pub fn told_files_to_check(
 }
 
 /// Whether a file has an `extend` block, or had one, by what is kept of it.
-fn has_or_had_extend(files: &Files, kept: &KeptFile, file: u32) -> bool
+fn has_or_had_extend(files: &Files, kept: &FileSummary, file: u32) -> bool
     requires { file < length files.now }
     ensures { (reads : List ReadOf) → AreRead files.now reads
         → result ≡ (kept.now.has_extend || has_extend (read_at reads file).tree) }
@@ -316,9 +316,9 @@ fn has_or_had_extend(files: &Files, kept: &KeptFile, file: u32) -> bool
 
 /// Whether no marked file has an `extend` block, and none had one, by what is kept of them. Takes
 /// no memory.
-pub fn has_no_marked_extends(files: &Files, marks: &[bool], kept: &[KeptFile]) -> bool
+pub fn has_no_marked_extends(files: &Files, marks: &[bool], kept: &[FileSummary]) -> bool
     requires paired { length kept.now ≡ length files.now }
-    ensures { (result ≡ true) ↔ HasNoMarkedExtends files.now (kept_files_of kept.now) marks.now }
+    ensures { (result ≡ true) ↔ HasNoMarkedExtends files.now (file_summaries_of kept.now) marks.now }
 {
     are_read(files);
     for file in 0..files.len() as u32 {
@@ -361,8 +361,8 @@ fn mark_enums(wanted: &mut Vec<bool>, link: &Link, meant: &[Meant])
     }
 }
 
-/// Marks of the files whose enums references of marked files mean. Refused for want of memory
-/// alone.
+/// Marks of the files whose enums references of marked files mean. Fails only when out of
+/// memory.
 pub fn files_of_enums(
     alloc: Global,
     files: &Files,

@@ -4,13 +4,13 @@ ghost use Rattle.std.specs.Prelude.{◌≡◌, ℕ, ◌<◌, List, true, not, le
 ghost use Rattle.indexmap.specs.IndexMap.{get};
 ghost use Rattle.proto_files.specs.FilesRead.{AreRead, ReadOf};
 ghost use Rattle.proto_files.specs.GivenFiles.{FileOf};
-ghost use Rattle.proto_desc_affected.specs.Checked.{KeepsEnum, KeptFileOf, kept_file, nothing_kept};
+ghost use Rattle.proto_desc_affected.specs.Checked.{KeepsEnum, FileSummaryOf, file_summary, nothing_kept};
 ghost use Rattle.proto_desc_affected.specs.Values.{IsSameEnum};
 ghost use Rattle.proto_names.specs.LinkOfFiles.{IsLinkOf};
-ghost use Rattle.proto_desc_affected.specs.Kept.{enum_kept, kept_enum_of, kept_file_of, kept_files_of};
+ghost use Rattle.proto_desc_affected.specs.Kept.{enum_kept, enum_summary_of, file_summary_of, file_summaries_of};
 ghost use Rattle.proto_desc_affected.specs.StillEnums.{AreStillEnums, IsEnumAsKept, is_still_to};
 
-use crate::kept_file::{KeptEnum, KeptFile, kept_enums};
+use crate::file_summary::{EnumSummary, FileSummary, enum_summaries};
 use indexmap::IndexMap;
 use proto_base::NoMemory;
 use proto_files::Files;
@@ -35,7 +35,7 @@ fn are_same(a: &[String], b: &[String]) -> bool
 /// Whether an enum is what is kept of it whole, or but for the names of its values; none where it is
 /// another.
 #[tactic(auto, using(crate::proofs::StillEnums::compared))]
-fn compare(kept: &KeptEnum, current: &KeptEnum) -> Option<bool>
+fn compare(kept: &EnumSummary, current: &EnumSummary) -> Option<bool>
     ensures { IfSome result (λ whole. IsSameEnum (not whole) (Some (enum_kept kept.now))
         (Some (enum_kept current.now))) }
 {
@@ -46,8 +46,8 @@ fn compare(kept: &KeptEnum, current: &KeptEnum) -> Option<bool>
 }
 
 /// The same by what is kept of a file; none also where it has no enum of the name.
-fn compare_kept(kept: &KeptFile, current: &KeptEnum) -> Option<bool>
-    ensures { IfSome result (IsEnumAsKept (kept_file_of kept.now) (kept_enum_of current.now)) }
+fn compare_kept(kept: &FileSummary, current: &EnumSummary) -> Option<bool>
+    ensures { IfSome result (IsEnumAsKept (file_summary_of kept.now) (enum_summary_of current.now)) }
 {
     for one in &kept.enums {
         if one.name == current.name {
@@ -62,13 +62,13 @@ fn compare_kept(kept: &KeptFile, current: &KeptEnum) -> Option<bool>
 fn add_enum(
     still: &mut IndexMap<usize, bool>,
     link: &Link,
-    kept: &KeptFile,
-    current: &KeptEnum,
+    kept: &FileSummary,
+    current: &EnumSummary,
 ) -> Result<(), NoMemory>
-    ensures { OnOk result ((files : List FileOf) (ks : List KeptFileOf) (file : ℕ)
-        → file < length files → get_or ks file nothing_kept ≡ kept_file_of kept.now
+    ensures { OnOk result ((files : List FileOf) (ks : List FileSummaryOf) (file : ℕ)
+        → file < length files → get_or ks file nothing_kept ≡ file_summary_of kept.now
         → ((reads : List ReadOf) → AreRead files reads
-        → KeepsEnum (kept_file files reads file) (string_bytes current.now.name)
+        → KeepsEnum (file_summary files reads file) (string_bytes current.now.name)
         (enum_kept current.now))
         → AreStillEnums files link.now ks (get nat_eq still.old)
         → AreStillEnums files link.now ks (get nat_eq still.new)) }
@@ -89,17 +89,17 @@ fn add_file(
     still: &mut IndexMap<usize, bool>,
     files: &Files,
     link: &Link,
-    kept: &[KeptFile],
+    kept: &[FileSummary],
     file: u32,
 ) -> Result<(), NoMemory>
     requires link { IsLinkOf files.now link.now }
     requires paired { length kept.now ≡ length files.now }
     requires file { file < length files.now }
     ensures { OnOk result (
-        AreStillEnums files.now link.now (kept_files_of kept.now) (get nat_eq still.old)
-        → AreStillEnums files.now link.now (kept_files_of kept.now) (get nat_eq still.new)) }
+        AreStillEnums files.now link.now (file_summaries_of kept.now) (get nat_eq still.old)
+        → AreStillEnums files.now link.now (file_summaries_of kept.now) (get nat_eq still.new)) }
 {
-    let enums = kept_enums(alloc, files, link, file)?;
+    let enums = enum_summaries(alloc, files, link, file)?;
     for current in &enums {
         add_enum(still, link, &kept[file as usize], current)?;
     }
@@ -107,20 +107,20 @@ fn add_file(
 }
 
 /// The enums of the files at these places that are what is kept of them, by the rows of their names:
-/// whole, or but for the names of their values. The link is that of the files. Refused for want of
-/// memory alone.
+/// whole, or but for the names of their values. The link is that of the files. Fails only when out
+/// of memory.
 pub(crate) fn still_enums(
     alloc: Global,
     files: &Files,
     link: &Link,
-    kept: &[KeptFile],
+    kept: &[FileSummary],
     places: &[u32],
 ) -> Result<IndexMap<usize, bool>, NoMemory>
     requires link { IsLinkOf files.now link.now }
     requires paired { length kept.now ≡ length files.now }
     requires places { All (λ place. place < length files.now) places.now }
     ensures { IfOk result (λ still.
-        AreStillEnums files.now link.now (kept_files_of kept.now) (get nat_eq still)) }
+        AreStillEnums files.now link.now (file_summaries_of kept.now) (get nat_eq still)) }
 {
     let mut still = IndexMap::new(alloc);
     for place in places {

@@ -97,7 +97,7 @@ fn reserved_of_enum(
     Ok((numbers, strings(alloc, scene, &names)?))
 }
 
-/// Puts the descriptor of an enum behind those found. Fails for want of memory alone.
+/// Puts the descriptor of an enum behind those found. Fails only when out of memory.
 pub fn push_enum(
     alloc: Global,
     scene: &Scene,

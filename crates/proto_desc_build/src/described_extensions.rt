@@ -29,8 +29,8 @@ fn push_each(
     Ok(())
 }
 
-/// Puts the descriptors of the extensions of a block behind those found. Fails for want of memory
-/// alone.
+/// Puts the descriptors of the extensions of a block behind those found. Fails only when out of
+/// memory.
 pub fn push_extensions(
     alloc: Global,
     scene: &Scene,

@@ -28,8 +28,8 @@ use proto_names_rules::below;
 use proto_tree::{Member, Message, Range};
 use std::alloc::Global;
 
-/// The message, and those nested in it, right below the name around it. Fails for want of memory
-/// alone, as do all of this crate.
+/// The message, and those nested in it, right below the name around it. Fails only when out of
+/// memory, as do all of this crate.
 #[cycle(messages)]
 pub fn message_descriptor(
     alloc: Global,

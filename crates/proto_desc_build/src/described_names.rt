@@ -10,7 +10,7 @@ use proto_names_rules::below;
 use proto_tree::Reference;
 use std::alloc::Global;
 
-/// A full name behind a dot. Fails for want of memory alone.
+/// A full name behind a dot. Fails only when out of memory.
 pub fn absolute(alloc: Global, name: &str) -> Result<String, NoMemory>
     ensures { IfOk result (λ s. string_bytes s ≡ absolute name.now) }
 {

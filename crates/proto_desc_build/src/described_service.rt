@@ -101,7 +101,7 @@ fn method_descriptors(
     Ok(descriptors)
 }
 
-/// The service with its methods. Fails for want of memory alone.
+/// The service with its methods. Fails only when out of memory.
 pub fn service_descriptor(
     alloc: Global,
     scene: &Scene,

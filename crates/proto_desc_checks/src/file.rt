@@ -203,7 +203,7 @@ fn add_items(
 }
 
 /// What is wrong with a file that is linked, each by its token: first its options, then block by
-/// block. Only want of memory is refused.
+/// block. Fails only when out of memory.
 pub fn file_flaws(alloc: Global, scene: &Scene, file: &File) -> Result<Vec<Flaw>, NoMemory>
     ensures { IfOk result (λ found. found.items ≡ file_flaws scene.now (tree_of_file file.now)) }
 {

@@ -130,7 +130,7 @@ fn flaws_with(
 /// For each file, in the order of their paths, what is wrong with it that its workspace decides:
 /// the numbers of its extensions, each inside no extension range of the message that it extends, or
 /// that of an earlier extension of that message. The link and the scenes are those of the files.
-/// Refused for want of memory alone.
+/// Fails only when out of memory.
 pub fn workspace_flaws(
     alloc: Global,
     files: &Files,

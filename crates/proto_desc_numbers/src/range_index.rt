@@ -71,7 +71,7 @@ fn raised_ranges(alloc: Global, ranges: &[RangeAt]) -> Result<Vec<RangeAt>, NoMe
     Ok(raised)
 }
 
-/// An index of ranges, by which `shares` and `is_covered` look them up. Fails only for want of
+/// An index of ranges, by which `shares` and `is_covered` look them up. Fails only when out of
 /// memory.
 pub fn index_of(alloc: Global, ranges: &[RangeAt]) -> Result<Vec<RangeAt>, NoMemory>
     ensures { IfOk result (λ index. IsRangeIndexOf ranges.now index.items) }

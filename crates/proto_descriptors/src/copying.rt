@@ -11,7 +11,7 @@ pub(crate) trait HasCopy: Drop {
 
     ghost view: { Self → View };
 
-    /// The same again. Refused for want of memory alone.
+    /// The same again. Fails only when out of memory.
     fn copy(&self, alloc: Global) -> Result<Self, NoMemory>
         ensures { IfOk result (λ copy. view copy ≡ view self.now) };
 }

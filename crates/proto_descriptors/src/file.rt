@@ -13,8 +13,8 @@ use crate::service::ServiceDescriptor;
 use proto_base::NoMemory;
 use std::alloc::Global;
 
-/// The same files in the same order, with texts and lists of their own. Refused for want of memory
-/// alone.
+/// The same files in the same order, with texts and lists of their own. Fails only when out of
+/// memory.
 pub fn copy_files(alloc: Global, files: &[FileDescriptor]) -> Result<Vec<FileDescriptor>, NoMemory>
     ensures { IfOk result (λ copy. map file_desc copy.items ≡ map file_desc files.now) }
 {

@@ -36,7 +36,7 @@ pub struct MessageDescriptor {
     pub options: MessageOptions,
 }
 
-/// The same messages in the same order. Refused for want of memory alone.
+/// The same messages in the same order. Fails only when out of memory.
 #[cycle(message_copies)]
 pub(crate) fn copied_messages(
     alloc: Global,

@@ -18,7 +18,7 @@ use std::alloc::Global;
 
 /// The files at this key of one compact JSON object, in each object the keys in the order of bytes.
 /// Numbers are always written; empty lists, options that are not given and false marks never. Fails
-/// for want of memory alone.
+/// only when out of memory.
 pub fn text_of_files(
     alloc: Global,
     key: &'static str,

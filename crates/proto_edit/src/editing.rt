@@ -224,8 +224,8 @@ impl Workspace {
         self.put(alloc, &back, steps)
     }
 
-    /// The run of the edits: the workspace after them, and what each of them is answered. Only want
-    /// of memory is refused, and it is no answer of an edit.
+    /// The run of the edits: the workspace after them, and what each of them is answered. Fails
+    /// only when out of memory, and it is no answer of an edit.
     pub fn apply_all(
         &self,
         alloc: Global,

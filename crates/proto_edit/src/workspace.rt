@@ -81,7 +81,7 @@ impl Workspace {
         self.schema.descriptors()
     }
 
-    /// An equal workspace. Refused for want of memory alone.
+    /// An equal workspace. Fails only when out of memory.
     pub fn copy(&self, alloc: Global) -> Result<Workspace, NoMemory>
         ensures { IfOk result (λ w. w ≡ self.now) }
     {

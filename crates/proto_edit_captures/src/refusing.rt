@@ -8,8 +8,8 @@ use proto_edit_entries::Refusal;
 use proto_files::{Files, offset_of};
 use std::alloc::Global;
 
-/// The refusal for a captured reference, with the place of its first token. Refused for want of
-/// memory alone.
+/// The refusal for a captured reference, with the place of its first token. Fails only when out
+/// of memory.
 pub fn captured_refusal(
     alloc: Global,
     files: &Files,

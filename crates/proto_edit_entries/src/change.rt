@@ -24,7 +24,7 @@ pub fn one_splice(alloc: Global, at: u32, old: &str, new: &str) -> Result<Splice
 }
 
 /// The list of splices that are in order, where none ends past 1,048,576 bytes, in the text or in
-/// the new text. Only want of memory is refused.
+/// the new text. Fails only when out of memory.
 pub fn in_order(list: Vec<Splice>) -> Result<Splices, NoMemory>
     requires { AreShort 0 0 (edits list.items) }
     ensures { IfOk result (λ splices. splices ≡ edits list.items) }

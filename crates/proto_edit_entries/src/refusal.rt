@@ -8,7 +8,7 @@ use std::alloc::{AllocError, AllocFailed};
 use std::fmt;
 use thiserror::Error;
 
-/// Why an edit or an undo is refused: the least case that holds, by number. Want of memory may come
+/// Why an edit or an undo is refused: the least case that holds, by number. Out of memory may come
 /// in place of any.
 #[derive(Debug, Drop, Error)]
 pub enum Refusal {

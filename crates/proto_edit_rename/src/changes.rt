@@ -12,7 +12,7 @@ ghost use Rattle.proto_edit_captures.specs.Aims.{IsAimOf};
 use crate::changed_files::changed_files;
 use crate::changing::{RewordFault, change_of_file};
 use crate::enum_names::enum_name;
-use crate::places::{Sought, places_in};
+use crate::places::{RenameScope, places_in};
 use proto_base::NoMemory;
 use proto_edit_captures::Aim;
 use proto_edit_entries::Change;
@@ -32,7 +32,7 @@ fn push_some(changes: &mut Vec<Change>, change: Option<Change>) -> Result<(), No
 /// The change of one file, if it is changed.
 fn change_in(
     alloc: Global,
-    sought: &Sought,
+    sought: &RenameScope,
     file: u32,
     to: &str,
 ) -> Result<Option<Change>, RewordFault>
@@ -54,7 +54,7 @@ fn change_in(
 }
 
 /// The changes of all files, in their order.
-fn changes_with(alloc: Global, sought: &Sought, to: &str) -> Result<Vec<Change>, RewordFault>
+fn changes_with(alloc: Global, sought: &RenameScope, to: &str) -> Result<Vec<Change>, RewordFault>
     requires link { IsLinkOf sought.now.files.now sought.now.link.now }
     requires linked { HasNoFault (LinkFaults sought.now.files.now) }
     requires aim { IsAimOf sought.now.files.now sought.now.aim }
@@ -96,7 +96,7 @@ pub(crate) fn changes<'a>(
     let enum_name = name.as_deref();
     let old = Words::new(files, aim.file).get(aim.token);
     let marks = changed_files(alloc, files, link, aim, enum_name)?;
-    let sought = Sought {
+    let sought = RenameScope {
         files,
         link,
         aim,

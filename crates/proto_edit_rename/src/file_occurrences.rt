@@ -12,7 +12,7 @@ ghost use Rattle.proto_edit_captures.specs.Aims.{IsAimOf, IsNoTarget};
 
 use crate::changed_files::changed_files;
 use crate::enum_names::enum_name;
-use crate::places::{Sought, places_in};
+use crate::places::{RenameScope, places_in};
 use proto_base::NoMemory;
 use proto_edit_captures::{Aim, NoTarget, target};
 use proto_files::{Files, Words, are_read};
@@ -41,7 +41,7 @@ fn in_order(mut tokens: Vec<u32>) -> Vec<u32>
 /// The tokens of a file that stand for what is sought, if there are some.
 fn occurrences_in(
     alloc: Global,
-    sought: &Sought,
+    sought: &RenameScope,
     file: u32,
 ) -> Result<Option<FileOccurrences>, NoMemory>
     requires link { IsLinkOf sought.now.files.now sought.now.link.now }
@@ -76,7 +76,7 @@ fn push_found(
 }
 
 /// Those of all files, in their order.
-fn all_occurrences(alloc: Global, sought: &Sought) -> Result<Vec<FileOccurrences>, NoMemory>
+fn all_occurrences(alloc: Global, sought: &RenameScope) -> Result<Vec<FileOccurrences>, NoMemory>
     requires link { IsLinkOf sought.now.files.now sought.now.link.now }
     requires linked { HasNoFault (LinkFaults sought.now.files.now) }
     requires aim { IsAimOf sought.now.files.now sought.now.aim }
@@ -114,7 +114,7 @@ fn occurrences_of<'a>(
     let enum_name = name.as_deref();
     let old = Words::new(files, aim.file).get(aim.token);
     let marks = changed_files(alloc, files, link, aim, enum_name)?;
-    let sought = Sought {
+    let sought = RenameScope {
         files,
         link,
         aim,

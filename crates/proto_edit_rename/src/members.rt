@@ -49,7 +49,7 @@ fn field_at(field: &Field) -> FieldAt<'_>
     }
 }
 
-/// The fields of a oneof, in order. Fails for want of memory alone.
+/// The fields of a oneof, in order. Fails only when out of memory.
 pub fn oneof_fields<'a>(alloc: Global, members: &'a [Field]) -> Result<Vec<FieldAt<'a>>, NoMemory>
     ensures { IfOk result (λ fields. map field_of fields.items
         ≡ fields_in (trees field_tree members.now)) }

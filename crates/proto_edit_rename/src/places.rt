@@ -21,7 +21,7 @@ use std::alloc::Global;
 /// What is looked for in each file of a workspace: what the rename aims at, with its old word, and
 /// the name of its enum where it is a value.
 #[derive(Clone, Copy)]
-pub(crate) struct Sought<'a> {
+pub(crate) struct RenameScope<'a> {
     pub(crate) files: &'a Files,
     pub(crate) link: &'a Link,
     pub(crate) aim: Aim<'a>,
@@ -72,7 +72,11 @@ fn defaults_in<'a>(
 
 /// The tokens of a file that the rename changes: the declaring one, where it is of this file, the
 /// words of references that stand for what is aimed at, and for a value the defaults that mean it.
-pub(crate) fn places_in(alloc: Global, sought: &Sought, file: u32) -> Result<Vec<u32>, NoMemory>
+pub(crate) fn places_in(
+    alloc: Global,
+    sought: &RenameScope,
+    file: u32,
+) -> Result<Vec<u32>, NoMemory>
     requires link { IsLinkOf sought.now.files.now sought.now.link.now }
     requires linked { HasNoFault (LinkFaults sought.now.files.now) }
     requires aim { IsAimOf sought.now.files.now sought.now.aim }
@@ -85,7 +89,7 @@ pub(crate) fn places_in(alloc: Global, sought: &Sought, file: u32) -> Result<Vec
     ensures { IfOk result (λ found.
         ArePlacesIn sought.now.files.now sought.now.aim file found.items) }
 {
-    let Sought {
+    let RenameScope {
         files,
         link,
         aim,

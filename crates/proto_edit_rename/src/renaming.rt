@@ -20,7 +20,7 @@ use proto_files::{Files, are_read};
 use proto_names::Link;
 use std::alloc::Global;
 
-/// Case 16, and want of memory.
+/// Case 16, and out of memory.
 fn refusal_of(files: &Files, aim: Aim, to: &str, fault: RewordFault) -> Refusal
     requires linked { HasNoFault (LinkFaults files.now) }
     requires aim { IsAimOf files.now aim }

@@ -112,8 +112,8 @@ fn one_reserves(
     Ok(false)
 }
 
-/// Whether the message of the field, or the enum of the value, reserves the word. Only want of
-/// memory is refused, here and below.
+/// Whether the message of the field, or the enum of the value, reserves the word. Fails only when
+/// out of memory, here and below.
 pub fn is_reserved(alloc: Global, files: &Files, aim: Aim, word: &str) -> Result<bool, NoMemory>
     requires { IsAimOf files.now aim }
     ensures { IfOk result (λ b. (reads : List ReadOf)

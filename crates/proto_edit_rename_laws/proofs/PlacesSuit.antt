@@ -5,10 +5,10 @@ use Rattle.proto_case.specs.Camel.{entry_name}
 use Rattle.proto_text.specs.declared.class.Class.TheVariants.{Letter}
 use Rattle.proto_text.specs.declared.kind.TokenKind.TheVariants.{Word}
 use Rattle.proto_text.specs.Pieces.{IsRun}
-use Rattle.proto_tree.specs.declared.class.Want.{Want}
+use Rattle.proto_tree.specs.declared.class.Expected.{Expected}
 use Rattle.proto_tree.proofs.Common.{fits, Mark, Suits, flat, class_by, is_listed, word_is_word}
 use Rattle.proto_tree.specs.declared.class.Class.TheVariants as class
-use Rattle.proto_tree.specs.declared.class.Want.TheVariants as want
+use Rattle.proto_tree.specs.declared.class.Expected.TheVariants as want
 use Rattle.proto_files.proofs.Common.{FileOf, ReadOf, read_at}
 use Rattle.proto_names_rules.specs.declared.kind.Kind.{Kind}
 use Rattle.proto_names_rules.specs.declared.kind.Kind.TheVariants.{Package, Message, Entry, Enum, Service, Field, EntryField, Oneof, Value, Method, Extension}
@@ -124,7 +124,7 @@ module _ (files : List FileOf) (reads : List ReadOf) (name to : List ℕ) (t : T
     abbrev used_places : List At
     used_places = flat_map (standing (text_of files reads) (link_skeleton files reads) (name_map files reads t to)) (link_skeleton files reads).used
 
-    fits_as : (u v : Want) → fits u (class_by Word to) ≡ true → v ≡ u → fits v (class_by Word to) ≡ true
+    fits_as : (u v : Expected) → fits u (class_by Word to) ≡ true → v ≡ u → fits v (class_by Word to) ≡ true
     fits_as u v f h = ap (λ z. fits z (class_by Word to)) h ∙ f
 
     place_fits : (k : ℕ) (m : Mark) → Contains (flat (read_at reads k).tree) m → Contains places (at k m.at) → fits m.want (class_by Word to) ≡ true

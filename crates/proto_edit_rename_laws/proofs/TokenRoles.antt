@@ -5,8 +5,8 @@ use Rattle.proto_case.specs.Camel.{entry_name}
 use Rattle.proto_text.proofs.OneEdit.{length_map}
 use Rattle.proto_tree.specs.declared.class.Class.{Class}
 use Rattle.proto_tree.specs.declared.class.Class.TheVariants as class
-use Rattle.proto_tree.specs.declared.class.Want.{Want}
-use Rattle.proto_tree.specs.declared.class.Want.TheVariants as want
+use Rattle.proto_tree.specs.declared.class.Expected.{Expected}
+use Rattle.proto_tree.specs.declared.class.Expected.TheVariants as want
 use Rattle.proto_tree.specs.declared.piece.Header.{Header}
 use Rattle.proto_tree.specs.declared.piece.Header.TheVariants as header
 use Rattle.proto_tree.specs.declared.tree.Constant.TheVariants as constant
@@ -81,18 +81,18 @@ no_class class.Scalar = ((λ e. cc), λ e. cc)
 no_class class.Number = ((λ e. cc), λ e. cc)
 no_class _ = ((λ e. cc), λ e. cc)
 
-named_wants : (w : Want) → role_of w ≡ names → (w ≡ want.Name) ⊎ (w ≡ want.ValueName)
+named_wants : (w : Expected) → role_of w ≡ names → (w ≡ want.Name) ⊎ (w ≡ want.ValueName)
 named_wants want.Name e = inl refl
 named_wants want.ValueName e = inr refl
 named_wants (want.One c) e = absurd ((no_class c).0 e)
 named_wants _ e = absurd cc
 
-used_wants : (w : Want) → role_of w ≡ refers → (w ≡ want.Word) ⊎ (w ≡ want.One class.Name)
+used_wants : (w : Expected) → role_of w ≡ refers → (w ≡ want.Word) ⊎ (w ≡ want.One class.Name)
 used_wants want.Word e = inl refl
 used_wants (want.One class.Name) e = inr refl
 used_wants _ e = absurd cc
 
-value_wants : (w : Want) → role_of w ≡ is_value → w ≡ want.Constant
+value_wants : (w : Expected) → role_of w ≡ is_value → w ≡ want.Constant
 value_wants want.Constant e = refl
 value_wants (want.One c) e = absurd ((no_class c).1 e)
 value_wants _ e = absurd cc

@@ -35,7 +35,7 @@ use Rattle.proto_tree.specs.Classes.{fits}
 use Rattle.proto_tree.specs.References.{first_of}
 use Rattle.proto_tree.specs.Tree.{Tree}
 use Rattle.proto_tree.specs.Words.{class_by, is_listed}
-use Rattle.proto_tree.specs.declared.class.Want.TheVariants as want
+use Rattle.proto_tree.specs.declared.class.Expected.TheVariants as want
 use Rattle.proto_tree.specs.declared.piece.Header.{Header}
 use Rattle.proto_tree.specs.declared.piece.Header.TheVariants as header
 use Rattle.proto_tree.specs.declared.tree.FieldType.{FieldType}

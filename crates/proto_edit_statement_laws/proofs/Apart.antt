@@ -5,7 +5,7 @@ use Rattle.proto_text.specs.declared.kind.TokenKind.TheVariants.{Word, Punctuati
 use Rattle.proto_text.specs.declared.lexer.Token.{Token}
 use Rattle.proto_text.proofs.Common.{Edit, Puts, moved, AreTokens, Lexeme, lexeme_at, one_token_list}
 use Rattle.proto_tree.specs.declared.class.Class.TheVariants as class
-use Rattle.proto_tree.specs.declared.class.Want.TheVariants as want
+use Rattle.proto_tree.specs.declared.class.Expected.TheVariants as want
 use Rattle.proto_tree.specs.declared.context.Context.TheVariants as context
 use Rattle.proto_tree.specs.declared.piece.Statement.{Statement}
 use Rattle.proto_tree.specs.declared.piece.Statement.TheVariants as statement

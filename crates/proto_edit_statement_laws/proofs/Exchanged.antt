@@ -5,7 +5,7 @@ use Rattle.proto_tree.specs.declared.class.Class.TheVariants as class
 use Rattle.proto_tree.specs.declared.class.Lexeme.{Lexeme as Classed}
 use Rattle.proto_tree.specs.declared.context.Context.{Context}
 use Rattle.proto_tree.specs.declared.context.Context.TheVariants as context
-use Rattle.proto_tree.specs.declared.class.Want.TheVariants as want
+use Rattle.proto_tree.specs.declared.class.Expected.TheVariants as want
 use Rattle.proto_tree.specs.declared.piece.Header.{Header}
 use Rattle.proto_tree.proofs.Common.{Mark, mark, one, Fit, flat_statement, flat_header, Tree, End, Leaf, Block, flat, statement_kind, header_kind, allows, after, inside, IsWellFormed, last_of, classes, Move, shift, move_header, move_statement, move_tree, Fit-join, flat-joined, joined-fine, behind_fine, classes-append, classes-length, fit_moved, fit_parts, regroup, shift_append, flat_moved, well_formed_moved, kind_moved, header_kind_moved, inside_moved}
 use Rattle.proto_edit_statement_laws.proofs.Endings.{IsApart, apart_then, nothing_behind, the, then, tree_apart}

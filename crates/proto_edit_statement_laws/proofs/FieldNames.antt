@@ -7,7 +7,7 @@ use Rattle.proto_text.specs.declared.kind.TokenKind.{TokenKind}
 use Rattle.proto_text.specs.declared.kind.TokenKind.TheVariants.{Word}
 use Rattle.proto_text.specs.declared.lexer.Token.{Token}
 use Rattle.proto_text.proofs.Common.{IsLexeme, IsRun, text_at, words, Lexeme, lexeme_at, word_at_token, token_is_lexeme}
-use Rattle.proto_tree.specs.declared.class.Want.TheVariants as want
+use Rattle.proto_tree.specs.declared.class.Expected.TheVariants as want
 use Rattle.proto_tree.specs.declared.piece.Statement.{Statement}
 use Rattle.proto_tree.proofs.Common.{fits, Mark, mark, HasStatement, Reads, Tree, class_by, marks_fit, statements_have_marks, words_only}
 use Rattle.proto_edit_statement_laws.proofs.Common.{IsFieldOf, StandsAt, InMessage, InOneof, Deeper, PastLeaf, PastBlock, StandsIn, First, AfterLeaf, AfterBlock, name_mark}

@@ -6,7 +6,7 @@ use Rattle.proto_text.specs.declared.kind.PieceKind.TheVariants.{Solid}
 use Rattle.proto_text.specs.declared.kind.TokenKind.TheVariants.{Word, Number, Text, Punctuation}
 use Rattle.proto_text.proofs.Common.{EachByte, class_of, extends_word, is_digit, is_identifier, is_letter, is_mark, is_space, IsLexeme, IsRun, IsSegment, is_plain, quoted, IsString, Lexeme, StandsFor, says}
 use Rattle.proto_tree.specs.declared.class.Class.TheVariants as class
-use Rattle.proto_tree.specs.declared.class.Want.TheVariants as want
+use Rattle.proto_tree.specs.declared.class.Expected.TheVariants as want
 use Rattle.proto_tree.proofs.Common.{fits, Fit, flat, class_by, classes}
 use Rattle.proto_edit_statement_laws.specs.Statements.{import_tree, import_tokens, reservation, reservation_tokens, semicolon_token, token_of_text}
 use Rattle.proto_edit_rules.specs.AddImport.{import_text}

@@ -7,7 +7,7 @@ use Rattle.proto_text.specs.declared.lexer.Token.{Token}
 use Rattle.proto_text.proofs.Common.{EndsByItself, IsSeam, Lexeme, lexeme_at}
 use Rattle.proto_tree.specs.declared.class.Class.{Class}
 use Rattle.proto_tree.specs.declared.class.Class.TheVariants as class
-use Rattle.proto_tree.specs.declared.class.Want.TheVariants as want
+use Rattle.proto_tree.specs.declared.class.Expected.TheVariants as want
 use Rattle.proto_tree.specs.declared.context.Context.TheVariants as context
 use Rattle.proto_tree.proofs.Common.{is_word, fits, Mark, one, Fit, flat, class_by, classes, word_is_word, place_of_word}
 use Rattle.proto_edit_statement_laws.specs.Common.{before, PlacesAreSeams}

@@ -43,7 +43,7 @@ pub record IsLeastFault (faults : FaultAt → Type 0) (x : FaultAt) : Type 0 whe
 abbrev pub HasNoFault : (FaultAt → Type 0) → Type 0
 HasNoFault faults = (y : FaultAt) → faults y → ⊥
 
--- the error is want of memory, or the least fault
+-- the error is out of memory, or the least fault
 abbrev pub IsFilesError : (FaultAt → Type 0) → SchemaFault → Type 0
 IsFilesError faults (Schema fault) = IsLeastFault faults (fault_at fault)
 IsFilesError faults NoMemory = Unit {0}

@@ -33,7 +33,7 @@ pub record StandsAtToken (files : List FileOf) (file token : ℕ) (kind : FaultK
       → x.offset ≡ offset_at tokens token
   pub kind_is : x.kind ≡ kind
 
--- the error is want of memory, or the fault of this kind at the token
+-- the error is out of memory, or the fault of this kind at the token
 abbrev pub IsAtToken : List FileOf → ℕ → ℕ → FaultKind → SchemaFault → Type 0
 IsAtToken files file token kind (Schema fault) =
     StandsAtToken files file token kind (fault_at fault)

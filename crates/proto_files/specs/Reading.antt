@@ -59,7 +59,7 @@ pub record IsOnlyFault (says : Text → ℕ → FaultKind → Type 0) (file : Fi
   pub only : (offset : ℕ) (kind : FaultKind) → says file.bytes offset kind
       → (offset ≡ x.offset) × (kind ≡ x.kind)
 
--- the error is want of memory, or the only fault of this file
+-- the error is out of memory, or the only fault of this file
 abbrev pub IsFileError : (Text → ℕ → FaultKind → Type 0) → FileOf → SchemaFault → Type 0
 IsFileError says file (Schema fault) = IsOnlyFault says file (fault_at fault)
 IsFileError says file NoMemory = Unit {0}
@@ -72,7 +72,7 @@ pub record IsFirstFault (says : Text → ℕ → FaultKind → Type 0) (files : 
   pub none_before : (k : ℕ) → k < place → HasNone says (file_at files k).bytes
   pub is_only : IsOnlyFault says (file_at files place) x
 
--- the error is want of memory, or the fault of the first file that has one
+-- the error is out of memory, or the fault of the first file that has one
 abbrev pub IsFirstError : (Text → ℕ → FaultKind → Type 0) → List FileOf → SchemaFault → Type 0
 IsFirstError says files (Schema fault) = IsFirstFault says files (fault_at fault)
 IsFirstError says files NoMemory = Unit {0}

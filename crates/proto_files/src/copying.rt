@@ -55,7 +55,7 @@ fn copy_files(alloc: Global, files: &[ReadFile]) -> Result<Vec<ReadFile>, NoMemo
 }
 
 impl Files {
-    /// Equal files. Refused for want of memory alone.
+    /// Equal files. Fails only when out of memory.
     pub fn copy(&self, alloc: Global) -> Result<Files, NoMemory>
         ensures { IfOk result (λ files. files ≡ self.now) }
     {

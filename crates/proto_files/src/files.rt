@@ -140,8 +140,8 @@ impl Files {
         read.source.text(read.tokens[token as usize].span)
     }
 
-    /// The value of a string token of the file at a place, after its escapes. Refused for want of
-    /// memory alone.
+    /// The value of a string token of the file at a place, after its escapes. Fails only when out
+    /// of memory.
     pub fn string_value(&self, alloc: Global, file: u32, token: u32) -> Result<String, NoMemory>
         requires file { file < length self.now }
         requires token { HasString self.now file token }

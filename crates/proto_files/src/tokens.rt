@@ -20,7 +20,7 @@ pub fn offset_of(tokens: &[Token], token: u32) -> u32
 }
 
 /// A fault at a token of the file at a place: at its first byte, or at 0 where there is no such
-/// token. Want of memory is answered where the path cannot be copied.
+/// token. Out of memory is answered where the path cannot be copied.
 pub fn fault_at_token(
     alloc: Global,
     files: &Files,

@@ -83,7 +83,7 @@ impl<'a> Words<'a> {
     }
 
     /// The value of the string token with this index, after its escapes; none for another token.
-    /// Refused for want of memory alone.
+    /// Fails only when out of memory.
     pub fn string(&self, alloc: Global, index: u32) -> Result<Option<String>, NoMemory>
         ensures { IfOk result (λ found. option_map string_bytes found ≡ string_at self.now index) }
     {

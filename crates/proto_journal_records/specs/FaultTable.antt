@@ -26,10 +26,10 @@ journal_fault_name JournalFull = codes "JournalFull"
 journal_fault_name NoMemory = codes "NoMemory"
 journal_fault_name (Refused refusal) = codes "Refused"
 
--- refusal 18 is want of memory
+-- refusal 18 is out of memory
 abbrev pub is_no_memory : Refusal → Bool
 is_no_memory refusal = refusals.refusal_number refusal == 18
 
--- what a journal's call answers for a refusal: want of memory is its own fault, and never a refusal
+-- what a journal's call answers for a refusal: out of memory is its own fault, and never a refusal
 abbrev pub fault_of_refusal : Refusal → JournalFault
 fault_of_refusal refusal = if is_no_memory refusal then NoMemory else Refused refusal

@@ -27,7 +27,7 @@ pub enum JournalFault {
     JournalFull,
     #[error("no memory")]
     NoMemory,
-    /// The edit or the undo is refused, and not for want of memory.
+    /// The edit or the undo is refused, and not when out of memory.
     #[error("refused: {0}")]
     Refused(Refusal),
 }

@@ -107,7 +107,7 @@ pub fn read_journal(alloc: Global, bytes: &[u8]) -> Result<(Version, Vec<Record>
 
 /// The records of a journal, exactly where the bytes are one: at most 16,777,216 bytes that are
 /// texts of records, all of the first version or all of the second, each record done that another
-/// one follows. Otherwise BadJournal; beside that only want of memory is answered.
+/// one follows. Otherwise BadJournal; beside that it fails only when out of memory.
 pub fn read_records(alloc: Global, bytes: &[u8]) -> Result<Vec<Record>, JournalFault>
     ensures ok { IfOk result (λ records. IsJournal bytes.now records.items) }
     ensures err { IfErr result (λ e. (e ≡ JournalFault.BadJournal) ⊎ (e ≡ JournalFault.NoMemory)) }

@@ -406,7 +406,7 @@ fn is_text_of(
 
 /// The record that has these bytes for its text in this version: a line with its line feed. Each
 /// record has one spelling, and any other is BadJournal, as are bytes that are no record's text.
-/// Beside that only want of memory is answered. The scratch is kept from line to line.
+/// Beside that it fails only when out of memory. The scratch is kept from line to line.
 pub(crate) fn read_line(
     alloc: Global,
     version: Version,
@@ -437,7 +437,7 @@ pub(crate) fn read_line(
 
 /// The record that has these bytes for its text in the second version: a line with its line feed.
 /// Each record has one spelling, and any other is BadJournal, as are bytes that are no record's
-/// text. Beside that only want of memory is answered.
+/// text. Beside that it fails only when out of memory.
 pub fn read_entry(alloc: Global, bytes: &[u8]) -> Result<Record, JournalFault>
     ensures ok { IfOk result (λ r. (record_text second r ≡ bytes.now) × IsRecord second r) }
     ensures err { IfErr result (λ e. (e ≡ JournalFault.BadJournal) ⊎ (e ≡ JournalFault.NoMemory)) }

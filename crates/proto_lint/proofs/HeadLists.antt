@@ -7,7 +7,7 @@ use Rattle.proto_tree.specs.Tree.{Tree}
 use Rattle.proto_files.proofs.Common.{FileOf, file_at, ReadOf, AreRead, read_at, IsTreeOf, same_tree}
 use Rattle.proto_names_rules.specs.Faults.{file_with_path}
 use Rattle.proto_lint_names.proofs.LastSplit.{split_whole}
-use Rattle.proto_lint_names.proofs.Common.{back_or, behind_last, Reading}
+use Rattle.proto_lint_names.proofs.Common.{back_or, behind_last, LintFile}
 use Rattle.proto_lint.specs.Common.{head_of, head_of_file, is_there, IsProtoPath, Head}
 
 -- ---- names
@@ -96,7 +96,7 @@ head_same files reads file tokens tree h are within t is e =
     let same : tree ≡ (read_at reads file).tree = sym (same_tree files reads file tree are within is) in
     e ∙ ap (λ (ts : List Token). head_of path (reading bytes ts) tree) one ∙ ap (head_of path (reading bytes (read_at reads file).tokens)) same
   where
-    reading : List ℕ → List Token → Reading
+    reading : List ℕ → List Token → LintFile
     reading bytes ts = record { tokens = ts; lexemes = map (lexeme_at bytes) ts; means = [] }
 
 -- ---- tests of lists

@@ -6,7 +6,7 @@ use Rattle.proto_files.proofs.Common.{FileOf, paths_of, ReadOf, AreRead}
 use Rattle.proto_names_rules.proofs.Common.{file_with_path, Workspace}
 use Rattle.proto_names_imports.specs.Links.{link_imports, names_of_files}
 use Rattle.proto_lint_rules.specs.declared.rule.Rule.TheVariants as rule
-use Rattle.proto_lint_names.proofs.Common.{Found, found_at, found_by, unless, Reading}
+use Rattle.proto_lint_names.proofs.Common.{Found, found_at, found_by, unless, LintFile}
 use Rattle.proto_lint_rules.specs.Rules.{is_chosen}
 use Rattle.proto_lint.specs.Common.{import_used, is_used, import_path, LeadsToMarked, MarksUsed}
 
@@ -33,7 +33,7 @@ leads_is_used files reads are file marks used path b h = go (file_with_path (pat
         let u = used.used reads are to (place_within files path to e) in
         same_truth a (is_used (names_of_files files reads) file (Some to)) ((λ t. u.0 (k.0 t)), λ t. k.1 (u.1 t))
 
-pub used_found : (rules : List Bool) (r : Reading) (w : Workspace) (paths : List (List ℕ)) (file : ℕ) (i : Import) (old new : List Found) (path : List ℕ) (used : Bool)
+pub used_found : (rules : List Bool) (r : LintFile) (w : Workspace) (paths : List (List ℕ)) (file : ℕ) (i : Import) (old new : List Found) (path : List ℕ) (used : Bool)
     → is_chosen rules rule.ImportUsed ≡ true → is_some i.public ≡ false → import_path r i ≡ path → used ≡ is_used w file (file_with_path paths path)
     → new ≡ old ++ map (found_at r rule.ImportUsed) (unless used i.keyword path) → new ≡ old ++ found_by rules r rule.ImportUsed (import_used w paths r file i)
 used_found rules r w paths file i old new path used chosen plain is uses e =

@@ -9,7 +9,7 @@ use Rattle.proto_names_rules.specs.Tree.{package_of}
 use Rattle.proto_names_outline.specs.FromTree.{items_in}
 use Rattle.proto_files.specs.FilesRead.{ReadOf, read_at}
 use Rattle.proto_ast.specs.Parts.{syntax_texts_in}
-use Rattle.proto_lint_names.specs.Readings.{package_words, Reading, read_of_file}
+use Rattle.proto_lint_names.specs.Readings.{package_words, LintFile, read_of_file}
 use Rattle.proto_lint.specs.Packages.{Head}
 
 -- a path ends in `.proto`
@@ -27,7 +27,7 @@ is_there [] = false
 is_there (t ∷ ts) = true
 
 -- the head of a file at a path, by what is read of it
-abbrev pub head_of : Path → Reading → Tree → Head
+abbrev pub head_of : Path → LintFile → Tree → Head
 head_of path r tree = record {
   path = path;
   words = package_words r tree;

@@ -12,7 +12,7 @@ use Rattle.proto_names_rules.specs.Names.{Workspace, meaning, reaches, same_name
 use Rattle.proto_ast.specs.Parts.{statements}
 use Rattle.proto_lint_rules.specs.declared.rule.Rule.TheVariants as rule
 use Rattle.proto_lint_names.specs.Placed.{Found, NamedToken, found_by, unless}
-use Rattle.proto_lint_names.specs.Readings.{Reading, word_in}
+use Rattle.proto_lint_names.specs.Readings.{LintFile, word_in}
 
 -- the import that a statement is
 abbrev pub statement_import : Statement → List Import
@@ -24,15 +24,15 @@ abbrev pub import_statements_in : Tree → List Import
 import_statements_in tree = flat_map statement_import (statements tree)
 
 -- the path that an import names
-abbrev pub import_path : Reading → Import → Path
+abbrev pub import_path : LintFile → Import → Path
 import_path r i = or_nothing (value_of (word_in r i.path))
 
 -- an import at its word `import`, with the path that it names, unless it passes
-abbrev pub import_unless : Reading → Bool → Import → List NamedToken
+abbrev pub import_unless : LintFile → Bool → Import → List NamedToken
 import_unless r passes i = unless passes i.keyword (import_path r i)
 
 -- IMPORT_NO_PUBLIC: a public import
-abbrev pub import_no_public : Reading → Import → List NamedToken
+abbrev pub import_no_public : LintFile → Import → List NamedToken
 import_no_public r i = import_unless r (not (is_some i.public)) i
 
 -- ---- imports that are used
@@ -51,19 +51,19 @@ is_used w file (Some to) =
 
 -- IMPORT_USED: an import that is not public, where no reference of the file means a symbol of the
 -- imported file or of one that is reached from it (a public import is for others, and needs no use)
-abbrev pub import_used : Workspace → List Path → Reading → ℕ → Import → List NamedToken
+abbrev pub import_used : Workspace → List Path → LintFile → ℕ → Import → List NamedToken
 import_used w paths r file i =
     import_unless r (is_some i.public || is_used w file (file_with_path paths (import_path r i))) i
 
 -- ---- what they find
 
 -- what the rules find at an import of a file, by its number, in a workspace with these paths
-abbrev pub import_finds : List Bool → Workspace → List Path → Reading → ℕ → Import → List Found
+abbrev pub import_finds : List Bool → Workspace → List Path → LintFile → ℕ → Import → List Found
 import_finds rules w paths r file i =
     found_by rules r rule.ImportNoPublic (import_no_public r i)
     ++ found_by rules r rule.ImportUsed (import_used w paths r file i)
 
 -- what the rules find at the imports of a file
-abbrev pub imports_finds : List Bool → Workspace → List Path → Reading → ℕ → Tree → List Found
+abbrev pub imports_finds : List Bool → Workspace → List Path → LintFile → ℕ → Tree → List Found
 imports_finds rules w paths r file tree =
     flat_map (import_finds rules w paths r file) (import_statements_in tree)

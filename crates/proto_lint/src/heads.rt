@@ -245,7 +245,7 @@ fn first_of_packages(alloc: Global, heads: &[FileHead]) -> Result<IndexMap<Strin
 }
 
 impl<'a> Heads<'a> {
-    /// The heads of the files. Only want of memory is refused.
+    /// The heads of the files. Fails only when out of memory.
     pub fn new(alloc: Global, files: &'a Files) -> Result<Heads<'a>, NoMemory>
         ensures { IfOk result (λ h. (reads : List ReadOf)
             → AreRead files.now reads → h ≡ heads files.now reads) }

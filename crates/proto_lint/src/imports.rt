@@ -27,7 +27,7 @@ use crate::uses::{share_a_mark, used_files};
 use indexmap::IndexMap;
 use proto_base::NoMemory;
 use proto_files::{Files, Words, all_paths};
-use proto_lint_names::{Found, Reading, Rule, RuleSet, add_unless};
+use proto_lint_names::{Found, LintFile, Rule, RuleSet, add_unless};
 use proto_names::{Link, are_read};
 use proto_names_imports::first_places::{first_places, place_of};
 use proto_names_imports::walk::reached_files;
@@ -139,7 +139,7 @@ fn all_public(
 }
 
 impl Imports {
-    /// The imports of the files. Only want of memory is refused.
+    /// The imports of the files. Fails only when out of memory.
     pub fn new(alloc: Global, files: &Files) -> Result<Imports, NoMemory>
         ensures { IfOk result (AreImportTablesOf files.now) }
     {
@@ -184,7 +184,7 @@ fn add_import_no_public(
     alloc: Global,
     found: &mut Vec<Found>,
     rules: &RuleSet,
-    reading: &Reading,
+    reading: &LintFile,
     import: &Import,
 ) -> Result<(), NoMemory>
     requires { IsString (word_in (reading_of reading.now) import.now.path) }
@@ -212,7 +212,7 @@ fn add_import_used(
     alloc: Global,
     found: &mut Vec<Found>,
     linter: &Linter,
-    reading: &Reading,
+    reading: &LintFile,
     marks: &[bool],
     import: &Import,
 ) -> Result<(), NoMemory>
@@ -249,7 +249,7 @@ fn add_import(
     alloc: Global,
     found: &mut Vec<Found>,
     linter: &Linter,
-    reading: &Reading,
+    reading: &LintFile,
     marks: &[bool],
     import: &Import,
 ) -> Result<(), NoMemory>
@@ -317,7 +317,7 @@ fn add_statements(
     alloc: Global,
     found: &mut Vec<Found>,
     linter: &Linter,
-    reading: &Reading,
+    reading: &LintFile,
     marks: &[bool],
     statements: &[&Import],
 ) -> Result<(), NoMemory>
@@ -339,12 +339,12 @@ fn add_statements(
     Ok(())
 }
 
-/// Adds what the rules of imports find in the file that is read so. Only want of memory is refused.
+/// Adds what the rules of imports find in the file that is read so. Fails only when out of memory.
 pub fn add_imports(
     alloc: Global,
     found: &mut Vec<Found>,
     linter: &Linter,
-    reading: &Reading,
+    reading: &LintFile,
 ) -> Result<(), NoMemory>
     requires file { reading.now.file < length linter.now.files.now }
     requires reading { (reads : List ReadOf) → AreRead linter.now.files.now reads

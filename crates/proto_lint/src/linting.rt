@@ -14,7 +14,7 @@ use crate::packages::add_head;
 use proto_base::NoMemory;
 use proto_files::Files;
 use proto_lint_names::{
-    Finding, Found, Messages, Reading, RuleSet, Walk, add_blocks, add_findings, messages_of,
+    Finding, Found, LintFile, Messages, RuleSet, Walk, add_blocks, add_findings, messages_of,
     sorted_findings,
 };
 use proto_names::{Link, are_read};
@@ -75,7 +75,7 @@ impl<'a> Linter<'a> {
             messages,
             ..
         } = self;
-        let reading = Reading::of(files, link, file);
+        let reading = LintFile::of(files, link, file);
         let mut found = Vec::new(alloc);
         add_head(alloc, &mut found, rules, heads, file)?;
         add_imports(alloc, &mut found, self, &reading)?;

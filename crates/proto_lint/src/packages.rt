@@ -201,8 +201,8 @@ fn add_syntax_specified(
     Ok(())
 }
 
-/// Adds what the rules of packages, paths and syntax find in a file, by its number. Only want of
-/// memory is refused.
+/// Adds what the rules of packages, paths and syntax find in a file, by its number. Fails only when
+/// out of memory.
 pub fn add_head(
     alloc: Global,
     found: &mut Vec<Found>,

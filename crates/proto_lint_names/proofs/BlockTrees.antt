@@ -19,12 +19,12 @@ use Rattle.proto_tree.specs.declared.tree.Signature.{Signature}
 use Rattle.proto_tree.specs.File.{extend_tree, extension_tree}
 use Rattle.proto_tree.proofs.Common.{enum_item_tree, enum_tree, field_tree, member_tree, message_tree, method_by, method_item_tree, oneof_tree, service_item_tree, service_tree, trees, Tree, End, Leaf, Block, joined_trees}
 use Rattle.proto_names_rules.specs.Forest.{under}
-use Rattle.proto_lint_names.proofs.Common.{Found, Reading, reading_of, word_in}
+use Rattle.proto_lint_names.proofs.Common.{Found, LintFile, reading_of, word_in}
 use Rattle.proto_lint_names.specs.RulesCommon.{Walk, Scoped, scoped_blocks, scope_within, block_finds, walk_finds}
 use Rattle.proto_lint_names.specs.Methods.{methods_finds}
 use Rattle.proto_lint_names.specs.NameRules.{enum_finds, message_finds, oneof_finds, service_finds}
 
-pub blocks_joined : (r : Reading) (scope : List ℕ) (t u : Tree) → scoped_blocks r scope (joined_trees t u) ≡ scoped_blocks r scope t ++ scoped_blocks r scope u
+pub blocks_joined : (r : LintFile) (scope : List ℕ) (t u : Tree) → scoped_blocks r scope (joined_trees t u) ≡ scoped_blocks r scope t ++ scoped_blocks r scope u
 blocks_joined r scope End u = refl
 blocks_joined r scope (Leaf s rest) u = blocks_joined r scope rest u
 blocks_joined r scope (Block h i within j rest) u =
@@ -33,7 +33,7 @@ blocks_joined r scope (Block h i within j rest) u =
     ap (λ (bs : List Scoped). b ∷ (inner ++ bs)) (blocks_joined r scope rest u) ∙ ap (λ (bs : List Scoped). b ∷ bs) (sym (append_assoc inner (scoped_blocks r scope rest) (scoped_blocks r scope u)))
 
 module _ (w : Walk) where
-  abbrev r : Reading
+  abbrev r : LintFile
   r = reading_of w.reading.now
 
   abbrev one : Scoped → List Found

@@ -7,7 +7,7 @@ use Rattle.proto_tree.specs.declared.tree.Value.{Value}
 use Rattle.proto_tree.proofs.Common.{enum_item_tree, trees, Tree, joined_trees}
 use Rattle.proto_ast.proofs.Common.{statement_values, statements, values_in, statements_joined}
 use Rattle.proto_lint_rules.specs.declared.rule.Rule.{Rule}
-use Rattle.proto_lint_names.proofs.Common.{found_at, found_by, unless_word, Reading}
+use Rattle.proto_lint_names.proofs.Common.{found_at, found_by, unless_word, LintFile}
 use Rattle.proto_lint_rules.specs.Rules.{is_chosen}
 use Rattle.proto_lint_names.specs.NameRules.{first_not_zero, is_zero}
 
@@ -37,7 +37,7 @@ pub first_there : (items : List EnumItem) (i : ℕ) (v : Value) → i < length i
     → values_in (trees enum_item_tree items) ≡ v ∷ values_in (trees enum_item_tree (drop (i + 1) items))
 first_there items i v lt is before = sym before ∙ values_front items i (enum_item.Value v) lt is
 
-pub first_found : (marks : List Bool) (r : Reading) (rule : Rule) (scope : List ℕ) (vs rest : List Value) (v : Value) → is_chosen marks rule ≡ true → vs ≡ v ∷ rest
+pub first_found : (marks : List Bool) (r : LintFile) (rule : Rule) (scope : List ℕ) (vs rest : List Value) (v : Value) → is_chosen marks rule ≡ true → vs ≡ v ∷ rest
     → map (found_at r rule) (unless_word r (λ w. is_zero r v) scope v.name) ≡ found_by marks r rule (first_not_zero r scope vs)
 first_found marks r rule scope vs rest v chosen e = sym (ap (λ (us : List Value). found_by marks r rule (first_not_zero r scope us)) e ∙ cond-true _ _ _ chosen)
 
@@ -45,5 +45,5 @@ first_found marks r rule scope vs rest v chosen e = sym (ap (λ (us : List Value
 pub none_left : (items : List EnumItem) (i : ℕ) → length items ≤ i → values_in (trees enum_item_tree (drop i items)) ≡ values_in (trees enum_item_tree items) → values_in (trees enum_item_tree items) ≡ []
 none_left items i le before = sym before ∙ ap (λ (xs : List EnumItem). values_in (trees enum_item_tree xs)) (drop_all i items le)
 
-pub none_found : (marks : List Bool) (r : Reading) (rule : Rule) (scope : List ℕ) (vs : List Value) → is_chosen marks rule ≡ true → vs ≡ [] → [] ≡ found_by marks r rule (first_not_zero r scope vs)
+pub none_found : (marks : List Bool) (r : LintFile) (rule : Rule) (scope : List ℕ) (vs : List Value) → is_chosen marks rule ≡ true → vs ≡ [] → [] ≡ found_by marks r rule (first_not_zero r scope vs)
 none_found marks r rule scope vs chosen e = sym (ap (λ (us : List Value). found_by marks r rule (first_not_zero r scope us)) e ∙ cond-true _ _ _ chosen)

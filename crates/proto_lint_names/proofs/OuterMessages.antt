@@ -7,14 +7,14 @@ use Rattle.proto_tree.specs.declared.context.Kind.TheVariants as kind
 use Rattle.proto_tree.specs.declared.piece.Header.{Header}
 use Rattle.proto_tree.specs.declared.piece.Header.TheVariants as header
 use Rattle.proto_tree.proofs.Common.{Tree, End, Leaf, Block, IsWellFormed, after, allows, header_kind, inside, joined_trees, statement_kind, trees, after_inner, inside_inner}
-use Rattle.proto_lint_names.specs.Readings.{Reading}
+use Rattle.proto_lint_names.specs.Readings.{LintFile}
 use Rattle.proto_lint_names.specs.RulesCommon.{Scoped, scoped_blocks, scope_within, block_messages, file_messages, outer_messages}
 
 no_service : (c : Context) → allows c kind.Close ≡ true → allows c kind.OpenService ≡ true → ⊥
 no_service context.Start e a = cc
 no_service _ e a = cc
 
-module _ (r : Reading) where
+module _ (r : LintFile) where
   abbrev one : Scoped → List (List ℕ)
   one b = block_messages r b.header b.within
 

@@ -8,7 +8,7 @@ use Rattle.proto_tree.specs.References.{first_of}
 use Rattle.proto_files.proofs.Common.{FileOf, file_at, ReadOf, AreRead, read_at, tokens_at}
 use Rattle.proto_names.specs.Linking.{Meant}
 use Rattle.proto_names.proofs.Common.{IsLinkOf, meant_by_link, LinkOf, row_at, name_text}
-use Rattle.proto_lint_names.specs.Readings.{read_of_file, Reading}
+use Rattle.proto_lint_names.specs.Readings.{read_of_file, LintFile}
 
 -- ---- what a reference means
 
@@ -39,7 +39,7 @@ text_is (Some s) other e = refl
 pub read_is : (files : List FileOf) (reads : List ReadOf) → AreRead files reads → (l : LinkOf) → IsLinkOf files l → (file : ℕ) → file < length files
     → (text : List ℕ) → text ≡ (file_at files file).bytes → (tokens : List Token) → AreTokens (file_at files file).bytes tokens
     → (words : List Lexeme) → words ≡ map (lexeme_at text) tokens
-    → (let r : Reading = record { tokens = tokens; lexemes = words; means = map (meant_by_link l) (get_or l.meant file []) } in r) ≡ read_of_file files reads file
+    → (let r : LintFile = record { tokens = tokens; lexemes = words; means = map (meant_by_link l) (get_or l.meant file []) } in r) ≡ read_of_file files reads file
 read_is files reads are l linked file within text same tokens lexed words spelled =
     let t = tokens_at files reads are file tokens within lexed in
     let w : words ≡ map (lexeme_at (file_at files file).bytes) (read_at reads file).tokens = spelled ∙ ap (λ (b : List ℕ). map (lexeme_at b) tokens) same ∙ ap (map (lexeme_at (file_at files file).bytes)) t in

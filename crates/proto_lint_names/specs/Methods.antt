@@ -16,7 +16,7 @@ use Rattle.proto_case.specs.Cases.{is_pascal}
 use Rattle.proto_lint_rules.specs.declared.rule.Rule.TheVariants as rule
 use Rattle.proto_names_rules.specs.Forest.{under}
 use Rattle.proto_lint_names.specs.Placed.{Found, NamedToken, behind_last, found_by, unless}
-use Rattle.proto_lint_names.specs.Readings.{Reading, meant_name, word_in}
+use Rattle.proto_lint_names.specs.Readings.{LintFile, meant_name, word_in}
 
 -- ---- the methods of a service
 
@@ -37,25 +37,25 @@ signatures_in (Leaf s rest) = statement_signatures s ++ signatures_in rest
 signatures_in (Block h opens within closes rest) = header_signatures h ++ signatures_in rest
 
 -- the full name of the message that an input or output means
-abbrev pub type_meant : Reading → MethodType → Text
+abbrev pub type_meant : LintFile → MethodType → Text
 type_meant r t = meant_name r (first_of t.reference.dot t.reference.words)
 
 -- ---- names
 
 -- a method of the service with a full name, at its own name, unless it passes
-abbrev pub method_unless : Reading → Text → Bool → Signature → List NamedToken
+abbrev pub method_unless : LintFile → Text → Bool → Signature → List NamedToken
 method_unless r service passes s = unless passes s.name (under service (word_in r s.name))
 
 -- RPC_PASCAL_CASE: a method whose name is not Pascal
-abbrev pub rpc_pascal_case : Reading → Text → Signature → List NamedToken
+abbrev pub rpc_pascal_case : LintFile → Text → Signature → List NamedToken
 rpc_pascal_case r service s = method_unless r service (is_pascal (word_in r s.name)) s
 
 -- RPC_NO_CLIENT_STREAMING: a method with `stream` before its input
-abbrev pub rpc_no_client_streaming : Reading → Text → Signature → List NamedToken
+abbrev pub rpc_no_client_streaming : LintFile → Text → Signature → List NamedToken
 rpc_no_client_streaming r service s = method_unless r service (not (is_some s.input.stream)) s
 
 -- RPC_NO_SERVER_STREAMING: a method with `stream` before its output
-abbrev pub rpc_no_server_streaming : Reading → Text → Signature → List NamedToken
+abbrev pub rpc_no_server_streaming : LintFile → Text → Signature → List NamedToken
 rpc_no_server_streaming r service s = method_unless r service (not (is_some s.output.stream)) s
 
 -- ---- names of inputs and outputs
@@ -70,13 +70,13 @@ is_standard service method suffix type =
 -- RPC_REQUEST_STANDARD_NAME: a method whose input's name does not end in the part `GetRequest` or
 -- `SGetRequest`, where the method is `Get` of the service `S` (a service by its full name, and by
 -- the token of its name)
-abbrev pub rpc_request_standard_name : Reading → Text → ℕ → Signature → List NamedToken
+abbrev pub rpc_request_standard_name : LintFile → Text → ℕ → Signature → List NamedToken
 rpc_request_standard_name r service name s =
     method_unless r service
     (is_standard (word_in r name) (word_in r s.name) (codes "Request") (type_meant r s.input)) s
 
 -- RPC_RESPONSE_STANDARD_NAME: the same of the output, with `Response`
-abbrev pub rpc_response_standard_name : Reading → Text → ℕ → Signature → List NamedToken
+abbrev pub rpc_response_standard_name : LintFile → Text → ℕ → Signature → List NamedToken
 rpc_response_standard_name r service name s =
     method_unless r service
     (is_standard (word_in r name) (word_in r s.name) (codes "Response") (type_meant r s.output)) s
@@ -84,7 +84,7 @@ rpc_response_standard_name r service name s =
 -- ---- messages of one method alone
 
 -- the messages of the inputs and outputs of these methods
-abbrev pub method_messages : Reading → List Signature → List Text
+abbrev pub method_messages : LintFile → List Signature → List Text
 method_messages r ss = flat_map (λ s. type_meant r s.input ∷ type_meant r s.output ∷ []) ss
 
 -- a message stands more than once among the messages of all methods: as input and output of one
@@ -94,7 +94,7 @@ is_shared all type = nat_le 2 (length (filter (bytes_eq type) all))
 
 -- RPC_REQUEST_RESPONSE_UNIQUE: a method whose input and output are one message, or one of whose
 -- messages is the input or output of another method of the workspace
-abbrev pub rpc_request_response_unique : Reading → List Text → Text → Signature → List NamedToken
+abbrev pub rpc_request_response_unique : LintFile → List Text → Text → Signature → List NamedToken
 rpc_request_response_unique r all service s =
     method_unless r service
     (not (is_shared all (type_meant r s.input) || is_shared all (type_meant r s.output))) s
@@ -103,7 +103,7 @@ rpc_request_response_unique r all service s =
 
 -- what the rules find at a method of a service, where these are the messages of all methods of the
 -- workspace
-abbrev pub method_finds : List Bool → Reading → List Text → Text → ℕ → Signature → List Found
+abbrev pub method_finds : List Bool → LintFile → List Text → Text → ℕ → Signature → List Found
 method_finds rules r all service name s =
     found_by rules r rule.RpcNoClientStreaming (rpc_no_client_streaming r service s)
     ++ (found_by rules r rule.RpcNoServerStreaming (rpc_no_server_streaming r service s)
@@ -115,6 +115,6 @@ method_finds rules r all service name s =
     (rpc_response_standard_name r service name s)))))
 
 -- what the rules find at the methods of a service, with the scope around it
-abbrev pub methods_finds : List Bool → Reading → List Text → Text → ℕ → Tree → List Found
+abbrev pub methods_finds : List Bool → LintFile → List Text → Text → ℕ → Tree → List Found
 methods_finds rules r all scope name within =
     flat_map (method_finds rules r all (under scope (word_in r name)) name) (signatures_in within)

@@ -5,7 +5,7 @@ use Rattle.proto_base.specs.Texts.{Text}
 use Rattle.proto_names_rules.specs.Forest.{under}
 use Rattle.proto_text.specs.Texts.{offset_at}
 use Rattle.proto_lint_rules.specs.declared.rule.Rule.{Rule}
-use Rattle.proto_lint_names.specs.Readings.{Reading, word_in}
+use Rattle.proto_lint_names.specs.Readings.{LintFile, word_in}
 use Rattle.proto_lint_rules.specs.Rules.{is_chosen}
 
 -- a name, and the token that it is told of
@@ -25,16 +25,16 @@ unless true token name = []
 unless false token name = record { token = token; name = name } ∷ []
 
 -- a name right in a scope, at its own token, unless its word passes
-abbrev pub unless_word : Reading → (Text → Bool) → Text → ℕ → List NamedToken
+abbrev pub unless_word : LintFile → (Text → Bool) → Text → ℕ → List NamedToken
 unless_word r passes scope token =
     unless (passes (word_in r token)) token (under scope (word_in r token))
 
 -- what a rule finds at a name: its finding where the name's token begins
-abbrev pub found_at : Reading → Rule → NamedToken → Found
+abbrev pub found_at : LintFile → Rule → NamedToken → Found
 found_at r rule n = record { offset = offset_at r.tokens n.token; rule = rule; name = n.name }
 
 -- what a rule finds at some names, if it is one of those chosen
-abbrev pub found_by : List Bool → Reading → Rule → List NamedToken → List Found
+abbrev pub found_by : List Bool → LintFile → Rule → List NamedToken → List Found
 found_by rules r rule names = if is_chosen rules rule then map (found_at r rule) names else []
 
 -- ---- parts of names and paths

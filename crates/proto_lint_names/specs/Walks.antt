@@ -4,7 +4,7 @@ use Rattle.std.specs.Prelude.{List, [], ◌++◌}
 use Rattle.proto_base.specs.Texts.{Text}
 use Rattle.proto_tree.specs.Tree.{Tree, End, Leaf, Block}
 use Rattle.proto_lint_names.specs.Placed.{Found}
-use Rattle.proto_lint_names.specs.Readings.{Reading, reading_of}
+use Rattle.proto_lint_names.specs.Readings.{LintFile, reading_of}
 use Rattle.proto_lint_names.specs.declared.walk.Walk.{Walk}
 use Rattle.proto_lint_names.specs.Blocks.{scoped_blocks}
 use Rattle.proto_lint_names.specs.BlockFinds.{block_messages, blocks_finds}
@@ -16,7 +16,7 @@ walk_finds w scope tree =
     (scoped_blocks (reading_of w.reading.now) scope tree)
 
 -- the messages of the methods of services that stand right in a file
-abbrev pub outer_messages : Reading → Tree → List Text
+abbrev pub outer_messages : LintFile → Tree → List Text
 outer_messages r End = []
 outer_messages r (Leaf s rest) = outer_messages r rest
 outer_messages r (Block h opens within closes rest) =

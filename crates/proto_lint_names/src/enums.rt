@@ -16,7 +16,7 @@ ghost use Rattle.proto_lint_names.specs.NameRules.{allowed_alias, enum_finds, en
 
 use crate::found::{Found, add_below_unless, add_unless, under};
 use crate::names::{ScopedName, add_name};
-use crate::reading::Reading;
+use crate::reading::LintFile;
 use crate::walk::Walk;
 use crate::{Rule, RuleSet};
 use proto_ast::number_of;
@@ -30,7 +30,7 @@ use std::alloc::Global;
 
 // ---- numbers
 
-fn is_zero(reading: &Reading, value: &Value) -> bool
+fn is_zero(reading: &LintFile, value: &Value) -> bool
     ensures { result ≡ is_zero (reading_of reading.now) value.now }
 {
     number_of(reading.text(value.number.number)) == 0
@@ -40,7 +40,7 @@ fn add_first_value(
     alloc: Global,
     found: &mut Vec<Found>,
     rules: &RuleSet,
-    reading: &Reading,
+    reading: &LintFile,
     scope: &str,
     items: &[EnumItem],
 ) -> Result<(), NoMemory>
@@ -71,7 +71,7 @@ fn has_zero_suffix(word: &str) -> bool
 fn add_zero_suffix(
     alloc: Global,
     found: &mut Vec<Found>,
-    reading: &Reading,
+    reading: &LintFile,
     scope: &str,
     item: &EnumItem,
 ) -> Result<(), NoMemory>
@@ -95,7 +95,7 @@ fn add_zero_suffixes(
     alloc: Global,
     found: &mut Vec<Found>,
     rules: &RuleSet,
-    reading: &Reading,
+    reading: &LintFile,
     scope: &str,
     items: &[EnumItem],
 ) -> Result<(), NoMemory>
@@ -118,7 +118,7 @@ fn add_zero_suffixes(
 fn add_value_name(
     alloc: Global,
     found: &mut Vec<Found>,
-    reading: &Reading,
+    reading: &LintFile,
     scope: &str,
     item: &EnumItem,
 ) -> Result<(), NoMemory>
@@ -141,7 +141,7 @@ fn add_value_names(
     alloc: Global,
     found: &mut Vec<Found>,
     rules: &RuleSet,
-    reading: &Reading,
+    reading: &LintFile,
     scope: &str,
     items: &[EnumItem],
 ) -> Result<(), NoMemory>
@@ -177,7 +177,7 @@ fn has_prefix(word: &str, prefix: &str) -> bool
 fn add_unprefixed(
     alloc: Global,
     found: &mut Vec<Found>,
-    reading: &Reading,
+    reading: &LintFile,
     scope: &str,
     prefix: &str,
     item: &EnumItem,
@@ -201,7 +201,7 @@ fn add_unprefixed(
 fn add_each_unprefixed(
     alloc: Global,
     found: &mut Vec<Found>,
-    reading: &Reading,
+    reading: &LintFile,
     scope: &str,
     prefix: &str,
     items: &[EnumItem],
@@ -222,7 +222,7 @@ fn add_prefixes(
     alloc: Global,
     found: &mut Vec<Found>,
     rules: &RuleSet,
-    reading: &Reading,
+    reading: &LintFile,
     scope: &str,
     names: &Enum,
 ) -> Result<(), NoMemory>
@@ -243,7 +243,7 @@ fn add_prefixes(
 // These are as `truth` of proto_ast and `is_alias_option` of proto_desc_checks, over a Reading in
 // place of a Scene.
 
-fn is_true(reading: &Reading, value: &Constant) -> bool
+fn is_true(reading: &LintFile, value: &Constant) -> bool
     ensures { result ≡ is_true (truth_of (word_in (reading_of reading.now)) value.now) }
 {
     match value {
@@ -252,7 +252,7 @@ fn is_true(reading: &Reading, value: &Constant) -> bool
     }
 }
 
-fn allows_alias(reading: &Reading, option: &Option_) -> bool
+fn allows_alias(reading: &LintFile, option: &Option_) -> bool
     ensures { result ≡ (bytes_eq (word_in (reading_of reading.now) option.now.name)
         (codes "allow_alias") && is_true (truth_of (word_in (reading_of reading.now))
         option.now.value)) }
@@ -264,7 +264,7 @@ fn allows_alias(reading: &Reading, option: &Option_) -> bool
 fn add_alias(
     alloc: Global,
     found: &mut Vec<Found>,
-    reading: &Reading,
+    reading: &LintFile,
     full_name: &str,
     item: &EnumItem,
 ) -> Result<(), NoMemory>
@@ -294,7 +294,7 @@ fn add_alias(
 fn add_each_alias(
     alloc: Global,
     found: &mut Vec<Found>,
-    reading: &Reading,
+    reading: &LintFile,
     full_name: &str,
     items: &[EnumItem],
 ) -> Result<(), NoMemory>
@@ -313,7 +313,7 @@ fn add_aliases(
     alloc: Global,
     found: &mut Vec<Found>,
     rules: &RuleSet,
-    reading: &Reading,
+    reading: &LintFile,
     scope: &str,
     names: &Enum,
 ) -> Result<(), NoMemory>

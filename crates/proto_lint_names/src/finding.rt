@@ -39,7 +39,7 @@ pub fn sorted_findings(mut found: Vec<Finding>) -> Vec<Finding>
     found
 }
 
-/// Adds what was found in the file at a path. Only want of memory is refused.
+/// Adds what was found in the file at a path. Fails only when out of memory.
 pub fn add_findings(
     alloc: Global,
     all: &mut Vec<Finding>,

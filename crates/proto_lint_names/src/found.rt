@@ -7,7 +7,7 @@ ghost use Rattle.proto_lint_names.specs.Placed.{found_at, unless};
 ghost use Rattle.proto_lint_names.specs.Readings.{reading_of, word_in};
 ghost use Rattle.proto_lint_names.specs.Views.{found_of};
 
-use crate::reading::Reading;
+use crate::reading::LintFile;
 use proto_base::NoMemory;
 use proto_lint_rules::Rule;
 use proto_names_rules::below;
@@ -22,7 +22,7 @@ pub struct Found {
 }
 
 /// A name right below another, or outermost where that is empty (where `below` puts a dot too).
-/// Only want of memory is refused, here and below.
+/// Fails only when out of memory, here and below.
 pub fn under(alloc: Global, scope: &str, word: &str) -> Result<String, NoMemory>
     ensures { IfOk result (λ s. string_bytes s ≡ under scope.now word.now) }
 {
@@ -32,11 +32,11 @@ pub fn under(alloc: Global, scope: &str, word: &str) -> Result<String, NoMemory>
     below(alloc, scope, word)
 }
 
-/// Adds a name at a token, unless it passes. After want of memory nothing is added.
+/// Adds a name at a token, unless it passes. After running out of memory nothing is added.
 pub fn add_unless(
     alloc: Global,
     found: &mut Vec<Found>,
-    reading: &Reading,
+    reading: &LintFile,
     rule: Rule,
     passes: bool,
     token: u32,
@@ -54,12 +54,12 @@ pub fn add_unless(
     Ok(())
 }
 
-/// Adds a name that stands right in a scope, at its own token, unless it passes. After want of
-/// memory nothing is added.
+/// Adds a name that stands right in a scope, at its own token, unless it passes. After running out
+/// of memory nothing is added.
 pub fn add_below_unless(
     alloc: Global,
     found: &mut Vec<Found>,
-    reading: &Reading,
+    reading: &LintFile,
     rule: Rule,
     passes: bool,
     scope: &str,

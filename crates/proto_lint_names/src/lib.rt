@@ -20,6 +20,6 @@ pub use found::{Found, add_below_unless, add_unless, under};
 pub use method_types::messages_of;
 pub use parts::{directory_of, file_name_of, last_part};
 pub use proto_lint_rules::{Rule, RuleSet, laws};
-pub use reading::Reading;
+pub use reading::LintFile;
 pub use shared::Messages;
 pub use walk::{Walk, add_blocks};

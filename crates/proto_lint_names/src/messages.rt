@@ -12,7 +12,7 @@ ghost use Rattle.proto_lint_names.specs.NameRules.{field_lower_snake_case, messa
 
 use crate::found::{Found, add_below_unless, under};
 use crate::names::{ScopedName, add_name};
-use crate::reading::Reading;
+use crate::reading::LintFile;
 use crate::walk::Walk;
 use crate::{Rule, RuleSet};
 use proto_ast::{FieldAt, fields_of};
@@ -25,7 +25,7 @@ use std::alloc::Global;
 fn add_each_field(
     alloc: Global,
     found: &mut Vec<Found>,
-    reading: &Reading,
+    reading: &LintFile,
     message: &str,
     fields: &[FieldAt],
 ) -> Result<(), NoMemory>
@@ -46,7 +46,7 @@ fn add_field_names(
     alloc: Global,
     found: &mut Vec<Found>,
     rules: &RuleSet,
-    reading: &Reading,
+    reading: &LintFile,
     scope: &str,
     message: &Message,
 ) -> Result<(), NoMemory>

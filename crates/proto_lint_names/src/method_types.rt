@@ -8,7 +8,7 @@ ghost use Rattle.proto_lint_names.specs.Readings.{reading_of};
 ghost use Rattle.proto_lint_names.specs.BlockFinds.{all_messages};
 ghost use Rattle.proto_lint_names.specs.Walks.{outer_messages};
 
-use crate::reading::Reading;
+use crate::reading::LintFile;
 use crate::shared::{Messages, add_messages};
 use proto_base::NoMemory;
 use proto_files::Files;
@@ -18,7 +18,7 @@ use std::alloc::Global;
 
 fn add_item_messages<'a>(
     all: &mut Vec<&'a str>,
-    reading: &Reading<'a>,
+    reading: &LintFile<'a>,
     item: &Item,
 ) -> Result<(), NoMemory>
     ensures { OnOk result (map (λ s. s.now) all.new.items ≡ map (λ s. s.now) all.old.items
@@ -33,7 +33,7 @@ fn add_item_messages<'a>(
 // The steps of `add_messages` once more, over items of another type.
 fn add_file_messages<'a>(
     all: &mut Vec<&'a str>,
-    reading: &Reading<'a>,
+    reading: &LintFile<'a>,
     file: &File,
 ) -> Result<(), NoMemory>
     ensures { OnOk result (map (λ s. s.now) all.new.items ≡ map (λ s. s.now) all.old.items
@@ -46,7 +46,7 @@ fn add_file_messages<'a>(
 }
 
 /// The full names of the inputs and outputs of all methods, in order; empty where a reference means
-/// none. Only want of memory is refused.
+/// none. Fails only when out of memory.
 fn all_messages<'a>(
     alloc: Global,
     files: &'a Files,
@@ -58,13 +58,13 @@ fn all_messages<'a>(
 {
     let mut all = Vec::new(alloc);
     for file in 0..files.len() as u32 {
-        let reading = Reading::of(files, link, file);
+        let reading = LintFile::of(files, link, file);
         add_file_messages(&mut all, &reading, files.tree(file))?;
     }
     Ok(all)
 }
 
-/// The messages of all methods of a workspace. Only want of memory is refused.
+/// The messages of all methods of a workspace. Fails only when out of memory.
 pub fn messages_of<'a>(
     alloc: Global,
     files: &'a Files,

@@ -10,7 +10,7 @@ use crate::Rule;
 use crate::found::Found;
 use crate::names::{ScopedName, add_name};
 use crate::parts::last_part;
-use crate::reading::Reading;
+use crate::reading::LintFile;
 use crate::shared::Messages;
 use crate::walk::Walk;
 use proto_base::NoMemory;
@@ -25,7 +25,7 @@ pub(crate) struct ServiceName<'a> {
     pub(crate) token: u32,
 }
 
-fn type_meant<'a>(reading: &Reading<'a>, kind: &MethodType) -> &'a str
+fn type_meant<'a>(reading: &LintFile<'a>, kind: &MethodType) -> &'a str
     ensures { result.now ≡ type_meant (reading_of reading.now) kind.now }
 {
     reading.meant_name(&kind.reference)
@@ -64,7 +64,7 @@ fn is_standard(service: &str, method: &str, suffix: &str, name: &str) -> bool
 }
 
 // Whether the message that a method of the service takes has a standard name.
-fn is_request_standard(reading: &Reading, service: u32, method: &Signature) -> bool
+fn is_request_standard(reading: &LintFile, service: u32, method: &Signature) -> bool
     ensures { result ≡ is_standard (word_in (reading_of reading.now) service)
         (word_in (reading_of reading.now) method.now.name) (codes "Request")
         (type_meant (reading_of reading.now) method.now.input) }
@@ -79,7 +79,7 @@ fn is_request_standard(reading: &Reading, service: u32, method: &Signature) -> b
 }
 
 // Whether the message that a method of the service answers has a standard name.
-fn is_response_standard(reading: &Reading, service: u32, method: &Signature) -> bool
+fn is_response_standard(reading: &LintFile, service: u32, method: &Signature) -> bool
     ensures { result ≡ is_standard (word_in (reading_of reading.now) service)
         (word_in (reading_of reading.now) method.now.name) (codes "Response")
         (type_meant (reading_of reading.now) method.now.output) }
@@ -95,7 +95,7 @@ fn is_response_standard(reading: &Reading, service: u32, method: &Signature) -> 
 
 // ---- messages of one method alone
 
-fn has_shared(reading: &Reading, messages: &Messages, method: &Signature) -> bool
+fn has_shared(reading: &LintFile, messages: &Messages, method: &Signature) -> bool
     ensures { result ≡
         (is_shared messages.now (type_meant (reading_of reading.now) method.now.input)
         || is_shared messages.now (type_meant (reading_of reading.now) method.now.output)) }

@@ -15,16 +15,16 @@ use proto_tree::Reference;
 /// A file as the rules read it: its tokens, their texts, and what its references mean; with its
 /// number in the workspace.
 #[derive(Drop)]
-pub struct Reading<'a> {
+pub struct LintFile<'a> {
     tokens: &'a [Token],
     words: Words<'a>,
     link: &'a Link,
     pub file: u32,
 }
 
-impl<'a> Reading<'a> {
+impl<'a> LintFile<'a> {
     /// The reading of a file of a workspace, by its number.
-    pub fn of(files: &'a Files, link: &'a Link, file: u32) -> Reading<'a>
+    pub fn of(files: &'a Files, link: &'a Link, file: u32) -> LintFile<'a>
         requires file { file < length files.now }
         requires link { IsLinkOf files.now link.now }
         ensures file { result.file ≡ file }
@@ -33,7 +33,7 @@ impl<'a> Reading<'a> {
     {
         let tokens = files.tokens(file);
         let words = Words::new(files, file);
-        Reading {
+        LintFile {
             tokens,
             words,
             link,

@@ -8,7 +8,7 @@ ghost use Rattle.proto_tree.specs.File.{service_item_tree, trees};
 ghost use Rattle.proto_lint_names.specs.Readings.{reading_of};
 ghost use Rattle.proto_lint_names.specs.Methods.{is_shared, method_messages, signatures_in, type_meant};
 
-use crate::reading::Reading;
+use crate::reading::LintFile;
 use proto_base::NoMemory;
 use proto_tree::{Service, ServiceItem, Signature};
 use std::alloc::Global;
@@ -43,7 +43,7 @@ fn stands_twice(sorted: &[&str], name: &str) -> bool
 }
 
 impl<'a> Messages<'a> {
-    /// Takes the names in the order added. Only want of memory is refused.
+    /// Takes the names in the order added. Fails only when out of memory.
     pub fn new(alloc: Global, all: Vec<&'a str>) -> Result<Messages<'a>, NoMemory>
         ensures { IfOk result (λ m. m ≡ map (λ s. s.now) all.entry.items) }
     {
@@ -64,7 +64,7 @@ impl<'a> Messages<'a> {
 // The messages of a method.
 fn add_of_method<'a>(
     all: &mut Vec<&'a str>,
-    reading: &Reading<'a>,
+    reading: &LintFile<'a>,
     method: &Signature,
 ) -> Result<(), NoMemory>
     ensures { OnOk result (map (λ s. s.now) all.new.items ≡ map (λ s. s.now) all.old.items ++
@@ -78,7 +78,7 @@ fn add_of_method<'a>(
 
 fn add_of_item<'a>(
     all: &mut Vec<&'a str>,
-    reading: &Reading<'a>,
+    reading: &LintFile<'a>,
     item: &ServiceItem,
 ) -> Result<(), NoMemory>
     ensures { OnOk result (map (λ s. s.now) all.new.items ≡ map (λ s. s.now) all.old.items
@@ -93,7 +93,7 @@ fn add_of_item<'a>(
 /// Adds the messages of the methods of a service.
 pub(crate) fn add_messages<'a>(
     all: &mut Vec<&'a str>,
-    reading: &Reading<'a>,
+    reading: &LintFile<'a>,
     service: &Service,
 ) -> Result<(), NoMemory>
     ensures { OnOk result (map (λ s. s.now) all.new.items ≡ map (λ s. s.now) all.old.items

@@ -13,7 +13,7 @@ use crate::RuleSet;
 use crate::enums::add_enum;
 use crate::found::{Found, under};
 use crate::messages::{add_message, add_oneof};
-use crate::reading::Reading;
+use crate::reading::LintFile;
 use crate::services::add_service;
 use crate::shared::Messages;
 use proto_base::NoMemory;
@@ -25,7 +25,7 @@ use std::alloc::Global;
 #[derive(Clone, Copy)]
 pub struct Walk<'a> {
     pub rules: &'a RuleSet,
-    pub reading: &'a Reading<'a>,
+    pub reading: &'a LintFile<'a>,
     pub messages: &'a Messages<'a>,
 }
 
@@ -105,7 +105,7 @@ fn add_item(
 }
 
 /// Adds what the rules find at the blocks of a file, each before those in it. The scope is the
-/// package, empty for none. Only want of memory is refused.
+/// package, empty for none. Fails only when out of memory.
 pub fn add_blocks(
     alloc: Global,
     found: &mut Vec<Found>,

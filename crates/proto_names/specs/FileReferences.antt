@@ -67,13 +67,13 @@ pub record IsFirstFlawed (w : Workspace) (text : At → Text) (file : ℕ) (uses
   pub flawed : IsFlawed w (used_named text file faulty) bad.flaw
   pub faultless : All (λ u. IsFaultless w (used_named text file u)) before
 
--- the error is want of memory, or the first faulty reference of the file
+-- the error is out of memory, or the first faulty reference of the file
 abbrev pub IsFileReferenceError : List FileOf → List ReadOf → ℕ → OrNoMemory BadReference → Type 0
 IsFileReferenceError files reads file (or.Fault bad) =
     IsFirstFlawed (names_of_files files reads) (text_of files reads) file (uses_of reads file) bad
 IsFileReferenceError files reads file or.NoMemory = Unit {0}
 
--- the error is want of memory, or the least faulty reference of all files, by file, token and
+-- the error is out of memory, or the least faulty reference of all files, by file, token and
 -- number of its fault
 abbrev pub IsLeastBad : List FileOf → List ReadOf → OrNoMemory BadReference → Type 0
 IsLeastBad files reads (or.Fault bad) =

@@ -93,7 +93,7 @@ pub record IsFirstBad (w : Workspace) (reference : Use → Reference) (file : �
   pub flawed : IsFlawed w (reference faulty) bad.flaw
   pub faultless : All (λ u. IsFaultless w (reference u)) before
 
--- the error is want of memory, or the first faulty reference
+-- the error is out of memory, or the first faulty reference
 abbrev pub IsReferenceError : Workspace
     → (Use → Reference) → ℕ → List Use → OrNoMemory BadReference → Type 0
 IsReferenceError w reference file uses (or.Fault bad) = IsFirstBad w reference file uses bad

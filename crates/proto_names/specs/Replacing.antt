@@ -6,7 +6,7 @@ use Rattle.proto_files.specs.GivenFiles.{FileOf}
 use Rattle.proto_names_imports.specs.LinkErrors.{IsLinkError}
 use Rattle.proto_names_imports.specs.Links.{LinkFaults}
 
--- the least fault of imports, names and references, or want of memory; or there is no such fault,
+-- the least fault of imports, names and references, or out of memory; or there is no such fault,
 -- and what is made of the link has one
 abbrev pub IsReplaceError : (List FileOf → SchemaFault → Type 0) → List FileOf → SchemaFault → Type 0
 IsReplaceError IsRefused files fault =

@@ -20,7 +20,7 @@ use proto_names_table::table::Table;
 use std::alloc::Global;
 
 /// What the references of each file mean, in order; else the least that is faulty, by file, token
-/// and number of its fault, or want of memory.
+/// and number of its fault, or out of memory.
 pub(crate) fn all_meanings(
     alloc: Global,
     files: &Files,
@@ -70,7 +70,7 @@ pub(crate) fn all_meanings(
     Ok(meant)
 }
 
-/// What the references of one file mean, in order; else the first that is faulty, or want of
+/// What the references of one file mean, in order; else the first that is faulty, or out of
 /// memory.
 pub(crate) fn file_meanings(
     alloc: Global,

@@ -5,7 +5,7 @@ ghost use Rattle.std.specs.Prelude.{◌≡◌, map, IfOk};
 use proto_base::NoMemory;
 use std::alloc::Global;
 
-/// The same lists in the same order. Refused for want of memory alone.
+/// The same lists in the same order. Fails only when out of memory.
 pub(crate) fn copied<T: Copy>(alloc: Global, lists: &[Vec<T>]) -> Result<Vec<Vec<T>>, NoMemory>
     ensures { IfOk result
         (λ copy. map (λ v. v.items) copy.items ≡ map (λ v. v.items) lists.now) }

@@ -17,7 +17,7 @@ mod scope;
 mod whole_link;
 
 pub use link::{DeclaredNames, Link};
-pub use made::{MadeOfLink, Nothing};
+pub use made::{Derived, Nothing};
 pub use proto_base::{SchemaFault as LinkFault, word_key};
 pub use proto_files::are_read;
 pub use proto_names_rules::Kind;

@@ -321,7 +321,7 @@ impl Link {
         Some(SymbolId { row })
     }
 
-    /// A link of its own with the same value. Refused for want of memory alone.
+    /// A link of its own with the same value. Fails only when out of memory.
     pub fn copy(&self, alloc: Global) -> Result<Link, NoMemory>
         ensures { IfOk result (λ link. link ≡ self.now) }
     {

@@ -16,7 +16,7 @@ use proto_files::Files;
 use std::alloc::Global;
 
 /// What is made of files and their link, and is made anew as far as they are edited.
-pub trait MadeOfLink {
+pub trait Derived {
     /// It is made of the files.
     ghost IsMade: { List FileOf → Self → Type 0 };
 
@@ -49,7 +49,7 @@ pub trait MadeOfLink {
 #[derive(Clone, Copy)]
 pub struct Nothing;
 
-impl MadeOfLink for Nothing {
+impl Derived for Nothing {
     ghost IsMade = { λ _ _. Unit {0} };
 
     ghost IsRefused = { λ files fault. IsLinkError files fault };

@@ -39,10 +39,10 @@ pub(crate) struct BadReference {
     pub(crate) flaw: ReferenceFlaw,
 }
 
-/// Why the references of a file have no meanings: the first that is faulty, or want of memory.
+/// Why the references of a file have no meanings: the first that is faulty, or out of memory.
 pub(crate) type ReferenceError = OrNoMemory<BadReference>;
 
-/// What the references of a file mean, in order; else the first that is faulty, or want of memory.
+/// What the references of a file mean, in order; else the first that is faulty, or out of memory.
 /// The scopes are by index among the file's declarations, and `rows` has the row of each.
 pub(crate) fn meanings(
     alloc: Global,

@@ -54,8 +54,8 @@ struct Edited<'a> {
 }
 
 /// Puts the names of the edited files into the table, in place of those that they had, and notes
-/// their rows. Answers false where it gives up, as `renew_names` does. Refused for want of memory
-/// alone. Where it does not answer true, some names may be changed, and the logs tell which.
+/// their rows. Answers false where it gives up, as `renew_names` does. Fails only when out of
+/// memory. Where it does not answer true, some names may be changed, and the logs tell which.
 fn renew_rows(
     alloc: Global,
     files: &Files,
@@ -91,8 +91,8 @@ fn renew_rows(
     }
 }
 
-/// Looks up again what the references of one file mean. Answers false where one is faulty. Refused
-/// for want of memory alone. Unless it answers true, nothing is changed.
+/// Looks up again what the references of one file mean. Answers false where one is faulty. Fails
+/// only when out of memory. Unless it answers true, nothing is changed.
 fn mean_file_again(
     alloc: Global,
     edited: Edited,
@@ -149,7 +149,7 @@ fn mean_file_again(
 }
 
 /// Puts what a file's references mean in place of what they meant, and notes that in the log:
-/// `change_at`, which does not say what the log has then. Refused for want of memory alone; then
+/// `change_at`, which does not say what the log has then. Fails only when out of memory; then
 /// neither has changed.
 fn put_meanings(
     meant: &mut Vec<Vec<Meant>>,
@@ -181,9 +181,9 @@ fn seen_by(seen: &[Vec<bool>], file: usize) -> &[bool]
 }
 
 /// Looks up again what the references of the marked files mean. Answers false where one is faulty.
-/// Refused for want of memory alone. Where it does not answer true, some files may be looked at,
+/// Fails only when out of memory. Where it does not answer true, some files may be looked at,
 /// and the log tells which.
-fn mean_again(
+fn resolve_again(
     alloc: Global,
     edited: Edited,
     marks: &[bool],
@@ -225,7 +225,7 @@ fn mean_again(
 }
 
 /// Marks those of the files that see others than before which have to be looked at again for that;
-/// told what each file saw, where that was put away. Refused for want of memory alone.
+/// told what each file saw, where that was put away. Fails only when out of memory.
 fn mark_others(
     alloc: Global,
     marks: &mut Vec<bool>,
@@ -270,7 +270,7 @@ fn seen_before<'a>(saw: &'a Option<Vec<Vec<bool>>>, seen: &'a [Vec<bool>]) -> &'
 /// Changes the table of a link and the lists that follow it to those of the edited files, as far as
 /// they are other ones, where it is told what each file sees now. Answers the marks of the files
 /// that were looked at again; none where it gives up: where a file declares what calls for a link
-/// made anew, or a reference has a fault. Refused for want of memory alone. Where it answers no
+/// made anew, or a reference has a fault. Fails only when out of memory. Where it answers no
 /// marks, some of them may be changed, and the log tells which.
 fn renew_names_and_references(
     alloc: Global,
@@ -337,7 +337,7 @@ fn renew_names_and_references(
     };
     let mut marks = marks_of_changes(alloc, linked, places, &before, &now)?;
     mark_others(alloc, &mut marks, edited, &log.seen, table, rows, meant)?;
-    if !mean_again(alloc, edited, &marks, table, rows, meant, &mut log.meant)? {
+    if !resolve_again(alloc, edited, &marks, table, rows, meant, &mut log.meant)? {
         return Ok(None);
     }
     renew_references(
@@ -353,8 +353,8 @@ fn renew_names_and_references(
 
 /// Changes the parts of a link to those of the edited files, as far as they are other ones. Answers
 /// the marks of the files that were looked at again; none where it gives up: where a file declares
-/// what calls for a link made anew, or an import or a reference has a fault. Refused for want of
-/// memory alone. Where it answers no marks, some of the parts may be changed, and the log tells
+/// what calls for a link made anew, or an import or a reference has a fault. Fails only when out
+/// of memory. Where it answers no marks, some of the parts may be changed, and the log tells
 /// which.
 pub(crate) fn renew_parts(
     alloc: Global,

@@ -19,7 +19,7 @@ use std::mem;
 /// Puts the imports of the edited files in place of those that they had, and what each file sees
 /// then in place of what it saw; answers the files that see others than before. Where all import
 /// what they imported, nothing changes. None where an import names no file or a file again, and
-/// where one leads back to its file. Refused for want of memory alone. Where it answers no files,
+/// where one leads back to its file. Fails only when out of memory. Where it answers no files,
 /// the imports may be changed, and the log tells which.
 pub(crate) fn renew_imports(
     alloc: Global,
@@ -71,7 +71,7 @@ pub(crate) fn renew_imports(
     Ok(Some(others))
 }
 
-/// The files whose marks are others now than before. Refused for want of memory alone.
+/// The files whose marks are others now than before. Fails only when out of memory.
 fn other_marks(alloc: Global, before: &[Vec<bool>], now: &[Vec<bool>]) -> Result<Vec<u32>, NoMemory>
     requires paired { length before.now ≡ length now.now }
     requires few { length now.now ≤ 2 ^ 32 }

@@ -24,7 +24,7 @@ use crate::all_references::all_meanings;
 use crate::backlinks::references_by_name;
 use crate::link::Link;
 use crate::link_log::LinkLog;
-use crate::made::{MadeOfLink, Nothing};
+use crate::made::{Derived, Nothing};
 use crate::read_files::{all_spelled, all_written, listings};
 use crate::references::{ReferenceError, ReferenceFlaw};
 use crate::renewal::renew_parts;
@@ -179,12 +179,12 @@ enum Renewal {
     /// It cannot be changed, and no link of the files can be made.
     Refused(SchemaFault),
     /// It has to be made anew.
-    GivenUp,
+    Rebuild,
 }
 
 impl Link {
     /// The link of the files, where their imports, names and references have no fault; else the
-    /// least fault by phase, path, offset and number, or want of memory.
+    /// least fault by phase, path, offset and number, or out of memory.
     pub fn new(alloc: Global, files: &Files) -> Result<Link, SchemaFault>
         ensures link { IfOk result (IsLinkOf files.now) }
         ensures clean { IfOk result (λ _. HasNoFault (LinkFaults files.now)) }
@@ -223,7 +223,7 @@ impl Link {
 
     /// As `replace`, and has what is made of the link follow it. Where that is refused, the link is
     /// as it was, and so is what is made of it.
-    pub fn replace_with<M: MadeOfLink>(
+    pub fn replace_with<M: Derived>(
         &mut self,
         alloc: Global,
         files: &Files,
@@ -241,12 +241,12 @@ impl Link {
         match self.renew(alloc, files, places, made) {
             Renewal::Done => Ok(()),
             Renewal::Refused(fault) => Err(fault),
-            Renewal::GivenUp => self.make_anew(alloc, files, places, made),
+            Renewal::Rebuild => self.make_anew(alloc, files, places, made),
         }
     }
 
     /// Changes this link in place, and has what is made of it follow, if it does not give up.
-    fn renew<M: MadeOfLink>(
+    fn renew<M: Derived>(
         &mut self,
         alloc: Global,
         files: &Files,
@@ -280,7 +280,7 @@ impl Link {
                 Ok(()) => return Renewal::Done,
                 Err(fault) => Renewal::Refused(fault),
             },
-            Ok(None) => Renewal::GivenUp,
+            Ok(None) => Renewal::Rebuild,
             Err(NoMemory) => Renewal::Refused(SchemaFault::NoMemory),
         };
         log.take_back(
@@ -295,7 +295,7 @@ impl Link {
     }
 
     /// Makes the link of the files anew, and has what is made of it follow.
-    fn make_anew<M: MadeOfLink>(
+    fn make_anew<M: Derived>(
         &mut self,
         alloc: Global,
         files: &Files,

@@ -169,33 +169,33 @@ module _ (rise : ReferencesRise Meant) (stay : UnmarkedReferencesStay Meant) (ma
   of_file : IsOfFile meant_row
   of_file file m = refl
 
-  abbrev pub Want : ℕ → List RefId
-  Want row = references_to_row row (all_meant_by meant_row 0 now)
+  abbrev pub Expected : ℕ → List RefId
+  Expected row = references_to_row row (all_meant_by meant_row 0 now)
 
   abbrev pub Was : ℕ → List RefId
   Was row = references_to_row row (all_meant_by meant_row 0 before)
 
-  unmarked : (row : ℕ) → Unmarked marks (Want row) ≡ Unmarked marks (Was row)
+  unmarked : (row : ℕ) → Unmarked marks (Expected row) ≡ Unmarked marks (Was row)
   unmarked row = stay meant_row of_file marks row before now len same
 
-  pub is_wanted : (row : ℕ) (had : List RefId) → had ≡ Was row → IsWanted marks rows lists row had (Want row)
+  pub is_wanted : (row : ℕ) (had : List RefId) → had ≡ Was row → IsWanted marks rows lists row had (Expected row)
   is_wanted row had e = record {
     rising = rise meant_row of_file row now;
     stay = unmarked row ∙ ap (Unmarked marks) (sym e);
     fresh = λ k l is. marked meant_row of_file marks row now ∙ sym (from_marked marks row 0 now) ∙ ap (λ q. references_to_row q (marked_meant marks 0 now)) (sym is) ∙ sym (g.each k l);
   }
 
-  pub stays : (row : ℕ) → (Contains rows row → ⊥) → ((file : ℕ) → get_or marks file false ≡ true → AreRowsNamed rows (get_or before file [])) → Was row ≡ Want row
+  pub stays : (row : ℕ) → (Contains rows row → ⊥) → ((file : ℕ) → get_or marks file false ≡ true → AreRowsNamed rows (get_or before file [])) → Was row ≡ Expected row
   stays row none named =
       sym (all_stay (is_of_marked_file marks) (Was row) (marked meant_row of_file marks row before ∙ none_gathered marks rows row 0 before none (λ k it. named k (ap (λ i. get_or marks i false) (zero_more k) ∙ it))))
       ∙ sym (unmarked row)
-      ∙ all_stay (is_of_marked_file marks) (Want row) (marked meant_row of_file marks row now ∙ sym (from_marked marks row 0 now) ∙ not_meant rows row (marked_meant marks 0 now) none g.named)
+      ∙ all_stay (is_of_marked_file marks) (Expected row) (marked meant_row of_file marks row now ∙ sym (from_marked marks row 0 now) ∙ not_meant rows row (marked_meant marks 0 now) none g.named)
     where
       zero_more : (k : ℕ) → k ≡ 0 + k
       zero_more k = omega arith
 
   pub all_renewed : (old new : List (List RefId)) → ((row : ℕ) → get_or old row [] ≡ Was row) → ((file : ℕ) → get_or marks file false ≡ true → AreRowsNamed rows (get_or before file [])) → AreRenewed marks rows lists old new → AreReferencesOf new now
-  all_renewed old new had named renewed row = elim (renewed row (Want row) (is_wanted row (get_or old row []) (had row))) [
+  all_renewed old new had named renewed row = elim (renewed row (Expected row) (is_wanted row (get_or old row []) (had row))) [
     | inl a ↦ a.1 ∙ had row ∙ stays row a.0 named
     | inr is ↦ is
   ]

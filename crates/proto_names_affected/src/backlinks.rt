@@ -9,7 +9,7 @@ use proto_names_table::RefId;
 use std::alloc::Global;
 
 /// The references to a name: of those that there were the ones of files that are not marked, and
-/// those that the marked files have now, by rising files. Only want of memory is refused.
+/// those that the marked files have now, by rising files. Fails only when out of memory.
 pub fn renewed(
     alloc: Global,
     old: &[RefId],

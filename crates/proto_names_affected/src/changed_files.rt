@@ -14,7 +14,7 @@ use proto_names_table::{Meant, RefId};
 use std::alloc::Global;
 
 /// For each of the files at these places the rows of its declarations whose names may hold others
-/// or be meant, with their kinds. Refused for want of memory alone.
+/// or be meant, with their kinds. Fails only when out of memory.
 pub fn outer_rows_at(
     alloc: Global,
     table: &Table,
@@ -48,7 +48,7 @@ pub struct Linked<'a> {
 /// those in which a reference begins with a word that has the key of the last word of a name that
 /// one of these did not declare, or with another kind, unless the name stands right below a type's:
 /// no reference of another file begins there. What each of these declared and declares is given by
-/// rows and kinds. Refused for want of memory alone.
+/// rows and kinds. Fails only when out of memory.
 pub fn marks_of_changes(
     alloc: Global,
     linked: Linked,

@@ -24,8 +24,8 @@ pub struct KindRow {
     pub kind: Kind,
 }
 
-/// Those of the rows whose names may hold others or be meant, in order, with their kinds. Refused
-/// for want of memory alone.
+/// Those of the rows whose names may hold others or be meant, in order, with their kinds. Fails
+/// only when out of memory.
 pub fn outer_rows(alloc: Global, table: &Table, rows: &[usize]) -> Result<Vec<KindRow>, NoMemory>
     ensures { IfOk result (λ found. found.items ≡ filter_map (outer_row table.now) rows.now) }
 {
@@ -62,8 +62,8 @@ fn outer_row(table: &Table, row: usize) -> Option<KindRow>
     }
 }
 
-/// The rows of the first list that have not the same kind in the second, in order. Refused for want
-/// of memory alone.
+/// The rows of the first list that have not the same kind in the second, in order. Fails only when
+/// out of memory.
 pub fn rows_not_among(
     alloc: Global,
     one: &[KindRow],
@@ -117,8 +117,8 @@ fn has_kind(kinds: &IndexMap<usize, Kind>, pair: KindRow) -> bool
     }
 }
 
-/// Those of the rows whose names do not stand right below a type's, in order. Refused for want of
-/// memory alone.
+/// Those of the rows whose names do not stand right below a type's, in order. Fails only when out
+/// of memory.
 pub fn rows_below_no_type(
     alloc: Global,
     table: &Table,
@@ -159,7 +159,7 @@ fn is_type_number(table: &Table, number: usize) -> bool
     }
 }
 
-/// The keys of the last words of the names of these rows. Refused for want of memory alone.
+/// The keys of the last words of the names of these rows. Fails only when out of memory.
 pub fn last_word_keys(
     alloc: Global,
     table: &Table,

@@ -14,8 +14,8 @@ use proto_names_table::{Meant, RefId};
 use std::alloc::Global;
 
 /// Renews the lists of references to each name, once those of marked files mean what `meant` says,
-/// which has the references of all files: `old` has what was changed there. Refused for want of
-/// memory alone; then some lists may be renewed, and the log tells which.
+/// which has the references of all files: `old` has what was changed there. Fails only when out
+/// of memory; then some lists may be renewed, and the log tells which.
 pub fn renew_references(
     alloc: Global,
     references: &mut Vec<Vec<RefId>>,
@@ -75,7 +75,7 @@ fn renew_listed(
 }
 
 /// Adds empty lists, for names that came, until there are so many; where there are more, all stay.
-/// Refused for want of memory alone; then some may be added. `cut_references` takes them away, also
+/// Fails only when out of memory; then some may be added. `cut_references` takes them away, also
 /// behind the way back of a log (`added_are_cut` of `proto_names_affected`).
 pub fn grow_references(
     alloc: Global,

@@ -23,7 +23,7 @@ pub(crate) struct ShownNames {
 }
 
 impl ShownNames {
-    /// Adds the name of a row. Refused for want of memory alone.
+    /// Adds the name of a row. Fails only when out of memory.
     fn add(&mut self, table: &Table, row: usize) -> Result<(), NoMemory>
         requires table { IsTable table.now }
         requires within { All (λ row. row < length table.now.rows.items) self.old.packages.keys }
@@ -43,7 +43,7 @@ impl ShownNames {
         Ok(())
     }
 
-    /// Adds the names of these rows. Refused for want of memory alone.
+    /// Adds the names of these rows. Fails only when out of memory.
     fn add_rows(&mut self, table: &Table, rows: &[usize]) -> Result<(), NoMemory>
         requires table { IsTable table.now }
         requires within { All (λ row. row < length table.now.rows.items) self.old.packages.keys }
@@ -58,7 +58,7 @@ impl ShownNames {
         Ok(())
     }
 
-    /// Adds the names of a file, if it is marked. Refused for want of memory alone.
+    /// Adds the names of a file, if it is marked. Fails only when out of memory.
     fn add_if_marked(
         &mut self,
         table: &Table,
@@ -80,7 +80,7 @@ impl ShownNames {
     }
 
     /// The keys of the last words of the packages that are none of a file's own, which are at the
-    /// head of its rows. Refused for want of memory alone.
+    /// head of its rows. Fails only when out of memory.
     pub(crate) fn foreign_keys(
         &self,
         alloc: Global,
@@ -104,7 +104,7 @@ impl ShownNames {
     }
 }
 
-/// The names of the marked files, by the rows of each file. Refused for want of memory alone.
+/// The names of the marked files, by the rows of each file. Fails only when out of memory.
 pub(crate) fn shown_names(
     alloc: Global,
     table: &Table,
@@ -172,7 +172,7 @@ fn packages_of<'a>(table: &Table, rows: &'a [usize]) -> &'a [usize]
     rows
 }
 
-/// Those of the packages that are none of a file's own. Refused for want of memory alone.
+/// Those of the packages that are none of a file's own. Fails only when out of memory.
 fn rows_not_own(
     alloc: Global,
     packages: &IndexSet<usize>,

@@ -32,7 +32,7 @@ pub struct Sighted<'a> {
 /// Marks those of these files that have to be looked at again for what they see: that see no more
 /// what one of their references means; and those in which a reference begins with a word that has
 /// the key of the last word of a name in a file that one of them newly sees, unless the name stands
-/// right below a type's, or the file declares it itself. Refused for want of memory alone.
+/// right below a type's, or the file declares it itself. Fails only when out of memory.
 pub fn mark_by_sight(
     alloc: Global,
     marks: &mut Vec<bool>,
@@ -59,7 +59,7 @@ pub fn mark_by_sight(
     Ok(())
 }
 
-/// Marks of the files that one of these newly sees. Refused for want of memory alone.
+/// Marks of the files that one of these newly sees. Fails only when out of memory.
 fn newly_seen(alloc: Global, sighted: Sighted, files: &[u32]) -> Result<Vec<bool>, NoMemory>
     requires files { All (λ file. file < length sighted.rows.now) files.now }
     requires before { length sighted.before.now ≡ length sighted.rows.now }
@@ -100,7 +100,7 @@ fn mark_if_new(marks: &mut Vec<bool>, file: usize, before: &[bool], sees: &[bool
 }
 
 /// Marks a file, if it has to be looked at again for what it sees; with the names of all files that
-/// it newly sees. Refused for want of memory alone.
+/// it newly sees. Fails only when out of memory.
 fn mark_one(
     alloc: Global,
     marks: &mut Vec<bool>,

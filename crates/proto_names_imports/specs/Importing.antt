@@ -48,7 +48,7 @@ import_flaw_number Cycle = 12
 abbrev pub fault_of : BadImport → Fault
 fault_of b = fault (at b.file b.token) (import_flaw_number b.flaw)
 
--- the error is the least fault, or want of memory
+-- the error is the least fault, or out of memory
 abbrev pub IsImportError : (Fault → Type 0) → OrNoMemory BadImport → Type 0
 IsImportError Says (or.Fault b) = IsLeast Says (fault_of b)
 IsImportError Says or.NoMemory = Unit {0}

@@ -8,8 +8,8 @@ use indexmap::IndexMap;
 use proto_base::NoMemory;
 use std::alloc::Global;
 
-/// The places of the texts, counted from 0; of texts that are the same the first. Refused for want
-/// of memory alone.
+/// The places of the texts, counted from 0; of texts that are the same the first. Fails only when
+/// out of memory.
 pub fn first_places(alloc: Global, texts: &[&str]) -> Result<IndexMap<String, u32>, NoMemory>
     requires { length texts.now ≤ 2 ^ 32 }
     ensures { IfOk result (λ index. IsFileIndex index (map (λ t. t.now) texts.now)) }

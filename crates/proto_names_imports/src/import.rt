@@ -83,7 +83,7 @@ impl BadImport {
     }
 }
 
-/// Why imports are not resolved: the least fault, or want of memory, of which nothing is said.
+/// Why imports are not resolved: the least fault, or out of memory, of which nothing is said.
 pub type ImportError = OrNoMemory<BadImport>;
 
 /// The imports of each file, by the numbers of the files that they name, in the order in which they
@@ -153,8 +153,8 @@ fn first(one: Option<BadImport>, other: Option<BadImport>) -> Option<BadImport>
     }
 }
 
-/// For each file, the files that its imports name, in their order. Refused for want of memory
-/// alone.
+/// For each file, the files that its imports name, in their order. Fails only when out of
+/// memory.
 pub fn all_targets(alloc: Global, imports: &[Vec<FileImport>]) -> Result<Vec<Vec<u32>>, NoMemory>
     ensures { IfOk result (λ next. map (λ v. v.items) next.items
         ≡ map (λ v. map (λ i. i.to) v.items) imports.now) }
@@ -166,7 +166,7 @@ pub fn all_targets(alloc: Global, imports: &[Vec<FileImport>]) -> Result<Vec<Vec
     Ok(next)
 }
 
-/// The files that these imports name, in their order. Refused for want of memory alone.
+/// The files that these imports name, in their order. Fails only when out of memory.
 pub fn targets(alloc: Global, imports: &[FileImport]) -> Result<Vec<u32>, NoMemory>
     ensures { IfOk result (λ files. files.items ≡ map (λ i. i.to) imports.now) }
 {

@@ -43,7 +43,7 @@ pub(crate) fn first_on_cycle(
 }
 
 /// Whether no imported file leads back to the file that imports it. Takes time linear in the number
-/// of imports where this is so. Refused for want of memory alone.
+/// of imports where this is so. Fails only when out of memory.
 pub fn has_no_cycle(alloc: Global, imports: &[Vec<FileImport>]) -> Result<bool, NoMemory>
     requires count { length imports.now ≤ 2 ^ 32 }
     requires within { All (λ v. All (λ i. i.to < length imports.now) v.items) imports.now }

@@ -14,7 +14,7 @@ use std::alloc::Global;
 use std::mem;
 
 /// For each file, marks of the files that it sees: itself, those that it imports, and what is
-/// reached from these by public imports. Refused for want of memory alone.
+/// reached from these by public imports. Fails only when out of memory.
 pub fn all_seen(alloc: Global, imports: &[Vec<FileImport>]) -> Result<Vec<Vec<bool>>, NoMemory>
     requires count { length imports.now ≤ 2 ^ 32 }
     requires within { All (λ v. All (λ i. i.to < length imports.now) v.items) imports.now }

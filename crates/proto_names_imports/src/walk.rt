@@ -8,7 +8,7 @@ use proto_base::NoMemory;
 use std::alloc::Global;
 
 /// Marks the files that are reached from this one by steps along the lists, itself among them.
-/// Refused for want of memory alone.
+/// Fails only when out of memory.
 pub fn reached_files(alloc: Global, next: &[Vec<u32>], start: u32) -> Result<Vec<bool>, NoMemory>
     requires start { start < length next.now }
     requires files { All (λ v. All (λ g. g < length next.now) v.items) next.now }
@@ -54,7 +54,7 @@ fn mark(file: u32, seen: &mut Vec<bool>, todo: &mut Vec<u32>) -> Result<(), NoMe
     Ok(())
 }
 
-/// As many marks, none of them set. Only want of memory is refused.
+/// As many marks, none of them set. Fails only when out of memory.
 pub fn unset_marks(alloc: Global, count: usize) -> Result<Vec<bool>, NoMemory>
     ensures { IfOk result (λ marks. marks.items ≡ replicate count false) }
 {

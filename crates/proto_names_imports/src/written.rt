@@ -13,8 +13,8 @@ use proto_names_outline::wanted::Wanted;
 use proto_text::string_value;
 use std::alloc::Global;
 
-/// The imports of a file, each with the token and the value of its path. Refused for want of memory
-/// alone.
+/// The imports of a file, each with the token and the value of its path. Fails only when out of
+/// memory.
 pub fn written_imports(
     alloc: Global,
     words: &Words,

@@ -3,7 +3,7 @@ use Rattle.std.proofs.Common.{◌≡◌, ◌≢◌, ℕ, suc, get_or, ◌+◌, �
 use Rattle.proto_base.proofs.Common.{Contains-append_left, Contains-append_right, Contains-append_cases, Contains-get_or, contains_head, contains_later, contains_cases}
 use Rattle.proto_tree.specs.declared.class.Class.{Class}
 use Rattle.proto_tree.specs.declared.class.Class.TheVariants as class
-use Rattle.proto_tree.specs.declared.class.Want.TheVariants as want
+use Rattle.proto_tree.specs.declared.class.Expected.TheVariants as want
 use Rattle.proto_tree.specs.declared.tree.Behind.{Behind}
 use Rattle.proto_tree.specs.declared.tree.Separated.{Separated}
 use Rattle.proto_tree.specs.declared.tree.FieldType.{FieldType}

@@ -2,8 +2,8 @@
 use Rattle.std.proofs.Common.{◌≡◌, ℕ, suc, ◌+◌, ◌<◌, ◌≤◌, List, [], ◌∷◌, ◌++◌, length, refl, ap, subst, inl, inr, arith, length-append, Contains}
 use Rattle.proto_tree.specs.declared.class.Class.{Class}
 use Rattle.proto_tree.specs.declared.class.Class.TheVariants as class
-use Rattle.proto_tree.specs.declared.class.Want.{Want}
-use Rattle.proto_tree.specs.declared.class.Want.TheVariants as want
+use Rattle.proto_tree.specs.declared.class.Expected.{Expected}
+use Rattle.proto_tree.specs.declared.class.Expected.TheVariants as want
 use Rattle.proto_tree.specs.declared.piece.Statement.{Statement}
 use Rattle.proto_tree.specs.declared.piece.Heading.{Heading}
 use Rattle.proto_tree.specs.declared.piece.Header.{Header}
@@ -13,7 +13,7 @@ use Rattle.proto_names_rules.proofs.RisingLists.{Spreads}
 
 module _ (W R S : ℕ → Type 0) where
   -- what is known of a token by what its place wants: W of a name, R of a word of a reference, S of a string
-  abbrev pub Known : Want → ℕ → Type 0
+  abbrev pub Known : Expected → ℕ → Type 0
   Known (want.One class.Name) i = R i
   Known want.Word i = R i
   Known want.Name i = W i

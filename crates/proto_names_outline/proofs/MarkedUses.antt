@@ -2,7 +2,7 @@
 use Rattle.std.proofs.Common.{◌≡◌, ℕ, ◌+◌, ◌<◌, ◌≤◌, Bool, true, false, List, [], ◌∷◌, ◌++◌, length, get_or, map, Option, Some, None, is_some, refl, sym, ap, subst, ◌∙◌, inl, inr, arith, length-append, All, AllPairs, Contains}
 use Rattle.proto_base.proofs.Common.{AllByRecursion, All-nil, All-cons, All-weaker, Contains-append_right, AllPairs-cons, contains_cases, contains_head}
 use Rattle.proto_tree.specs.declared.class.Class.TheVariants as class
-use Rattle.proto_tree.specs.declared.class.Want.TheVariants as want
+use Rattle.proto_tree.specs.declared.class.Expected.TheVariants as want
 use Rattle.proto_tree.specs.declared.tree.Behind.{Behind}
 use Rattle.proto_tree.specs.declared.tree.Separated.{Separated}
 use Rattle.proto_tree.specs.declared.tree.Reference.{Reference}

@@ -9,8 +9,8 @@ use Rattle.proto_text.specs.declared.lexer.Token.{Token}
 use Rattle.proto_text.proofs.Common.{EachByte, class_of, extends_word, is_identifier, IsRun, IsLexeme, IsString, word_at, words, Lexeme, lexeme_at, tokens_are_lexemes}
 use Rattle.proto_tree.specs.declared.class.Class.{Class}
 use Rattle.proto_tree.specs.declared.class.Class.TheVariants as class
-use Rattle.proto_tree.specs.declared.class.Want.{Want}
-use Rattle.proto_tree.specs.declared.class.Want.TheVariants as want
+use Rattle.proto_tree.specs.declared.class.Expected.{Expected}
+use Rattle.proto_tree.specs.declared.class.Expected.TheVariants as want
 use Rattle.proto_tree.proofs.Common.{is_word, is_text, fits, Mark, Reads, Tree, flat, Listed, class_in, marks, class_by, trees_are_numbered, marks_fit, word_is_word, words_only, place_of_word}
 use Rattle.proto_names_outline.specs.Common.{Wanted, items_in, imports_in, file_names, whole, last_token, package_first}
 use Rattle.proto_names_rules.proofs.Common.{IsPlain, ArePlain, Token as TokenOf, Used, Placed, ItemsSpan, package_of, file_placed, rising_each, rising_pairs}
@@ -100,7 +100,7 @@ module _ (text : List ℕ) (tokens : List Token) (tree : Tree) (reads : Reads te
     as_text : is_text (class_by l.kind l.text) ≡ true → S m.at
     as_text h = subst IsString (sym text_is) (subst (λ (k : TokenKind). IsLexeme (Solid k) l.text) (text_only l.kind l.text h) lexeme)
 
-    as_wanted : (w : Want) → fits w (class_by l.kind l.text) ≡ true → Known W W S w m.at
+    as_wanted : (w : Expected) → fits w (class_by l.kind l.text) ≡ true → Known W W S w m.at
     as_wanted (want.One class.Name) f = as_word (place_of_word (want.One class.Name) class.Name (class_by l.kind l.text) refl f refl)
     as_wanted want.Word f = as_word f
     as_wanted want.Name f = as_word f

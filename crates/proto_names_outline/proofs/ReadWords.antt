@@ -8,8 +8,8 @@ use Rattle.proto_text.specs.declared.kind.TokenKind.TheVariants.{Word}
 use Rattle.proto_text.specs.declared.lexer.Token.{Token}
 use Rattle.proto_text.proofs.Common.{IsRun, IsLexeme, word_at, words, Lexeme, lexeme_at, tokens_are_lexemes}
 use Rattle.proto_tree.specs.declared.class.Class.TheVariants as class
-use Rattle.proto_tree.specs.declared.class.Want.{Want}
-use Rattle.proto_tree.specs.declared.class.Want.TheVariants as want
+use Rattle.proto_tree.specs.declared.class.Expected.{Expected}
+use Rattle.proto_tree.specs.declared.class.Expected.TheVariants as want
 use Rattle.proto_tree.proofs.Common.{is_word, fits, Mark, Reads, Tree, flat, class_by, trees_are_numbered, marks_fit, words_only, place_of_word}
 use Rattle.proto_names_outline.specs.Common.{items_in, whole, last_token}
 use Rattle.proto_names_rules.specs.Tree.{Placed, file_placed}
@@ -44,7 +44,7 @@ module _ (text : List ℕ) (tokens : List Token) (tree : Tree) (reads : Reads te
         subst (IsRun Letter) (sym (word_is (map (lexeme_at text) tokens) m.at other fit.0))
         (subst (λ (k : TokenKind). IsLexeme (Solid k) l.text) (words_only l.kind l.text h) lexeme)
 
-    as_wanted : (w : Want) → fits w (class_by l.kind l.text) ≡ true → Known W W S w m.at
+    as_wanted : (w : Expected) → fits w (class_by l.kind l.text) ≡ true → Known W W S w m.at
     as_wanted (want.One class.Name) f = as_word (place_of_word (want.One class.Name) class.Name (class_by l.kind l.text) refl f refl)
     as_wanted want.Word f = as_word f
     as_wanted want.Name f = as_word f

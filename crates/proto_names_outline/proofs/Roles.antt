@@ -3,8 +3,8 @@ use Rattle.std.proofs.Common.{◌≡◌, ℕ, List, length, map, refl, ap, arith
 use Rattle.std.proofs.lemmas.List.Elements.{All-contains, All-from_recursion}
 use Rattle.proto_text.specs.Tokens.{Lexeme}
 use Rattle.proto_tree.specs.declared.class.Class.TheVariants as class
-use Rattle.proto_tree.specs.declared.class.Want.{Want}
-use Rattle.proto_tree.specs.declared.class.Want.TheVariants as want
+use Rattle.proto_tree.specs.declared.class.Expected.{Expected}
+use Rattle.proto_tree.specs.declared.class.Expected.TheVariants as want
 use Rattle.proto_tree.proofs.Common.{Mark, HasRole, Role, names, refers, role_of, Tree, Spells, flat, classes, trees_are_numbered, roles_are_one}
 use Rattle.proto_names_rules.proofs.Common.{Token, package_of}
 use Rattle.proto_names_outline.specs.FromTree.{file_names, items_in}
@@ -28,7 +28,7 @@ module _ (tree : Tree) (ls : List Lexeme) (spells : Spells tree (classes 0 ls)) 
   known : (m : Mark) → Contains (flat tree) m → Known N R S m.want m.at
   known m c = by m.want refl
     where
-      by : (w : Want) → m.want ≡ w → Known N R S w m.at
+      by : (w : Expected) → m.want ≡ w → Known N R S w m.at
       by (want.One class.Name) e = (m, c, refl, ap role_of e)
       by want.Word e = (m, c, refl, ap role_of e)
       by want.Name e = (m, c, refl, ap role_of e)

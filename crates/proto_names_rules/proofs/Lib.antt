@@ -25,7 +25,7 @@ pub mod Seeing
 pub mod Shifted
 mod Sight
 pub mod Sound
-mod Spared
+mod Unaffected
 pub mod Still
 pub mod Symbols
 pub mod Tree

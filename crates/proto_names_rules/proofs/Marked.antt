@@ -3,7 +3,7 @@ use Rattle.std.proofs.Common.{◌≡◌, ℕ, Bool, true, false, List, ◌++◌,
 use Rattle.proto_base.proofs.Common.{both_ways, cases_Bool}
 use Rattle.proto_names_rules.proofs.Common.{AreApart, IsLinked, IsNested, Reference, Workspace, front_or_same, has_meaning, meaning}
 use Rattle.proto_names_rules.proofs.Kept.{flawless_stay, meanings_are_kept}
-use Rattle.proto_names_rules.proofs.Spared.{keys_tell, spared_are_kept}
+use Rattle.proto_names_rules.proofs.Unaffected.{keys_tell, unaffected_are_kept}
 use Rattle.proto_names_rules.specs.Kept.{DifferAt, IsFlawless, IsKeptReference}
 use Rattle.proto_names_rules.specs.Marked.{AreMarked, IsScopeOf, IsUnmarked, MarkedDecide, ScopesAreOwn, UnmarkedMeanTheSame}
 
@@ -22,7 +22,7 @@ module _ (key : List ℕ → ℕ) (places : List ℕ) (w v : Workspace) (marks :
   not_edited file left there = both_ways (get_or marks file false) left (are.edited file there)
 
   kept : (r : Reference) (m : List (List ℕ)) → Contains w.references r → Contains v.references r → IsUnmarked marks r.file → meaning w r ≡ Some m → IsKeptReference w v r m
-  kept r m c now left h = spared_are_kept places w v differ r m (keys_tell key places w v r m (record {
+  kept r m c now left h = unaffected_are_kept places w v differ r m (keys_tell key places w v r m (record {
     not_hidden = λ s cs n ty was. are.none_hidden r s c left (h ∙ some_name n) cs ty was;
     none_shown = λ s front back last first rest cs seen before outer whole n words same. (
       are.none_shown r first rest c left words s front last cs seen before outer n same (front_of_scope v nested r.file front back r.scope whole (own r now)),

@@ -66,7 +66,7 @@ Declares w file s =
 -- is declared there still; of these files no symbol is new that its first word might stand for,
 -- below a front of its scope; and of files that its file sees and did not see, each such symbol is
 -- one that its own file, which is at none of these places, declares too
-pub record IsSpared (places : List ℕ) (w v : Workspace) (r : Reference) (m : Name)
+pub record IsUnaffected (places : List ℕ) (w v : Workspace) (r : Reference) (m : Name)
     : Type 0 where
   pub not_hidden : (s : Symbol) → Contains w.symbols s → s.name ≡ m → is_type s.kind ≡ true
       → sees w r.file s.file ≡ true → sees v r.file s.file ≡ true
@@ -81,17 +81,17 @@ pub record IsSpared (places : List ℕ) (w v : Workspace) (r : Reference) (m : N
       → Contains places s.file → front ++ back ≡ r.scope → s.name ≡ front ++ take 1 r.words
       → fits_at_first r.words s.kind ≡ true → Contains w.symbols s
 
--- a spared reference is kept
-abbrev pub SparedAreKept : Type 0
-SparedAreKept =
+-- an unaffected reference is kept
+abbrev pub UnaffectedAreKept : Type 0
+UnaffectedAreKept =
     (places : List ℕ) (w v : Workspace) → DifferAt places w v → (r : Reference) (m : Name)
-    → IsSpared places w v r m → IsKeptReference w v r m
+    → IsUnaffected places w v r m → IsKeptReference w v r m
 
 -- the same by a key of each word, which is one number for one word: of files at these places no
 -- symbol that may hold names or be meant is new, below a front of its scope, whose last word has
 -- the key of the reference's first word; and of files that are newly seen there is no such one
 -- which its own file does not declare too
-pub record IsSparedByKeys (key : Word → ℕ) (places : List ℕ) (w v : Workspace) (r : Reference)
+pub record IsUnaffectedByKeys (key : Word → ℕ) (places : List ℕ) (w v : Workspace) (r : Reference)
     (m : Name) : Type 0 where
   pub not_hidden : (s : Symbol) → Contains w.symbols s → s.name ≡ m → is_type s.kind ≡ true
       → sees w r.file s.file ≡ true → sees v r.file s.file ≡ true
@@ -107,11 +107,11 @@ pub record IsSparedByKeys (key : Word → ℕ) (places : List ℕ) (w v : Worksp
       → front ++ back ≡ r.scope → s.name ≡ front ++ last ∷ [] → r.words ≡ first ∷ rest
       → key last ≡ key first → Contains w.symbols s
 
--- keys tell which references are spared
+-- keys tell which references are unaffected
 abbrev pub KeysTell : Type 0
 KeysTell =
     (key : Word → ℕ) (places : List ℕ) (w v : Workspace) (r : Reference) (m : Name)
-    → IsSparedByKeys key places w v r m → IsSpared places w v r m
+    → IsUnaffectedByKeys key places w v r m → IsUnaffected places w v r m
 
 -- of files at these places the symbols that may hold names or be meant are the same in both
 -- workspaces: fields, fields of entries, oneofs, values, methods and extensions may differ
@@ -121,9 +121,9 @@ pub record DifferInLeaves (places : List ℕ) (w v : Workspace) : Type 0 where
   pub none_new : (s : Symbol) → Contains v.symbols s → Contains places s.file
       → is_outer s.kind ≡ true → Contains w.symbols s
 
--- then each reference is spared whose file sees what it saw
+-- then each reference is unaffected whose file sees what it saw
 abbrev pub LeavesSpareAll : Type 0
 LeavesSpareAll =
     (places : List ℕ) (w v : Workspace) → DifferInLeaves places w v
     → (r : Reference) (m : Name) → ((g : ℕ) → sees v r.file g ≡ sees w r.file g)
-    → IsSpared places w v r m
+    → IsUnaffected places w v r m

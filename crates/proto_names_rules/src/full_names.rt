@@ -6,7 +6,7 @@ ghost use Rattle.proto_names_rules.specs.Joined.{below};
 use proto_base::NoMemory;
 use std::alloc::Global;
 
-/// The name of a word right below a scope: behind it and a dot. Only want of memory is refused.
+/// The name of a word right below a scope: behind it and a dot. Fails only when out of memory.
 pub fn below(alloc: Global, scope: &str, word: &str) -> Result<String, NoMemory>
     ensures { IfOk result (λ name. string_bytes name ≡ below scope.now word.now) }
 {

@@ -1,7 +1,7 @@
 //! The laws, as functions that do nothing.
 
 ghost use Rattle.proto_names_rules.specs.Beginnings.{CapturesBeginSo, ScopesAreDeclared};
-ghost use Rattle.proto_names_rules.specs.Kept.{FlawlessStay, KeysTell, LeavesSpareAll, MeaningsAreKept, SparedAreKept};
+ghost use Rattle.proto_names_rules.specs.Kept.{FlawlessStay, KeysTell, LeavesSpareAll, MeaningsAreKept, UnaffectedAreKept};
 ghost use Rattle.proto_names_rules.specs.Marked.{UnmarkedMeanTheSame, MarkedDecide};
 ghost use Rattle.proto_names_rules.specs.Sight.{SightIsKept, SightIsTested};
 
@@ -14,11 +14,11 @@ pub fn meanings_are_kept()
 {}
 
 /// Where some files are edited, a reference of another file is kept if what they declare passes two
-/// tests, and what its file sees no more and newly sees two others (`spared`), which rows of names
-/// and keys of words can tell (`keys`). Fields, oneofs, values, methods and extensions may come and
-/// go (`leaves`).
-pub fn references_are_spared()
-    ensures spared { SparedAreKept }
+/// tests, and what its file sees no more and newly sees two others (`unaffected`), which rows of
+/// names and keys of words can tell (`keys`). Fields, oneofs, values, methods and extensions may
+/// come and go (`leaves`).
+pub fn references_are_unaffected()
+    ensures unaffected { UnaffectedAreKept }
     ensures keys { KeysTell }
     ensures leaves { LeavesSpareAll }
 {}

@@ -19,7 +19,7 @@ use Rattle.proto_names_table.specs.declared.filling.NameError.TheVariants.{Clash
 use Rattle.proto_names_table.specs.Tables.{AreDeclared, names_of}
 use Rattle.proto_names_table.specs.Resolved.{IsIndexOf, IsTaken}
 
--- the error is the least clash, or want of memory
+-- the error is the least clash, or out of memory
 abbrev pub IsNameError : (Fault → Type 0) → NameError → Type 0
 IsNameError Says (Clash file token) = IsLeast Says (fault (at file token) 13)
 IsNameError Says NoMemory = Unit {0}
@@ -95,7 +95,7 @@ pub record IsRowOf (old new : Table) (text : List ℕ) (symbol : Declaration) (r
   pub declared : (r : Row) → (get_or new.rows.items row r).is_declared ≡ true
   pub new_or_package : IsNewOrPackage old new symbol row
 
--- the error is a clash of the symbol, whose name is taken, or want of memory
+-- the error is a clash of the symbol, whose name is taken, or out of memory
 abbrev pub IsClashAt : Table → List ℕ → Declaration → NameError → Type 0
 IsClashAt t text symbol (Clash file token) =
     (file ≡ symbol.file) × (token ≡ symbol.token) × IsTaken t text symbol

@@ -22,7 +22,7 @@ use std::alloc::{AllocError, AllocFailed, Global};
 use std::mem::replace;
 
 // No `OrNoMemory`: a struct of the two fields of a clash would have no other use.
-/// Why names are not declared: the first clash, or want of memory.
+/// Why names are not declared: the first clash, or out of memory.
 #[derive(Drop)]
 pub enum NameError {
     /// A full name is taken: the clash that comes first by file and token, by the number of its

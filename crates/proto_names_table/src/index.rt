@@ -22,8 +22,8 @@ pub struct Index {
     pub rows: IndexSet<Below>,
 }
 
-/// The number of a word, which is put behind the others where it is new. Refused for want of memory
-/// alone; then the words stay as they were.
+/// The number of a word, which is put behind the others where it is new. Fails only when out of
+/// memory; then the words stay as they were.
 fn number(alloc: Global, words: &mut IndexSet<String>, word: &str) -> Result<usize, NoMemory>
     ensures found { IfOk result (λ k. word_place words.new.keys word.now ≡ Some k) }
     ensures old_or_new { IfOk result (λ k. (words.new.keys ≡ words.old.keys)
@@ -53,7 +53,7 @@ impl Index {
         self.rows.get_index_of(&Below { above, word })
     }
 
-    /// A new row, behind the others. Refused for want of memory alone; then nothing has changed.
+    /// A new row, behind the others. Fails only when out of memory; then nothing has changed.
     pub(crate) fn add(&mut self, alloc: Global, above: usize, word: &str) -> Result<(), NoMemory>
         requires new { look_in self.old above word.now ≡ None }
         requires words { HasWords self.old }
@@ -81,7 +81,7 @@ impl Index {
         self.rows.truncate(rows);
     }
 
-    /// The same words, as texts of its own, and the same rows. Refused for want of memory alone.
+    /// The same words, as texts of its own, and the same rows. Fails only when out of memory.
     pub(crate) fn copy(&self, alloc: Global) -> Result<Index, NoMemory>
         ensures { IfOk result (AreSameKeys self.now) }
     {

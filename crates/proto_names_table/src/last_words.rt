@@ -30,8 +30,8 @@ fn last_word<'a>(alloc: Global, words: &Words<'a>, entry: &Listed) -> Result<Cow
     }
 }
 
-/// The declarations of a file, in their order, with their last words. Refused for want of memory
-/// alone.
+/// The declarations of a file, in their order, with their last words. Fails only when out of
+/// memory.
 pub fn spelled_names<'a>(
     alloc: Global,
     words: &Words<'a>,

@@ -76,7 +76,7 @@ impl Row {
         self.is_declared
     }
 
-    /// The same row, with texts and files of its own. Refused for want of memory alone.
+    /// The same row, with texts and files of its own. Fails only when out of memory.
     fn copy(&self, alloc: Global) -> Result<Row, NoMemory>
         ensures { IfOk result (λ row. row_of row ≡ row_of self.now) }
     {
@@ -93,7 +93,7 @@ impl Row {
     }
 }
 
-/// The same rows in the same order. Refused for want of memory alone.
+/// The same rows in the same order. Fails only when out of memory.
 fn copied_rows(alloc: Global, rows: &[Row]) -> Result<Vec<Row>, NoMemory>
     ensures { IfOk result (λ copy. map row_of copy.items ≡ map row_of rows.now) }
 {
@@ -280,7 +280,7 @@ impl Table {
 
     /// Declares a symbol by the number of the name above it; answers the index of its row, which is
     /// the old one where its name was declared before. Packages alone share a name: none for
-    /// another symbol whose name is taken. Refused for want of memory alone. Where it declares
+    /// another symbol whose name is taken. Fails only when out of memory. Where it declares
     /// nothing, the table stays as it was. `cut_back` and `put_back` take back what it changes, but
     /// for a further file of a package: what keeps a log finds packages and does not declare them.
     pub fn declare(
@@ -315,7 +315,7 @@ impl Table {
     }
 
     /// Declares a symbol in the row that its name has; answers the row, or none where the name is
-    /// taken. Refused for want of memory alone. Where it declares nothing, the table stays as it
+    /// taken. Fails only when out of memory. Where it declares nothing, the table stays as it
     /// was.
     fn declare_again(&mut self, row: usize, symbol: Symbol) -> Result<Option<usize>, NoMemory>
         requires table { IsTable self.old }
@@ -340,7 +340,7 @@ impl Table {
     }
 
     /// Declares a symbol in a row that a file declares: a package's in that of a package, and no
-    /// other, for which it answers none. Refused for want of memory alone. Where it declares
+    /// other, for which it answers none. Fails only when out of memory. Where it declares
     /// nothing, the table stays as it was.
     fn share(&mut self, row: usize, symbol: Symbol) -> Result<Option<usize>, NoMemory>
         requires table { IsTable self.old }
@@ -365,8 +365,8 @@ impl Table {
         }
     }
 
-    /// A new row below the name with this number; answers its index. Refused for want of memory
-    /// alone; then the table stays as it was.
+    /// A new row below the name with this number; answers its index. Fails only when out of
+    /// memory; then the table stays as it was.
     pub(crate) fn add(
         &mut self,
         alloc: Global,
@@ -466,7 +466,7 @@ impl Table {
         self.below.cut_back(words, rows);
     }
 
-    /// The same table, with rows of its own. Refused for want of memory alone.
+    /// The same table, with rows of its own. Fails only when out of memory.
     pub fn copy(&self, alloc: Global) -> Result<Table, NoMemory>
         ensures alike { IfOk result (AreAlike self.now) }
         ensures table { IfOk result (λ copy. IsTable self.now → IsTable copy) }

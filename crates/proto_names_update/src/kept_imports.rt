@@ -17,7 +17,7 @@ use proto_names_outline::wanted::imports as wanted_imports;
 use std::alloc::Global;
 
 /// Whether the files at these places import what they imported, given the imports of each file
-/// before. Refused for want of memory alone.
+/// before. Fails only when out of memory.
 pub fn all_imports_kept(
     alloc: Global,
     files: &Files,
@@ -44,7 +44,7 @@ pub fn all_imports_kept(
 }
 
 /// Whether the file at a place has these imports, in this order, by the numbers of the files that
-/// they name. Not so where one names no file, or a file again. Refused for want of memory alone.
+/// they name. Not so where one names no file, or a file again. Fails only when out of memory.
 pub fn are_imports_kept(
     alloc: Global,
     files: &Files,
@@ -66,8 +66,8 @@ pub fn are_imports_kept(
 }
 
 /// The imports of the files at these places, one file's behind the other's, by the numbers of the
-/// files that they name. None where one names no file, or a file again. Refused for want of memory
-/// alone.
+/// files that they name. None where one names no file, or a file again. Fails only when out of
+/// memory.
 pub fn imports_at(
     alloc: Global,
     files: &Files,
@@ -94,7 +94,7 @@ pub fn imports_at(
 }
 
 /// The imports of a file, by the numbers of the files that they name, in the order in which they
-/// are written. None where one names no file, or a file again. Refused for want of memory alone.
+/// are written. None where one names no file, or a file again. Fails only when out of memory.
 pub fn file_imports(
     alloc: Global,
     files: &Files,

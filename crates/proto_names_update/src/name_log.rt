@@ -54,7 +54,7 @@ impl NameLog {
         }
     }
 
-    /// Notes what declares a row, which may then be changed. Refused for want of memory alone.
+    /// Notes what declares a row, which may then be changed. Fails only when out of memory.
     pub(crate) fn note(&mut self, table: &Table, row: usize) -> Result<(), NoMemory>
         requires fits { Fits self.old table.now }
         requires within { row < length table.now.rows.items }

@@ -24,8 +24,8 @@ use proto_names_table::spelled::Spelled;
 use proto_names_table::table::{Row, Symbol, Table};
 use std::alloc::Global;
 
-/// Takes the declaration of each of these rows away that is no package's. Refused for want of
-/// memory alone; then some of them may be taken, and the log tells which.
+/// Takes the declaration of each of these rows away that is no package's. Fails only when out
+/// of memory; then some of them may be taken, and the log tells which.
 pub fn forget_all(table: &mut Table, log: &mut NameLog, rows: &[usize]) -> Result<(), NoMemory>
     requires table { IsTable table.old }
     requires fits { Fits log.old table.old }
@@ -64,7 +64,7 @@ fn forget(table: &mut Table, log: &mut NameLog, row: usize) -> Result<(), NoMemo
 
 /// Declares what a file declares; answers the row of each declaration. The rows of its packages
 /// have to be there, with this file among theirs. None where one is not, and where another name is
-/// taken. Refused for want of memory alone. Where it declares not all, some of it may be declared,
+/// taken. Fails only when out of memory. Where it declares not all, some of it may be declared,
 /// and the log tells which.
 pub fn declare_all_again(
     alloc: Global,

@@ -25,7 +25,7 @@ use std::alloc::Global;
 /// Puts the names of the files at these places into the table, in place of those that they had
 /// there, given the rows of each file's declarations; answers the rows of the files at these
 /// places. None where a file's packages are others than before, where a name is taken, and where a
-/// place stands twice. Refused for want of memory alone. Where it answers no rows, some of the
+/// place stands twice. Fails only when out of memory. Where it answers no rows, some of the
 /// names may be changed, and the log tells which.
 pub fn renew_names(
     alloc: Global,
@@ -52,8 +52,8 @@ pub fn renew_names(
     declare_places(alloc, table, log, files, places, rows)
 }
 
-/// Takes the declarations of the files at these places away that are no package's. Refused for want
-/// of memory alone; then some of them may be taken.
+/// Takes the declarations of the files at these places away that are no package's. Fails only when
+/// out of memory; then some of them may be taken.
 fn forget_places(
     table: &mut Table,
     log: &mut NameLog,
@@ -78,7 +78,7 @@ fn forget_places(
 
 /// Declares what the files at these places declare, given the rows of each file's declarations
 /// before; answers theirs. None where one of the files has a package less or more, and where a name
-/// is taken. Refused for want of memory alone. Where it answers no rows, some may be declared.
+/// is taken. Fails only when out of memory. Where it answers no rows, some may be declared.
 fn declare_places(
     alloc: Global,
     table: &mut Table,
@@ -114,8 +114,8 @@ fn declare_places(
 }
 
 /// Declares what a file declares, given the rows of its declarations before; answers the rows. None
-/// where it has a package less or more, and where a name is taken. Refused for want of memory
-/// alone. Where it answers no rows, some may be declared.
+/// where it has a package less or more, and where a name is taken. Fails only when out of
+/// memory. Where it answers no rows, some may be declared.
 fn declare_file(
     alloc: Global,
     table: &mut Table,
@@ -143,7 +143,7 @@ fn declare_file(
     }
 }
 
-/// What a file declares, with last words. Refused for want of memory alone.
+/// What a file declares, with last words. Fails only when out of memory.
 fn spelled_file<'a>(
     alloc: Global,
     files: &'a Files,

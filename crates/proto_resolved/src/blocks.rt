@@ -70,8 +70,8 @@ fn push_item<'a>(found: &mut Vec<BlockAt<'a>>, item: &'a Item) -> Result<(), NoM
     Ok(())
 }
 
-/// The messages, oneofs, enums and `extend` blocks of a file, each before those in it. Fails for
-/// want of memory alone.
+/// The messages, oneofs, enums and `extend` blocks of a file, each before those in it. Fails only
+/// when out of memory.
 pub fn blocks_of<'a>(alloc: Global, file: &'a File) -> Result<Vec<BlockAt<'a>>, NoMemory>
     ensures { IfOk result (λ found. map block_of found.items ≡ holders_in (tree_of_file file.now)) }
 {

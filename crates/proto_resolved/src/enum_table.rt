@@ -148,8 +148,8 @@ pub fn is_proto3_file(files: &Files, file: u32) -> bool
     is_proto3(&Words::new(files, file), files.tree(file))
 }
 
-/// The enums of the file with this number, by the tokens of their names. Refused for want of memory
-/// alone.
+/// The enums of the file with this number, by the tokens of their names. Fails only when out of
+/// memory.
 pub fn enums_of_file<'a>(
     alloc: Global,
     files: &'a Files,
@@ -182,8 +182,8 @@ fn enums_if_marked<'a>(
 }
 
 /// The enums of the marked files: for each of these, in the order of their paths, what is read of
-/// each of its enums, by the token of its name; nothing for another file. Refused for want of memory
-/// alone.
+/// each of its enums, by the token of its name; nothing for another file. Fails only when out of
+/// memory.
 pub fn enum_table_of<'a>(
     alloc: Global,
     files: &'a Files,

@@ -7,4 +7,4 @@ pub mod enum_table;
 pub mod scenes;
 
 pub use blocks::{BlockAt, blocks_of};
-pub use proto_names::{Link, MadeOfLink};
+pub use proto_names::{Derived, Link};

@@ -66,8 +66,8 @@ fn means<'a>(
 }
 
 /// The file with this number, from 0, as checks and descriptors read it. The link is that of the
-/// files, and the table has the enums that references of this file mean. Refused for want of memory
-/// alone.
+/// files, and the table has the enums that references of this file mean. Fails only when out of
+/// memory.
 pub fn scene<'a>(
     alloc: Global,
     files: &'a Files,
@@ -87,7 +87,7 @@ pub fn scene<'a>(
 }
 
 /// Each file as checks and descriptors read it, in the order of their paths. The link is that of
-/// the files, and the table is of their enums. Refused for want of memory alone.
+/// the files, and the table is of their enums. Fails only when out of memory.
 pub fn scenes<'a>(
     alloc: Global,
     files: &'a Files,

@@ -1,5 +1,5 @@
-//! Want of memory: nothing has changed then, and the same call again answers as if it had not come. In a run that refuses
-//! one allocation this test still passes, whichever it is.
+//! Out of memory: nothing has changed then, and the same call again answers as if it had not come.
+//! In a run that refuses one allocation this test still passes, whichever it is.
 
 use crate::calls::*;
 use proto_base::{NoMemory, SchemaFault};

@@ -22,14 +22,14 @@ lex_name OpenString = codes "OpenString"
 lex_name BadEscape = codes "BadEscape"
 lex_name BadNumber = codes "BadNumber"
 
--- where a fault stands, in bytes from 0; a fault of the whole text, and want of memory, stand at 0
+-- where a fault stands, in bytes from 0; a fault of the whole text, and out of memory, stand at 0
 abbrev pub text_offset : TextFault → ℕ
 text_offset TooLarge = 0
 text_offset NotUtf8 = 0
 text_offset (At offset fault) = offset
 text_offset NoMemory = 0
 
--- the number of a fault of a text, from 1 to 7; 0 for want of memory
+-- the number of a fault of a text, from 1 to 7; 0 when out of memory
 abbrev pub text_number : TextFault → ℕ
 text_number TooLarge = 1
 text_number NotUtf8 = 2

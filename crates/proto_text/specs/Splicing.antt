@@ -29,7 +29,7 @@ IsApplied text es (Err TooLarge) = (new : List ℕ) × Puts 0 text es new × (te
 IsApplied text es (Err Disorder) = ⊥
 IsApplied text es (Err NoMemory) = Unit {0}
 
--- the number of a fault of splices, from 1 to 3; 0 for want of memory: the table of this product
+-- the number of a fault of splices, from 1 to 3; 0 when out of memory: the table of this product
 abbrev pub splice_number : SpliceFault → ℕ
 splice_number Stale = 1
 splice_number TooLarge = 2

@@ -168,8 +168,8 @@ fn has_backslash(bytes: &[u8]) -> bool
     bytes.iter().any(|b| *b == b'\\')
 }
 
-/// The bytes that the text between the quotes stands for, if each escape is allowed. Refused for
-/// want of memory alone.
+/// The bytes that the text between the quotes stands for, if each escape is allowed. Fails only
+/// when out of memory.
 pub fn decoded_bytes(alloc: Global, body: &[u8]) -> Result<Option<Vec<u8>>, NoMemory>
     ensures { IfOk result (λ found. MatchOption found
         ((all : List ℕ) → Means body.now all → ⊥)
@@ -202,8 +202,8 @@ fn is_utf8(bytes: &[u8]) -> bool
     }
 }
 
-/// Whether each escape is allowed, and what the text stands for is UTF-8. Refused for want of
-/// memory alone; a text without escapes takes none.
+/// Whether each escape is allowed, and what the text stands for is UTF-8. Fails only when out
+/// of memory; a text without escapes takes none.
 pub fn is_allowed(alloc: Global, body: &[u8]) -> Result<bool, NoMemory>
     ensures { IfOk result (λ allowed. IsTrue allowed ↔ IsAllowed body.now) }
 {

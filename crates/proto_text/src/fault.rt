@@ -98,7 +98,7 @@ impl fmt::Display for TextFault {
 }
 
 impl TextFault {
-    /// The place of the fault, in bytes from 0. A fault of the whole text, and want of memory,
+    /// The place of the fault, in bytes from 0. A fault of the whole text, and out of memory,
     /// stand at 0.
     pub fn offset(&self) -> u32
         ensures { result ≡ text_offset self.now }
@@ -109,7 +109,7 @@ impl TextFault {
         }
     }
 
-    /// The number of the fault, from 1 to 7; 0 for want of memory.
+    /// The number of the fault, from 1 to 7; 0 when out of memory.
     pub fn number(&self) -> u32
         ensures { result ≡ text_number self.now }
     {

@@ -75,7 +75,7 @@ fn tokens_of(alloc: Global, source: &Source) -> Result<Vec<Token>, TextFault>
 
 /// The tokens of the text, in order, each with the span of its text.
 /// A text that is not whole white space, comments and tokens is refused, at the first offset at
-/// which none begins that is whole and allowed; else it is refused for want of memory alone.
+/// which none begins that is whole and allowed; else it fails only when out of memory.
 pub fn lex(alloc: Global, source: &Source) -> Result<Vec<Token>, TextFault>
     // The text has pieces, and these are their tokens.
     ensures tokens { IfOk result (λ tokens. AreTokens source.now tokens.items) }

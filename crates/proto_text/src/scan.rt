@@ -160,7 +160,7 @@ fn raw_piece(bytes: &[u8]) -> Result<(PieceKind, usize), LexFault>
     scan_piece(bytes)
 }
 
-/// Why no piece was read: none that is whole and allowed begins there, or want of memory.
+/// Why no piece was read: none that is whole and allowed begins there, or out of memory.
 pub type Stop = OrNoMemory<LexFault>;
 
 fn is_text(kind: PieceKind) -> bool
@@ -173,7 +173,7 @@ fn is_text(kind: PieceKind) -> bool
 }
 
 /// The piece at the front of the bytes: its kind, and how many bytes it takes. Refused where none
-/// that is whole and allowed begins them, or for want of memory.
+/// that is whole and allowed begins them, or when out of memory.
 pub fn piece(alloc: Global, bytes: &[u8]) -> Result<(PieceKind, usize), Stop>
     requires some { 0 < length bytes.now }
     requires short { length bytes.now < 2 ^ 32 }

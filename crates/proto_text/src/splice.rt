@@ -56,7 +56,7 @@ impl SpliceFault {
         }
     }
 
-    /// The number of the fault, from 1 to 3; 0 for want of memory.
+    /// The number of the fault, from 1 to 3; 0 when out of memory.
     pub fn number(&self) -> u32
         ensures { result ≡ splice_number self.now }
     {
@@ -247,7 +247,7 @@ pub fn invert(splices: Splices) -> Splices
 
 /// The text with each old text replaced by the new one.
 /// It is refused as stale where an old text is not at its place, else as too large where the new
-/// text would pass 1,048,576 bytes; and for want of memory.
+/// text would pass 1,048,576 bytes; and when out of memory.
 pub fn apply_splices(alloc: Global, text: &[u8], splices: &Splices) -> Result<Vec<u8>, SpliceFault>
     ensures { IsApplied text.now splices.now result }
 {

@@ -71,7 +71,7 @@ pub fn stands_for(text: &str, value: &[u8]) -> bool
     is_value(text.as_bytes(), value)
 }
 
-/// The value of a string token, after its escapes. Refused for want of memory alone.
+/// The value of a string token, after its escapes. Fails only when out of memory.
 pub fn string_value(alloc: Global, text: &str) -> Result<String, NoMemory>
     requires { IsString text.now }
     ensures means { IfOk result (λ value. StandsFor text.now (string_bytes value)) }

@@ -1,7 +1,7 @@
 -- Readers that read exactly what is flattened (for the crates above).
 use Rattle.std.proofs.Common.{◌≡◌, ℕ, zero, suc, ◌≤◌, length, length-append, Bool, true, false, cond, List, [], ◌∷◌, ◌++◌, Option, Some, None, refl, sym, ap, subst, ◌∙◌, append_assoc, arith, ◌⊎◌, inl, inr, option_and_then, ◌&&◌, ◌||◌, not}
-use Rattle.proto_tree.specs.Common.{Class, Want, Lexeme, fits, Mark, mark, Fit, flat_option, flat_all, flat_behind, flat_from, flat_separated, Read, Reader, token, ◌then◌, made, starts, either, maybe, up_to, many, behind_at, from_at, separated_at}
-use Rattle.proto_tree.specs.declared.class.Want.TheVariants as want
+use Rattle.proto_tree.specs.Common.{Class, Expected, Lexeme, fits, Mark, mark, Fit, flat_option, flat_all, flat_behind, flat_from, flat_separated, Read, Reader, token, ◌then◌, made, starts, either, maybe, up_to, many, behind_at, from_at, separated_at}
+use Rattle.proto_tree.specs.declared.class.Expected.TheVariants as want
 use Rattle.proto_tree.proofs.Each.{each, each_is, and_left, and_right}
 
 -- ---- steps
@@ -65,29 +65,29 @@ pub record IsExact {A : Type 0} (loud : Class → Bool) (solid : Bool) (first st
   pub sound : (s : List Lexeme) (x : A) (r : List Lexeme) → read s ≡ Some (x, r) → (text : List Lexeme) × (s ≡ text ++ r) × Fit (flat x) text
   pub complete : (x : A) (text r : List Lexeme) → Fit (flat x) text → Stops stop r → read (text ++ r) ≡ Some (x, r)
 
-token_begins : (w : Want) (x : ℕ) (text : List Lexeme) → Fit (mark w x ∷ []) text → Begins true (fits w) text
+token_begins : (w : Expected) (x : ℕ) (text : List Lexeme) → Fit (mark w x ∷ []) text → Begins true (fits w) text
 token_begins w x [] h = h
 token_begins w x (l ∷ t) h = h.0
 
-pub token_sound : (w : Want) (s : List Lexeme) (x : ℕ) (r : List Lexeme) → token w s ≡ Some (x, r) → (text : List Lexeme) × (s ≡ text ++ r) × Fit (mark w x ∷ []) text
+pub token_sound : (w : Expected) (s : List Lexeme) (x : ℕ) (r : List Lexeme) → token w s ≡ Some (x, r) → (text : List Lexeme) × (s ≡ text ++ r) × Fit (mark w x ∷ []) text
 unfolding token
 token_sound w [] x r e = absurd cc
 token_sound w (l ∷ s) x r e =
     let g = cond_ok (fits w l.class) (l.at, s) (x, r) e in
     (l ∷ [], ap (λ (p : ℕ × List Lexeme). l ∷ p.1) g.1, (g.0, ap (λ (p : ℕ × List Lexeme). p.0) g.1, tt))
 
-pub token_complete : (w : Want) (x : ℕ) (text r : List Lexeme) → Fit (mark w x ∷ []) text → token w (text ++ r) ≡ Some (x, r)
+pub token_complete : (w : Expected) (x : ℕ) (text r : List Lexeme) → Fit (mark w x ∷ []) text → token w (text ++ r) ≡ Some (x, r)
 unfolding token
 token_complete w x [] r h = absurd h
 token_complete w x (l ∷ []) r h = rw (h.0, h.1) refl
 token_complete w x (l ∷ k ∷ t) r h = absurd h.2
 
-token_calm : (loud : Class → Bool) (w : Want) (x : ℕ) (text : List Lexeme) → ((c : Class) → fits w c ≡ true → loud c ≡ false) → Fit (mark w x ∷ []) text → Calm loud text
+token_calm : (loud : Class → Bool) (w : Expected) (x : ℕ) (text : List Lexeme) → ((c : Class) → fits w c ≡ true → loud c ≡ false) → Fit (mark w x ∷ []) text → Calm loud text
 token_calm loud w x [] b h = tt
 token_calm loud w x (l ∷ []) b h = (b l.class h.0, tt)
 token_calm loud w x (l ∷ k ∷ t) b h = absurd h.2
 
-pub token-exact : (loud : Class → Bool) (w : Want) → ((c : Class) → fits w c ≡ true → loud c ≡ false) → IsExact loud true (fits w) never (λ i. mark w i ∷ []) (token w)
+pub token-exact : (loud : Class → Bool) (w : Expected) → ((c : Class) → fits w c ≡ true → loud c ≡ false) → IsExact loud true (fits w) never (λ i. mark w i ∷ []) (token w)
 token-exact loud w b = record {
   begins = token_begins w;
   calm = λ x text h. token_calm loud w x text b h;
@@ -198,11 +198,11 @@ pub begins_right : (f g : Class → Bool) (t : List Lexeme) → Begins true g t 
 begins_right f g [] h = h
 begins_right f g (l ∷ t) h = or_right (f l.class) (g l.class) h
 
-pub starts_yes : (w : Want) (f : Class → Bool) (t r : List Lexeme) → ((c : Class) → f c ≡ true → fits w c ≡ true) → Begins true f t → starts w (t ++ r) ≡ true
+pub starts_yes : (w : Expected) (f : Class → Bool) (t r : List Lexeme) → ((c : Class) → f c ≡ true → fits w c ≡ true) → Begins true f t → starts w (t ++ r) ≡ true
 starts_yes w f [] r h b = absurd b
 starts_yes w f (l ∷ t) r h b = h l.class b
 
-pub starts_no : (w : Want) (f : Class → Bool) (t r : List Lexeme) → ((c : Class) → f c ≡ true → fits w c ≡ false) → Begins true f t → starts w (t ++ r) ≡ false
+pub starts_no : (w : Expected) (f : Class → Bool) (t r : List Lexeme) → ((c : Class) → f c ≡ true → fits w c ≡ false) → Begins true f t → starts w (t ++ r) ≡ false
 starts_no w f [] r h b = absurd b
 starts_no w f (l ∷ t) r h b = h l.class b
 
@@ -215,7 +215,7 @@ pub either_cases : {A : Type 0} (b : Bool) (x y z : A) → cond b x y ≡ z → 
 either_cases true x y z e = inl (refl, e)
 either_cases false x y z e = inr (refl, e)
 
-pub either-exact : {A B C : Type 0} (loud : Class → Bool) (w : Want) (first_p first_q stop_p stop_q : Class → Bool) (flat : C → List Mark)
+pub either-exact : {A B C : Type 0} (loud : Class → Bool) (w : Expected) (first_p first_q stop_p stop_q : Class → Bool) (flat : C → List Mark)
     (left : A → C) (p : Reader A) (right : B → C) (q : Reader B)
     → ((c : C) → IsMade left right c)
     → IsExact loud true first_p stop_p (λ x. flat (left x)) p → IsExact loud true first_q stop_q (λ x. flat (right x)) q
@@ -287,7 +287,7 @@ begins_if : (first : Class → Bool) (t : List Lexeme) → Begins true first t �
 begins_if first [] h = tt
 begins_if first (l ∷ t) h = h
 
-starts_stopped : (w : Want) (r : List Lexeme) → Stops (fits w) r → starts w r ≡ false
+starts_stopped : (w : Expected) (r : List Lexeme) → Stops (fits w) r → starts w r ≡ false
 starts_stopped w [] k = refl
 starts_stopped w (l ∷ r) k = k
 
@@ -295,7 +295,7 @@ pub no_text : (text : List Lexeme) → Fit [] text → [] ≡ text
 no_text [] h = refl
 no_text (l ∷ t) h = absurd h
 
-pub maybe-exact : {A : Type 0} (loud : Class → Bool) (w : Want) (first stop : Class → Bool) (flat : A → List Mark) (p : Reader A)
+pub maybe-exact : {A : Type 0} (loud : Class → Bool) (w : Expected) (first stop : Class → Bool) (flat : A → List Mark) (p : Reader A)
     → IsExact loud true first stop flat p → ((c : Class) → first c ≡ true → fits w c ≡ true)
     → IsExact loud false first (any_of (fits w) stop) (flat_option flat) (maybe w p)
 maybe-exact {A = A} loud w first stop flat p h only = record { begins = maybe_begins; calm = maybe_calm; sound = maybe_sound; complete = maybe_complete } where
@@ -327,7 +327,7 @@ pub solid_long : (first : Class → Bool) (t : List Lexeme) → Begins true firs
 solid_long first [] h = absurd h
 solid_long first (l ∷ t) h = omega arith
 
-module _ {A : Type 0} (loud : Class → Bool) (w : Want) (first stop : Class → Bool) (flat : A → List Mark) (p : Reader A) (h : IsExact loud true first stop flat p) (only : (c : Class) → first c ≡ true → fits w c ≡ true) (apart : (c : Class) → first c ≡ true → stop c ≡ false) where
+module _ {A : Type 0} (loud : Class → Bool) (w : Expected) (first stop : Class → Bool) (flat : A → List Mark) (p : Reader A) (h : IsExact loud true first stop flat p) (only : (c : Class) → first c ≡ true → fits w c ≡ true) (apart : (c : Class) → first c ≡ true → stop c ≡ false) where
   all_begins : (xs : List A) (text : List Lexeme) → Fit (flat_all flat xs) text → Begins false first text
   all_begins [] text fit = subst (λ t. Begins false first t) (no_text text fit) tt
   all_begins (x ∷ xs) text fit =
@@ -444,7 +444,7 @@ pub renamed : {A B : Type 0} {loud : Class → Bool} {solid : Bool} {first stop 
     → IsExact loud solid first stop (λ x. flat (f x)) p → IsExact loud solid first stop flat (made f p)
 renamed {loud = loud} {solid = solid} {first = first} {stop = stop} {p = p} flat f back law h = made-exact loud solid first stop flat f p back law h
 
-pub one_of : {A B C : Type 0} {loud : Class → Bool} (w : Want) {first_p first_q stop_p stop_q : Class → Bool} (flat : C → List Mark)
+pub one_of : {A B C : Type 0} {loud : Class → Bool} (w : Expected) {first_p first_q stop_p stop_q : Class → Bool} (flat : C → List Mark)
     (left : A → C) {p : Reader A} (right : B → C) {q : Reader B}
     → ((c : C) → IsMade left right c)
     → IsExact loud true first_p stop_p (λ x. flat (left x)) p → IsExact loud true first_q stop_q (λ x. flat (right x)) q
@@ -453,15 +453,15 @@ pub one_of : {A B C : Type 0} {loud : Class → Bool} (w : Want) {first_p first_
 one_of {loud = loud} w {first_p = first_p} {first_q = first_q} {stop_p = stop_p} {stop_q = stop_q} flat left {p = p} right {q = q} is_made hp hq a b =
     either-exact loud w first_p first_q stop_p stop_q flat left p right q is_made hp hq (within_is first_p (fits w) a) (apart_is first_q (fits w) b)
 
-pub if_any : {A : Type 0} {loud : Class → Bool} (w : Want) {first stop : Class → Bool} {flat : A → List Mark} {p : Reader A}
+pub if_any : {A : Type 0} {loud : Class → Bool} (w : Expected) {first stop : Class → Bool} {flat : A → List Mark} {p : Reader A}
     → IsExact loud true first stop flat p → within first (fits w) ≡ true → IsExact loud false first (any_of (fits w) stop) (flat_option flat) (maybe w p)
 if_any {loud = loud} w {first = first} {stop = stop} {flat = flat} {p = p} h a = maybe-exact loud w first stop flat p h (within_is first (fits w) a)
 
-pub all : {A : Type 0} {loud : Class → Bool} (w : Want) {first stop : Class → Bool} {flat : A → List Mark} {p : Reader A}
+pub all : {A : Type 0} {loud : Class → Bool} (w : Expected) {first stop : Class → Bool} {flat : A → List Mark} {p : Reader A}
     → IsExact loud true first stop flat p → within first (fits w) ≡ true → apart first stop ≡ true → IsExact loud false first (any_of (fits w) stop) (flat_all flat) (many w p)
 all {loud = loud} w {first = first} {stop = stop} {flat = flat} {p = p} h a b = many-exact loud w first stop flat p h (within_is first (fits w) a) (apart_is first stop b)
 
-pub tok : {loud : Class → Bool} (w : Want) → apart (fits w) loud ≡ true → IsExact loud true (fits w) never (λ i. mark w i ∷ []) (token w)
+pub tok : {loud : Class → Bool} (w : Expected) → apart (fits w) loud ≡ true → IsExact loud true (fits w) never (λ i. mark w i ∷ []) (token w)
 tok {loud = loud} w e = token-exact loud w (apart_is (fits w) loud e)
 
 -- a token and what follows it
@@ -508,5 +508,5 @@ either_made f left right true None o' = refl
 either_made f left right false o (Some x) = refl
 either_made f left right false o None = refl
 
-pub made_either : {X A B C : Type 0} (f : X → C) (left : A → X) (right : B → X) (w : Want) (p : Reader A) (q : Reader B) → made f (either w (made left p) (made right q)) ≡ either w (made (λ x. f (left x)) p) (made (λ x. f (right x)) q)
+pub made_either : {X A B C : Type 0} (f : X → C) (left : A → X) (right : B → X) (w : Expected) (p : Reader A) (q : Reader B) → made f (either w (made left p) (made right q)) ≡ either w (made (λ x. f (left x)) p) (made (λ x. f (right x)) q)
 made_either f left right w p q = λ i s. either_made f left right (starts w s) (p s) (q s) i

@@ -3,7 +3,7 @@ use Rattle.std.proofs.Common.{◌≡◌, ℕ, zero, suc, ◌+◌, ◌<◌, true,
 use Rattle.proto_base.proofs.Common.{get_or_default, Contains-append_left, Contains-append_right}
 use Rattle.proto_text.specs.Tokens.{Lexeme}
 use Rattle.proto_tree.specs.declared.class.Class.TheVariants as class
-use Rattle.proto_tree.specs.declared.class.Want.TheVariants as want
+use Rattle.proto_tree.specs.declared.class.Expected.TheVariants as want
 use Rattle.proto_tree.specs.Common.{Statement, Header, fits, Mark, mark, one, Fit, flat_statement, flat_header, End, Leaf, Block, flat, class_by, classes, Numbered, TreesAreNumbered, OneMark, MarksFit, EachTokenIsMarked, StatementsHaveMarks, HeadersHaveMarks}
 
 pub numbered_fit : (n : ℕ) (ms : List Mark) (ls : List Lexeme) → Fit ms (classes n ls) → Numbered n ms

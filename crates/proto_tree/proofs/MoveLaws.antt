@@ -1,8 +1,8 @@
 -- A moved tree has the moved marks (for the crates above).
 use Rattle.std.proofs.Common.{◌≡◌, ℕ, List, [], ◌∷◌, ◌++◌, map, Option, Some, None, refl, sym, ap, subst, ◌∙◌}
-use Rattle.proto_tree.specs.Common.{Class, Want, Separated, FieldType, Constant, Settings, RangeEnd, ReservedList, Statement, Header, Context, Mark, only, one, flat_option, flat_all, flat_behind, flat_from, flat_separated, flat_dotted, flat_words, flat_reference, flat_type, flat_signed, flat_joined, flat_constant, flat_setting, flat_settings, flat_option_statement, flat_syntax, flat_import, flat_package, flat_field, flat_map_field, flat_range_end, flat_up_to, flat_range, flat_ranges, flat_reserved_list, flat_reserved, flat_extensions, flat_value, flat_method_type, flat_signature, flat_statement, flat_extending, flat_header, Tree, End, Leaf, Block, flat, field_kind, statement_kind, header_kind, allows, after, inside, IsWellFormed, Move, move_extending, move_option, move_behind, move_separated, move_reference, move_type, move_signed, move_joined, move_constant, move_setting, move_settings, move_option_statement, move_syntax, move_import, move_package, move_field, move_map_field, move_range_end, move_up_to, move_range, move_reserved_list, move_reserved, move_extensions, move_value, move_method_type, move_signature, move_statement, move_header, move_tree, shift}
+use Rattle.proto_tree.specs.Common.{Class, Expected, Separated, FieldType, Constant, Settings, RangeEnd, ReservedList, Statement, Header, Context, Mark, only, one, flat_option, flat_all, flat_behind, flat_from, flat_separated, flat_dotted, flat_words, flat_reference, flat_type, flat_signed, flat_joined, flat_constant, flat_setting, flat_settings, flat_option_statement, flat_syntax, flat_import, flat_package, flat_field, flat_map_field, flat_range_end, flat_up_to, flat_range, flat_ranges, flat_reserved_list, flat_reserved, flat_extensions, flat_value, flat_method_type, flat_signature, flat_statement, flat_extending, flat_header, Tree, End, Leaf, Block, flat, field_kind, statement_kind, header_kind, allows, after, inside, IsWellFormed, Move, move_extending, move_option, move_behind, move_separated, move_reference, move_type, move_signed, move_joined, move_constant, move_setting, move_settings, move_option_statement, move_syntax, move_import, move_package, move_field, move_map_field, move_range_end, move_up_to, move_range, move_reserved_list, move_reserved, move_extensions, move_value, move_method_type, move_signature, move_statement, move_header, move_tree, shift}
 use Rattle.proto_tree.specs.declared.class.Class.TheVariants as class
-use Rattle.proto_tree.specs.declared.class.Want.TheVariants as want
+use Rattle.proto_tree.specs.declared.class.Expected.TheVariants as want
 use Rattle.proto_tree.specs.declared.tree.FieldType.TheVariants as field_type
 use Rattle.proto_tree.specs.declared.tree.Constant.TheVariants as constant
 use Rattle.proto_tree.specs.declared.tree.RangeEnd.TheVariants as range_end
@@ -27,7 +27,7 @@ module _ (g : Move) where
   seen_moved : {A B : Type 0} {flat_a : A → List Mark} {f : A → A} (flat : B → List Mark) (h : B → B) (view : B → A) → ((b : B) → flat_a (view b) ≡ flat b) → ((b : B) → f (view b) ≡ view (h b)) → IsMoved flat_a f → IsMoved flat h
   seen_moved {flat_a = flat_a} flat h view same moves m = record { law = λ b. sym (same (h b)) ∙ ap flat_a (sym (moves b)) ∙ m.law (view b) ∙ ap (map (shift g)) (same b) }
 
-  tok : (w : Want) → IsMoved (only w) g
+  tok : (w : Expected) → IsMoved (only w) g
   tok w = record { law = λ i. refl }
 
   the : (c : Class) → IsMoved (one c) g

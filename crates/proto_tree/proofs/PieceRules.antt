@@ -1,8 +1,8 @@
 -- Pieces, and the readers that read exactly these.
 use Rattle.std.proofs.Common.{◌≡◌, ℕ, Bool, true, false, List, [], ◌∷◌, ◌++◌, Option, Some, None, refl, sym, ap, subst, ◌∙◌, ◌⊎◌, inl, inr, ◌||◌, is_some}
-use Rattle.proto_tree.specs.Common.{Class, Want, Lexeme, Field, Signed, Signature, Heading, Extending, Header, Piece, fits, is_brace, Mark, mark, one, Fit, flat_signature, flat_extending, flat_heading, flat_header, flat_piece, Reader, ◌then◌, made, token, starts, either, extend_at, heading_at, block_start, stated, syntax_at, import_at, package_at, option_at, field_at, map_field_at, reserved_at, signed_at, extensions_at, value_at, signature_at, ending_at, method_piece, method_at, reference_at, extending_at, inner_piece_at, enum_piece_at}
+use Rattle.proto_tree.specs.Common.{Class, Expected, Lexeme, Field, Signed, Signature, Heading, Extending, Header, Piece, fits, is_brace, Mark, mark, one, Fit, flat_signature, flat_extending, flat_heading, flat_header, flat_piece, Reader, ◌then◌, made, token, starts, either, extend_at, heading_at, block_start, stated, syntax_at, import_at, package_at, option_at, field_at, map_field_at, reserved_at, signed_at, extensions_at, value_at, signature_at, ending_at, method_piece, method_at, reference_at, extending_at, inner_piece_at, enum_piece_at}
 use Rattle.proto_tree.specs.declared.class.Class.TheVariants as class
-use Rattle.proto_tree.specs.declared.class.Want.TheVariants as want
+use Rattle.proto_tree.specs.declared.class.Expected.TheVariants as want
 use Rattle.proto_tree.specs.declared.tree.Syntax.{Syntax}
 use Rattle.proto_tree.specs.declared.tree.Import.{Import}
 use Rattle.proto_tree.specs.declared.tree.Package.{Package}
@@ -95,7 +95,7 @@ or_right true b e = refl
 or_right false b e = e
 
 -- one kind of piece or another, by the first token
-pub or_on : {P Q : Piece → Bool} {first_p first_q : Class → Bool} {p q : Reader Piece} (w : Want)
+pub or_on : {P Q : Piece → Bool} {first_p first_q : Class → Bool} {p q : Reader Piece} (w : Expected)
     → IsOn P first_p p → IsOn Q first_q q → within first_p (fits w) ≡ true → apart first_q (fits w) ≡ true
     → IsOn (either_of P Q) (any_of first_p first_q) (either w p q)
 or_on {P = P} {Q = Q} {first_p = first_p} {first_q = first_q} {p = p} {q = q} w hp hq a b = record {
@@ -217,7 +217,7 @@ heading_calm c e h t fit =
 
 -- ---- the readers
 
-abbrev quiet : (w : Want) → IsExact never true (fits w) never (λ i. mark w i ∷ []) (token w)
+abbrev quiet : (w : Expected) → IsExact never true (fits w) never (λ i. mark w i ∷ []) (token w)
 quiet w = token-exact never w (λ c e. refl)
 
 close_on : IsOn (is find_close) (fits (want.One class.Close)) (made piece.Close (token (want.One class.Close)))

@@ -2,7 +2,7 @@
 use Rattle.std.proofs.Common.{◌≡◌, ℕ, Bool, true, false, List, ◌++◌, Option, Some, None, refl, subst, ◌⊎◌, inl, inr}
 use Rattle.proto_tree.specs.Common.{Class, Separated, FieldType, Constant, Signed, RangeEnd, ReservedList, Settings, fits, is_brace, Mark, only, one, word, name, text_mark, flat_from, flat_separated, flat_dotted, flat_reference, flat_type, flat_number, flat_signed, flat_joined, flat_constant, flat_setting, flat_settings, flat_option, flat_option_statement, flat_syntax, flat_import, flat_package, flat_field, flat_map_field, flat_range_end, flat_up_to, flat_range, flat_ranges, flat_reserved_list, flat_reserved, flat_extensions, flat_value, flat_method_type, flat_signature, Reader, ◌then◌, made, token, either, dotted_at, named_at, package_name_at, reference_at, type_at, signed_at, joined_at, constant_at, setting_at, settings_at, option_at, syntax_at, import_at, package_at, field_at, map_field_at, range_end_at, up_to_at, range_at, ranges_at, reserved_list_at, reserved_at, extensions_at, value_at, method_type_at, signature_at, maybe_settings, numbered_at}
 use Rattle.proto_tree.specs.declared.class.Class.TheVariants as class
-use Rattle.proto_tree.specs.declared.class.Want.TheVariants as want
+use Rattle.proto_tree.specs.declared.class.Expected.TheVariants as want
 use Rattle.proto_tree.specs.declared.tree.Reference.{Reference}
 use Rattle.proto_tree.specs.declared.tree.FieldType.TheVariants as field_type
 use Rattle.proto_tree.specs.declared.tree.Constant.TheVariants as constant

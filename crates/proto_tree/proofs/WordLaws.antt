@@ -4,9 +4,9 @@ use Rattle.proto_text.specs.declared.kind.TokenKind.{TokenKind}
 use Rattle.proto_text.specs.declared.kind.TokenKind.TheVariants.{Word, Number, Text, Punctuation}
 use Rattle.proto_text.proofs.Common.{or_word, changed, AreWords, Lexeme, lexeme_at, says}
 use Rattle.proto_text.proofs.Texts.{words_are_put}
-use Rattle.proto_tree.specs.Common.{Class, Want, code, is_word, fits, Mark, Fit, flat, Spells, open_after, open_from, IsShallow, Listed, class_in, listed, marks, class_by, classes, Change, Suits, PutsWords, WordsKeepTrees, WordsComeForWords, EditsKeepTrees, WordsHaveWordClasses}
+use Rattle.proto_tree.specs.Common.{Class, Expected, code, is_word, fits, Mark, Fit, flat, Spells, open_after, open_from, IsShallow, Listed, class_in, listed, marks, class_by, classes, Change, Suits, PutsWords, WordsKeepTrees, WordsComeForWords, EditsKeepTrees, WordsHaveWordClasses}
 use Rattle.proto_tree.specs.declared.class.Class.TheVariants as class
-use Rattle.proto_tree.specs.declared.class.Want.TheVariants as want
+use Rattle.proto_tree.specs.declared.class.Expected.TheVariants as want
 use Rattle.proto_tree.proofs.Each.{each, each_is}
 
 -- ---- the classes of words
@@ -87,7 +87,7 @@ one_word w c d e f h =
     by true false x s h k = absurd cc
     by false b x s h k = absurd cc
 
-pub place_of_word : (w : Want) (c d : Class) → fits w c ≡ true → fits w d ≡ true → is_word c ≡ true → is_word d ≡ true
+pub place_of_word : (w : Expected) (c d : Class) → fits w c ≡ true → fits w d ≡ true → is_word c ≡ true → is_word d ≡ true
 place_of_word (want.One x) c d e f h = one_word x c d e f h
 place_of_word want.Word c d e f h = f
 place_of_word want.Name c d e f h = f

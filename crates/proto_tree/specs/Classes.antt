@@ -2,8 +2,8 @@
 use Rattle.std.specs.Prelude.{ℕ, Bool, true, false, ◌==◌}
 use Rattle.proto_tree.specs.declared.class.Class.{Class}
 use Rattle.proto_tree.specs.declared.class.Class.TheVariants as class
-use Rattle.proto_tree.specs.declared.class.Want.{Want}
-use Rattle.proto_tree.specs.declared.class.Want.TheVariants as want
+use Rattle.proto_tree.specs.declared.class.Expected.{Expected}
+use Rattle.proto_tree.specs.declared.class.Expected.TheVariants as want
 
 -- each class has a number of its own
 abbrev pub code : Class → ℕ
@@ -90,7 +90,7 @@ is_text class.OtherText = true
 is_text _ = false
 
 -- whether a token of this class is what is wanted
-abbrev pub fits : Want → Class → Bool
+abbrev pub fits : Expected → Class → Bool
 fits (want.One wanted) c = code wanted == code c
 fits want.Word c = is_word c
 fits want.Name c = is_word c

@@ -16,7 +16,7 @@ unfoldable pub use Rattle.proto_tree.specs.Walk.{piece_in}
 pub use Rattle.proto_tree.specs.Words.{Listed, class_by, class_in, classes, listed, marks, of_length}
 pub use Rattle.proto_tree.specs.declared.class.Class.{Class}
 pub use Rattle.proto_tree.specs.declared.class.Lexeme.{Lexeme}
-pub use Rattle.proto_tree.specs.declared.class.Want.{Want}
+pub use Rattle.proto_tree.specs.declared.class.Expected.{Expected}
 pub use Rattle.proto_tree.specs.declared.context.Context.{Context}
 pub use Rattle.proto_tree.specs.declared.context.Kind.{Kind}
 pub use Rattle.proto_tree.specs.declared.piece.Extending.{Extending}

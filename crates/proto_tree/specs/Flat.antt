@@ -3,8 +3,8 @@
 use Rattle.std.specs.Prelude.{◌≡◌, ℕ, true, List, [], ◌∷◌, ◌++◌, Option, Some, None}
 use Rattle.proto_tree.specs.declared.class.Class.{Class}
 use Rattle.proto_tree.specs.declared.class.Class.TheVariants as class
-use Rattle.proto_tree.specs.declared.class.Want.{Want}
-use Rattle.proto_tree.specs.declared.class.Want.TheVariants as want
+use Rattle.proto_tree.specs.declared.class.Expected.{Expected}
+use Rattle.proto_tree.specs.declared.class.Expected.TheVariants as want
 use Rattle.proto_tree.specs.declared.class.Lexeme.{Lexeme}
 use Rattle.proto_tree.specs.declared.tree.Behind.{Behind}
 use Rattle.proto_tree.specs.declared.tree.Separated.{Separated}
@@ -46,15 +46,15 @@ use Rattle.proto_tree.specs.Classes.{fits}
 
 -- a place of a tree: what it wants of its token, and the index of the token that it holds
 pub record Mark : Type 0 where
-  pub want : Want
+  pub want : Expected
   pub at : ℕ
 
 -- the place that wants this and holds the token of this index
-abbrev pub mark : Want → ℕ → Mark
+abbrev pub mark : Expected → ℕ → Mark
 mark w i = record { want = w; at = i }
 
 -- a part that is one token, which is what is wanted
-abbrev pub only : Want → ℕ → List Mark
+abbrev pub only : Expected → ℕ → List Mark
 only w i = mark w i ∷ []
 
 -- a part that is one token, of this class

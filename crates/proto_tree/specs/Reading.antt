@@ -2,8 +2,8 @@
 use Rattle.std.specs.Prelude.{◌≡◌, ℕ, zero, suc, length, Bool, false, List, [], ◌∷◌, Option, Some, None, Result, Ok, Err, option_and_then, if◌then◌else◌}
 use Rattle.proto_tree.specs.declared.class.Class.{Class}
 use Rattle.proto_tree.specs.declared.class.Class.TheVariants as class
-use Rattle.proto_tree.specs.declared.class.Want.{Want}
-use Rattle.proto_tree.specs.declared.class.Want.TheVariants as want
+use Rattle.proto_tree.specs.declared.class.Expected.{Expected}
+use Rattle.proto_tree.specs.declared.class.Expected.TheVariants as want
 use Rattle.proto_tree.specs.declared.class.Lexeme.{Lexeme}
 use Rattle.proto_tree.specs.declared.reading.Stop.{Stop}
 use Rattle.proto_tree.specs.declared.reading.Stop.TheVariants as stop
@@ -66,7 +66,7 @@ Gives view (Ok x) read = read ≡ Some (view x)
 Gives view (Err e) read = Fails e read
 
 -- one token
-unfoldable pub token : Want → Reader ℕ
+unfoldable pub token : Expected → Reader ℕ
 token w [] = None
 token w (l ∷ rest) = if fits w l.class then Some (l.at, rest) else None
 
@@ -80,20 +80,20 @@ abbrev pub made : {A B : Type 0} → (A → B) → Reader A → Reader B
 made f p s = option_and_then (λ x. Some (f x.0, x.1)) (p s)
 
 -- whether the first token is what is wanted
-abbrev pub starts : Want → List Lexeme → Bool
+abbrev pub starts : Expected → List Lexeme → Bool
 starts w [] = false
 starts w (l ∷ rest) = fits w l.class
 
 -- one way or another, by the first token
-abbrev pub either : {A : Type 0} → Want → Reader A → Reader A → Reader A
+abbrev pub either : {A : Type 0} → Expected → Reader A → Reader A → Reader A
 either w p q s = if starts w s then p s else q s
 
 -- a part that may be left out
-abbrev pub maybe : {A : Type 0} → Want → Reader A → Reader (Option A)
+abbrev pub maybe : {A : Type 0} → Expected → Reader A → Reader (Option A)
 maybe w p s = if starts w s then made Some p s else Some (None, s)
 
 -- any number of times, as long as the next token is what is wanted
-abbrev pub up_to : {A : Type 0} → ℕ → Want → Reader A → Reader (List A)
+abbrev pub up_to : {A : Type 0} → ℕ → Expected → Reader A → Reader (List A)
 up_to zero w p s = Some ([], s)
 up_to (suc n) w p s =
     if starts w s
@@ -101,7 +101,7 @@ up_to (suc n) w p s =
     else Some ([], s)
 
 -- the same, as often as the tokens last
-unfoldable pub many : {A : Type 0} → Want → Reader A → Reader (List A)
+unfoldable pub many : {A : Type 0} → Expected → Reader A → Reader (List A)
 many w p s = up_to (length s) w p s
 
 -- a token of this class
@@ -109,7 +109,7 @@ abbrev pub one_token : Class → Reader ℕ
 one_token c = token (want.One c)
 
 -- a token of a class, where there is one
-abbrev pub maybe_token : Want → Reader (Option ℕ)
+abbrev pub maybe_token : Expected → Reader (Option ℕ)
 maybe_token w = maybe w (token w)
 
 -- reads a separator of this class, and the item behind it

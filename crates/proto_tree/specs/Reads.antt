@@ -44,13 +44,13 @@ pub record IsTooDeepAt (text : Text) (tokens : List Token) (offset : ℕ) : Type
   pub place : IsTooDeep (classed text tokens) at
   pub offset_is : offset ≡ place_at text tokens at
 
--- what is wrong with a file, and where; want of memory is no fault of the file
+-- what is wrong with a file, and where; out of memory is no fault of the file
 abbrev pub IsParseFault : Text → List Token → ParseFault → Type 0
 IsParseFault text tokens (fault.Syntax offset) = IsSyntaxAt text tokens offset
 IsParseFault text tokens (fault.TooDeep offset) = IsTooDeepAt text tokens offset
 IsParseFault text tokens fault.NoMemory = ⊥
 
--- the same, or want of memory
+-- the same, or out of memory
 abbrev pub is_fault_or_memory : Text → List Token → ParseFault → Type 0
 is_fault_or_memory text tokens fault.NoMemory = Unit {0}
 is_fault_or_memory text tokens f = IsParseFault text tokens f
@@ -68,7 +68,7 @@ fault_offset (fault.Syntax offset) = offset
 fault_offset (fault.TooDeep offset) = offset
 fault_offset fault.NoMemory = 0
 
--- the number of a fault in the list of all faults, and 0 for want of memory
+-- the number of a fault in the list of all faults, and 0 when out of memory
 abbrev pub fault_number : ParseFault → ℕ
 fault_number (fault.Syntax offset) = 8
 fault_number (fault.TooDeep offset) = 9

@@ -3,8 +3,8 @@ use Rattle.std.specs.Prelude.{◌≡◌, ℕ, ◌<◌, List, length}
 use Rattle.std.specs.List.{Contains}
 use Rattle.proto_text.specs.Tokens.{Lexeme}
 use Rattle.proto_tree.specs.declared.class.Class.TheVariants as class
-use Rattle.proto_tree.specs.declared.class.Want.{Want}
-use Rattle.proto_tree.specs.declared.class.Want.TheVariants as want
+use Rattle.proto_tree.specs.declared.class.Expected.{Expected}
+use Rattle.proto_tree.specs.declared.class.Expected.TheVariants as want
 use Rattle.proto_tree.specs.Flat.{Mark}
 use Rattle.proto_tree.specs.Tree.{Tree, Spells, flat}
 use Rattle.proto_tree.specs.Words.{classes}
@@ -22,7 +22,7 @@ pub data Role : Type 0 where
   is_other : Role
 
 -- the role of a token by what its place wants
-abbrev pub role_of : Want → Role
+abbrev pub role_of : Expected → Role
 role_of want.Name = names
 role_of want.ValueName = names
 role_of (want.One class.Name) = refers

@@ -8,7 +8,7 @@ use Rattle.proto_text.specs.Values.{says}
 use Rattle.proto_text.specs.Tokens.{Lexeme}
 use Rattle.proto_tree.specs.declared.class.Class.{Class}
 use Rattle.proto_tree.specs.declared.class.Class.TheVariants as class
-use Rattle.proto_tree.specs.declared.class.Want.TheVariants as want
+use Rattle.proto_tree.specs.declared.class.Expected.TheVariants as want
 use Rattle.proto_tree.specs.declared.class.Lexeme.{Lexeme as Classed}
 use Rattle.proto_tree.specs.Classes.{fits}
 

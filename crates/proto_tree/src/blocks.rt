@@ -14,7 +14,7 @@ use crate::reading::Stop;
 use crate::tree::{Block, Extend, Extension, Member, Method, MethodEnd, ServiceItem};
 use std::alloc::Global;
 
-/// Why a file was not read: for want of memory, or how many tokens are left where it goes wrong.
+/// Why a file was not read: when out of memory, or how many tokens are left where it goes wrong.
 #[derive(Clone, Copy)]
 pub enum Fault {
     /// Memory ran out.

@@ -65,7 +65,7 @@ pub struct Lexeme {
 
 /// What the grammar may want at a place.
 #[derive(Clone, Copy)]
-pub enum Want {
+pub enum Expected {
     One(Class),
     /// A word of a reference.
     Word,
@@ -123,17 +123,18 @@ impl Class {
     }
 }
 
-impl Want {
+impl Expected {
     /// Whether a token of this class is what is wanted.
     pub fn fits(self, class: Class) -> bool
         ensures { result ≡ fits self class }
     {
         match self {
-            Want::One(wanted) => wanted as u8 == class as u8,
-            Want::Word | Want::Name | Want::OptionName | Want::Constant => class.is_word(),
-            Want::ValueName => class.is_value_name(),
-            Want::Label => class.is_label(),
-            Want::Text => class.is_text(),
+            Expected::One(wanted) => wanted as u8 == class as u8,
+            Expected::Word | Expected::Name | Expected::OptionName | Expected::Constant =>
+                class.is_word(),
+            Expected::ValueName => class.is_value_name(),
+            Expected::Label => class.is_label(),
+            Expected::Text => class.is_text(),
         }
     }
 }

@@ -3,7 +3,7 @@
 ghost use Rattle.std.specs.Prelude.{◌≡◌, true};
 ghost use Rattle.proto_tree.specs.Reading.{Gives, starts, method_type_at, signature_at, ending_at, method_piece, method_at};
 
-use crate::class::{Class, Lexeme, Want};
+use crate::class::{Class, Expected, Lexeme};
 use crate::names::reference;
 use crate::piece::{Ending, Header, Piece, Statement};
 use crate::reading::{Stop, first, one, option, starts, take};
@@ -15,7 +15,7 @@ fn method_type(alloc: Global, rest: &[Lexeme]) -> Result<(MethodType, &[Lexeme])
     ensures { Gives (λ x. (x.0, x.1.now)) result (method_type_at rest.now) }
 {
     let (open, rest) = one(rest, Class::LeftParenthesis)?;
-    let (stream, rest) = option(rest, Want::One(Class::Stream));
+    let (stream, rest) = option(rest, Expected::One(Class::Stream));
     let (reference, rest) = reference(alloc, rest)?;
     let (close, rest) = one(rest, Class::RightParenthesis)?;
     Ok((
@@ -31,11 +31,11 @@ fn method_type(alloc: Global, rest: &[Lexeme]) -> Result<(MethodType, &[Lexeme])
 
 #[tactic(auto, unfolding(crate::specs::Reading::signature_at))]
 fn signature(alloc: Global, rest: &[Lexeme]) -> Result<(Signature, &[Lexeme]), Stop>
-    requires { starts (Want.One Class.Rpc) rest.now ≡ true }
+    requires { starts (Expected.One Class.Rpc) rest.now ≡ true }
     ensures { Gives (λ x. (x.0, x.1.now)) result (signature_at rest.now) }
 {
-    let (keyword, rest) = first(rest, Want::One(Class::Rpc));
-    let (name, rest) = take(rest, Want::Name)?;
+    let (keyword, rest) = first(rest, Expected::One(Class::Rpc));
+    let (name, rest) = take(rest, Expected::Name)?;
     let (input, rest) = method_type(alloc, rest)?;
     let (returns, rest) = one(rest, Class::Returns)?;
     let (output, rest) = method_type(alloc, rest)?;
@@ -55,8 +55,8 @@ fn signature(alloc: Global, rest: &[Lexeme]) -> Result<(Signature, &[Lexeme]), S
 fn ending(rest: &[Lexeme]) -> Result<(Ending, &[Lexeme]), Stop>
     ensures { Gives (λ x. (x.0, x.1.now)) result (ending_at rest.now) }
 {
-    if starts(rest, Want::One(Class::Semicolon)) {
-        let (at, rest) = first(rest, Want::One(Class::Semicolon));
+    if starts(rest, Expected::One(Class::Semicolon)) {
+        let (at, rest) = first(rest, Expected::One(Class::Semicolon));
         return Ok((Ending::Semicolon(at), rest));
     }
     let (at, rest) = one(rest, Class::Open)?;
@@ -75,7 +75,7 @@ fn method_piece(signature: Signature, ending: Ending) -> Piece
 /// A method that ends in a `;`, or the beginning of one with a block.
 #[tactic(auto, unfolding(crate::specs::Reading::method_at))]
 pub fn method(alloc: Global, rest: &[Lexeme]) -> Result<(Piece, &[Lexeme]), Stop>
-    requires { starts (Want.One Class.Rpc) rest.now ≡ true }
+    requires { starts (Expected.One Class.Rpc) rest.now ≡ true }
     ensures { Gives (λ x. (x.0, x.1.now)) result (method_at rest.now) }
 {
     let (signature, rest) = signature(alloc, rest)?;

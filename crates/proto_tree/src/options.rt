@@ -3,7 +3,7 @@
 ghost use Rattle.std.specs.Prelude.{◌≡◌, true};
 ghost use Rattle.proto_tree.specs.Reading.{Gives, starts, stated, token, many, signed_at, joined_at, constant_at, setting_at, settings_at, maybe_settings, option_at};
 
-use crate::class::{Class, Lexeme, Want};
+use crate::class::{Class, Expected, Lexeme};
 use crate::list::Sequence;
 use crate::piece::{Piece, Statement};
 use crate::reading::{Listed, Stop, first, one, option, separated_items, starts, take, three};
@@ -15,21 +15,21 @@ use std::alloc::Global;
 pub fn signed_number(rest: &[Lexeme]) -> Result<(Signed, &[Lexeme]), Stop>
     ensures { Gives (λ x. (x.0, x.1.now)) result (signed_at rest.now) }
 {
-    let (minus, rest) = option(rest, Want::One(Class::Minus));
+    let (minus, rest) = option(rest, Expected::One(Class::Minus));
     let (number, rest) = one(rest, Class::Number)?;
     Ok((Signed { minus, number }, rest))
 }
 
 fn more_texts(alloc: Global, tokens: &[Lexeme]) -> Result<(Sequence<u32>, &[Lexeme]), Stop>
-    ensures { Gives (λ x. (x.0, x.1.now)) result (many Want.Text (token Want.Text) tokens.now) }
+    ensures { Gives (λ x. (x.0, x.1.now)) result (many Expected.Text (token Expected.Text) tokens.now) }
 {
     let mut items = Sequence::new(alloc);
     let mut rest = tokens;
     for _ in 0..tokens.len() {
-        if !starts(rest, Want::Text) {
+        if !starts(rest, Expected::Text) {
             return Ok((items, rest));
         }
-        let (item, after) = first(rest, Want::Text);
+        let (item, after) = first(rest, Expected::Text);
         items.push(item)?;
         rest = after;
     }
@@ -38,10 +38,10 @@ fn more_texts(alloc: Global, tokens: &[Lexeme]) -> Result<(Sequence<u32>, &[Lexe
 
 #[tactic(auto, unfolding(crate::specs::Reading::joined_at))]
 fn joined_texts(alloc: Global, rest: &[Lexeme]) -> Result<(Joined, &[Lexeme]), Stop>
-    requires { starts Want.Text rest.now ≡ true }
+    requires { starts Expected.Text rest.now ≡ true }
     ensures { Gives (λ x. (x.0, x.1.now)) result (joined_at rest.now) }
 {
-    let (first, rest) = first(rest, Want::Text);
+    let (first, rest) = first(rest, Expected::Text);
     let (more, rest) = more_texts(alloc, rest)?;
     Ok((Joined { first, rest: more }, rest))
 }
@@ -51,11 +51,11 @@ fn joined_texts(alloc: Global, rest: &[Lexeme]) -> Result<(Joined, &[Lexeme]), S
 fn constant(alloc: Global, rest: &[Lexeme]) -> Result<(Constant, &[Lexeme]), Stop>
     ensures { Gives (λ x. (x.0, x.1.now)) result (constant_at rest.now) }
 {
-    if starts(rest, Want::Constant) {
-        let (word, rest) = first(rest, Want::Constant);
+    if starts(rest, Expected::Constant) {
+        let (word, rest) = first(rest, Expected::Constant);
         return Ok((Constant::Word(word), rest));
     }
-    if starts(rest, Want::Text) {
+    if starts(rest, Expected::Text) {
         let (text, rest) = joined_texts(alloc, rest)?;
         return Ok((Constant::Text(text), rest));
     }
@@ -67,7 +67,7 @@ fn constant(alloc: Global, rest: &[Lexeme]) -> Result<(Constant, &[Lexeme]), Sto
 fn setting(alloc: Global, rest: &[Lexeme]) -> Result<(Setting, &[Lexeme]), Stop>
     ensures { Gives (λ x. (x.0, x.1.now)) result (setting_at rest.now) }
 {
-    let (name, rest) = take(rest, Want::OptionName)?;
+    let (name, rest) = take(rest, Expected::OptionName)?;
     let (equals, rest) = one(rest, Class::Equals)?;
     let (value, rest) = constant(alloc, rest)?;
     Ok((
@@ -85,7 +85,7 @@ impl Listed for Setting {
 
     ghost item_at = { λ w. setting_at };
 
-    fn item(alloc: Global, rest: &[Lexeme], _want: Want) -> Result<(Self, &[Lexeme]), Stop> {
+    fn item(alloc: Global, rest: &[Lexeme], _want: Expected) -> Result<(Self, &[Lexeme]), Stop> {
         setting(alloc, rest)
     }
 }
@@ -95,11 +95,11 @@ impl Listed for Setting {
 pub fn settings(alloc: Global, rest: &[Lexeme]) -> Result<(Option<Settings>, &[Lexeme]), Stop>
     ensures { Gives (λ x. (x.0, x.1.now)) result (maybe_settings rest.now) }
 {
-    if !starts(rest, Want::One(Class::LeftBracket)) {
+    if !starts(rest, Expected::One(Class::LeftBracket)) {
         return Ok((None, rest));
     }
-    let (open, rest) = first(rest, Want::One(Class::LeftBracket));
-    let name = Want::OptionName;
+    let (open, rest) = first(rest, Expected::One(Class::LeftBracket));
+    let name = Expected::OptionName;
     let (list, rest) = separated_items(alloc, rest, Class::Comma, name, name)?;
     let (close, rest) = one(rest, Class::RightBracket)?;
     Ok((Some(Settings { open, list, close }), rest))
@@ -110,9 +110,9 @@ pub fn settings(alloc: Global, rest: &[Lexeme]) -> Result<(Option<Settings>, &[L
 pub fn option_statement(alloc: Global, rest: &[Lexeme]) -> Result<(Piece, &[Lexeme]), Stop>
     ensures { Gives (λ x. (x.0, x.1.now)) result (stated Statement.Option option_at rest.now) }
 {
-    let keyword = Want::One(Class::Option);
-    let equals = Want::One(Class::Equals);
-    let ((keyword, name, equals), rest) = three(rest, keyword, Want::OptionName, equals)?;
+    let keyword = Expected::One(Class::Option);
+    let equals = Expected::One(Class::Equals);
+    let ((keyword, name, equals), rest) = three(rest, keyword, Expected::OptionName, equals)?;
     let (value, rest) = constant(alloc, rest)?;
     let (semicolon, rest) = one(rest, Class::Semicolon)?;
     let option = Option_ {

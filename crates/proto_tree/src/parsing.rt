@@ -30,7 +30,7 @@ pub enum ParseFault {
 }
 
 impl ParseFault {
-    /// The place of the fault; 0 for want of memory.
+    /// The place of the fault; 0 when out of memory.
     pub fn offset(self) -> u32
         ensures { result ≡ fault_offset self }
     {
@@ -40,7 +40,7 @@ impl ParseFault {
         }
     }
 
-    /// The number of the fault, 8 or 9; 0 for want of memory.
+    /// The number of the fault, 8 or 9; 0 when out of memory.
     pub fn number(self) -> u32
         ensures { result ≡ fault_number self }
     {

@@ -4,7 +4,7 @@ ghost use Rattle.std.specs.Prelude.{◌≡◌, true};
 ghost use Rattle.proto_tree.specs.Reading.{Gives, starts, stated, one_token, reserved_at, header_of, block_start, extending_at, close_at, empty_at, enum_piece_at, inner_piece_at};
 ghost use Rattle.proto_tree.specs.Walk.{any_piece_in};
 
-use crate::class::{Class, Lexeme, Want};
+use crate::class::{Class, Expected, Lexeme};
 use crate::context::Context;
 use crate::methods::method;
 use crate::names::reference;
@@ -31,25 +31,25 @@ fn header_of(class: Class, heading: Heading) -> Header
 fn opening(rest: &[Lexeme], class: Class) -> Result<(Piece, &[Lexeme]), Stop>
     ensures { Gives (λ x. (x.0, x.1.now)) result (block_start (header_of class) class rest.now) }
 {
-    let open = Want::One(Class::Open);
-    let ((keyword, name, open), rest) = three(rest, Want::One(class), Want::Name, open)?;
+    let open = Expected::One(Class::Open);
+    let ((keyword, name, open), rest) = three(rest, Expected::One(class), Expected::Name, open)?;
     let header = header_of(class, Heading { keyword, name });
     Ok((Piece::Open(header, open), rest))
 }
 
 fn close(rest: &[Lexeme]) -> Result<(Piece, &[Lexeme]), Stop>
-    requires { starts (Want.One Class.Close) rest.now ≡ true }
+    requires { starts (Expected.One Class.Close) rest.now ≡ true }
     ensures { Gives (λ x. (x.0, x.1.now)) result (close_at rest.now) }
 {
-    let (at, rest) = first(rest, Want::One(Class::Close));
+    let (at, rest) = first(rest, Expected::One(Class::Close));
     Ok((Piece::Close(at), rest))
 }
 
 fn empty(rest: &[Lexeme]) -> Result<(Piece, &[Lexeme]), Stop>
-    requires { starts (Want.One Class.Semicolon) rest.now ≡ true }
+    requires { starts (Expected.One Class.Semicolon) rest.now ≡ true }
     ensures { Gives (λ x. (x.0, x.1.now)) result (empty_at rest.now) }
 {
-    let (at, rest) = first(rest, Want::One(Class::Semicolon));
+    let (at, rest) = first(rest, Expected::One(Class::Semicolon));
     Ok((Piece::Statement(Statement::Empty(at)), rest))
 }
 
@@ -57,16 +57,16 @@ fn empty(rest: &[Lexeme]) -> Result<(Piece, &[Lexeme]), Stop>
 fn enum_piece(alloc: Global, rest: &[Lexeme]) -> Result<(Piece, &[Lexeme]), Stop>
     ensures { Gives (λ x. (x.0, x.1.now)) result (enum_piece_at rest.now) }
 {
-    if starts(rest, Want::One(Class::Close)) {
+    if starts(rest, Expected::One(Class::Close)) {
         return close(rest);
     }
-    if starts(rest, Want::One(Class::Semicolon)) {
+    if starts(rest, Expected::One(Class::Semicolon)) {
         return empty(rest);
     }
-    if starts(rest, Want::One(Class::Option)) {
+    if starts(rest, Expected::One(Class::Option)) {
         return option_statement(alloc, rest);
     }
-    if starts(rest, Want::One(Class::Reserved)) {
+    if starts(rest, Expected::One(Class::Reserved)) {
         let (reserved, rest) = reserved_statement(alloc, rest)?;
         return Ok((Piece::Statement(Statement::EnumReserved(reserved)), rest));
     }
@@ -74,7 +74,7 @@ fn enum_piece(alloc: Global, rest: &[Lexeme]) -> Result<(Piece, &[Lexeme]), Stop
 }
 
 fn reserved_piece(alloc: Global, rest: &[Lexeme]) -> Result<(Piece, &[Lexeme]), Stop>
-    requires { starts (Want.One Class.Reserved) rest.now ≡ true }
+    requires { starts (Expected.One Class.Reserved) rest.now ≡ true }
     ensures { Gives (λ x. (x.0, x.1.now)) result
         (stated Statement.Reserved (reserved_at (one_token Class.Number)) rest.now) }
 {
@@ -85,10 +85,10 @@ fn reserved_piece(alloc: Global, rest: &[Lexeme]) -> Result<(Piece, &[Lexeme]), 
 // What stands in front of the fields of an `extend` block.
 #[tactic(auto, unfolding(crate::specs::Reading::extending_at))]
 fn extending(alloc: Global, rest: &[Lexeme]) -> Result<(Piece, &[Lexeme]), Stop>
-    requires { starts (Want.One Class.Extend) rest.now ≡ true }
+    requires { starts (Expected.One Class.Extend) rest.now ≡ true }
     ensures { Gives (λ x. (x.0, x.1.now)) result (extending_at rest.now) }
 {
-    let (keyword, rest) = first(rest, Want::One(Class::Extend));
+    let (keyword, rest) = first(rest, Expected::One(Class::Extend));
     let (extendee, rest) = reference(alloc, rest)?;
     let (open, rest) = one(rest, Class::Open)?;
     let extending = Extending { keyword, extendee };

@@ -3,7 +3,7 @@
 ghost use Rattle.std.specs.Prelude.{◌≡◌, true};
 ghost use Rattle.proto_tree.specs.Reading.{Gives, starts, stated, maybe, range_end_at, up_to_at, range_at, ranges_at, reserved_list_at, reserved_at, extensions_at};
 
-use crate::class::{Class, Lexeme, Want};
+use crate::class::{Class, Expected, Lexeme};
 use crate::options::signed_number;
 use crate::piece::{Piece, Statement};
 use crate::reading::{Listed, Stop, first, one, separated_items, starts};
@@ -47,8 +47,8 @@ impl Numeral for Signed {
 fn range_end<N: Numeral>(rest: &[Lexeme]) -> Result<(RangeEnd<N>, &[Lexeme]), Stop>
     ensures { Gives (λ x. (x.0, x.1.now)) result (range_end_at N.number_at rest.now) }
 {
-    if starts(rest, Want::One(Class::Max)) {
-        let (at, rest) = first(rest, Want::One(Class::Max));
+    if starts(rest, Expected::One(Class::Max)) {
+        let (at, rest) = first(rest, Expected::One(Class::Max));
         return Ok((RangeEnd::Max(at), rest));
     }
     let (number, rest) = N::number(rest)?;
@@ -58,12 +58,12 @@ fn range_end<N: Numeral>(rest: &[Lexeme]) -> Result<(RangeEnd<N>, &[Lexeme]), St
 #[tactic(auto, unfolding(crate::specs::Reading::up_to_at))]
 fn up_to<N: Numeral>(rest: &[Lexeme]) -> Result<(Option<UpTo<N>>, &[Lexeme]), Stop>
     ensures { Gives (λ x. (x.0, x.1.now)) result
-        (maybe (Want.One Class.To) (up_to_at N.number_at) rest.now) }
+        (maybe (Expected.One Class.To) (up_to_at N.number_at) rest.now) }
 {
-    if !starts(rest, Want::One(Class::To)) {
+    if !starts(rest, Expected::One(Class::To)) {
         return Ok((None, rest));
     }
-    let (to, rest) = first(rest, Want::One(Class::To));
+    let (to, rest) = first(rest, Expected::One(Class::To));
     let (end, rest) = range_end(rest)?;
     Ok((Some(UpTo { to, end }), rest))
 }
@@ -82,7 +82,7 @@ impl<N: Numeral> Listed for Range<N> {
 
     ghost item_at = { λ w. range_at N.number_at };
 
-    fn item(_alloc: Global, rest: &[Lexeme], _want: Want) -> Result<(Self, &[Lexeme]), Stop> {
+    fn item(_alloc: Global, rest: &[Lexeme], _want: Expected) -> Result<(Self, &[Lexeme]), Stop> {
         range(rest)
     }
 }
@@ -93,7 +93,7 @@ fn ranges<N: Numeral>(
 ) -> Result<(Separated<Range<N>>, &[Lexeme]), Stop>
     ensures { Gives (λ x. (x.0, x.1.now)) result (ranges_at N.number_at rest.now) }
 {
-    let number = Want::One(Class::Number);
+    let number = Expected::One(Class::Number);
     separated_items(alloc, rest, Class::Comma, number, number)
 }
 
@@ -105,8 +105,14 @@ fn reserved_list<N: Numeral>(
     ensures { Gives (λ x. (x.0, x.1.now)) result
         (reserved_list_at N.number_at rest.now) }
 {
-    if starts(rest, Want::Text) {
-        let (names, rest) = separated_items(alloc, rest, Class::Comma, Want::Text, Want::Text)?;
+    if starts(rest, Expected::Text) {
+        let (names, rest) = separated_items(
+            alloc,
+            rest,
+            Class::Comma,
+            Expected::Text,
+            Expected::Text,
+        )?;
         return Ok((ReservedList::Names(names), rest));
     }
     let (ranges, rest) = ranges(alloc, rest)?;
@@ -119,10 +125,10 @@ pub fn reserved_statement<N: Numeral>(
     alloc: Global,
     rest: &[Lexeme],
 ) -> Result<(Reserved<N>, &[Lexeme]), Stop>
-    requires { starts (Want.One Class.Reserved) rest.now ≡ true }
+    requires { starts (Expected.One Class.Reserved) rest.now ≡ true }
     ensures { Gives (λ x. (x.0, x.1.now)) result (reserved_at N.number_at rest.now) }
 {
-    let (keyword, rest) = first(rest, Want::One(Class::Reserved));
+    let (keyword, rest) = first(rest, Expected::One(Class::Reserved));
     let (list, rest) = reserved_list(alloc, rest)?;
     let (semicolon, rest) = one(rest, Class::Semicolon)?;
     Ok((
@@ -138,11 +144,11 @@ pub fn reserved_statement<N: Numeral>(
 /// `extensions 100 to max;`
 #[tactic(auto, unfolding(crate::specs::Reading::extensions_at))]
 pub fn extensions(alloc: Global, rest: &[Lexeme]) -> Result<(Piece, &[Lexeme]), Stop>
-    requires { starts (Want.One Class.Extensions) rest.now ≡ true }
+    requires { starts (Expected.One Class.Extensions) rest.now ≡ true }
     ensures { Gives (λ x. (x.0, x.1.now)) result
         (stated Statement.Extensions extensions_at rest.now) }
 {
-    let (keyword, rest) = first(rest, Want::One(Class::Extensions));
+    let (keyword, rest) = first(rest, Expected::One(Class::Extensions));
     let (ranges, rest) = ranges(alloc, rest)?;
     let (semicolon, rest) = one(rest, Class::Semicolon)?;
     let extensions = Extensions {

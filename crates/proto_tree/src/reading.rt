@@ -3,7 +3,7 @@
 ghost use Rattle.std.specs.Prelude.{◌≡◌, true, Some};
 ghost use Rattle.proto_tree.specs.Reading.{Gives, token, ◌then◌, starts, maybe_token, many, behind_at, from_at};
 
-use crate::class::{Class, Lexeme, Want};
+use crate::class::{Class, Expected, Lexeme};
 use crate::list::Sequence;
 use crate::tree::{Behind, Separated};
 use proto_base::NoMemory;
@@ -32,7 +32,7 @@ impl From<NoMemory> for Stop {
 
 /// A token that is what is wanted, and the tokens behind it.
 #[tactic(auto, unfolding(crate::specs::Reading::token))]
-pub fn take(rest: &[Lexeme], want: Want) -> Result<(u32, &[Lexeme]), Stop>
+pub fn take(rest: &[Lexeme], want: Expected) -> Result<(u32, &[Lexeme]), Stop>
     ensures { Gives (λ x. (x.0, x.1.now)) result (token want rest.now) }
 {
     match rest {
@@ -48,17 +48,17 @@ pub fn take(rest: &[Lexeme], want: Want) -> Result<(u32, &[Lexeme]), Stop>
 
 /// A token of the class, and the tokens behind it.
 pub fn one(rest: &[Lexeme], class: Class) -> Result<(u32, &[Lexeme]), Stop>
-    ensures { Gives (λ x. (x.0, x.1.now)) result (token (Want.One class) rest.now) }
+    ensures { Gives (λ x. (x.0, x.1.now)) result (token (Expected.One class) rest.now) }
 {
-    take(rest, Want::One(class))
+    take(rest, Expected::One(class))
 }
 
 /// Three tokens that are what is wanted, one behind another.
 pub fn three(
     rest: &[Lexeme],
-    first: Want,
-    second: Want,
-    third: Want,
+    first: Expected,
+    second: Expected,
+    third: Expected,
 ) -> Result<((u32, u32, u32), &[Lexeme]), Stop>
     ensures { Gives (λ x. ((x.0.0, (x.0.1, x.0.2)), x.1.now)) result
         ((token first then token second then token third) rest.now) }
@@ -70,7 +70,7 @@ pub fn three(
 }
 
 /// Whether the first token is what is wanted.
-pub fn starts(rest: &[Lexeme], want: Want) -> bool
+pub fn starts(rest: &[Lexeme], want: Expected) -> bool
     ensures { result ≡ starts want rest.now }
 {
     match rest {
@@ -81,7 +81,7 @@ pub fn starts(rest: &[Lexeme], want: Want) -> bool
 
 /// The first token, which was seen to be what is wanted, and the tokens behind it.
 #[tactic(auto, unfolding(crate::specs::Reading::token))]
-pub fn first(rest: &[Lexeme], want: Want) -> (u32, &[Lexeme])
+pub fn first(rest: &[Lexeme], want: Expected) -> (u32, &[Lexeme])
     requires { starts want rest.now ≡ true }
     ensures { token want rest.now ≡ Some (result.0, result.1.now) }
 {
@@ -94,7 +94,7 @@ pub fn first(rest: &[Lexeme], want: Want) -> (u32, &[Lexeme])
 }
 
 /// A token that may be left out.
-pub fn option(rest: &[Lexeme], want: Want) -> (Option<u32>, &[Lexeme])
+pub fn option(rest: &[Lexeme], want: Expected) -> (Option<u32>, &[Lexeme])
     ensures { maybe_token want rest.now ≡ Some (result.0, result.1.now) }
 {
     if starts(rest, want) {
@@ -106,14 +106,14 @@ pub fn option(rest: &[Lexeme], want: Want) -> (Option<u32>, &[Lexeme])
 
 /// What stands in a list, with separators between each two.
 pub trait Listed: Drop {
-    ghost use Rattle.proto_tree.specs.declared.class.Want.{Want};
+    ghost use Rattle.proto_tree.specs.declared.class.Expected.{Expected};
     ghost use Rattle.proto_tree.specs.Reading.{Reader, Gives};
 
     /// How one is read that begins with what is wanted.
-    ghost item_at: { Want → Reader Self };
+    ghost item_at: { Expected → Reader Self };
 
     /// One that begins with what is wanted, and the tokens behind it.
-    fn item(alloc: Global, rest: &[Lexeme], want: Want) -> Result<(Self, &[Lexeme]), Stop>
+    fn item(alloc: Global, rest: &[Lexeme], want: Expected) -> Result<(Self, &[Lexeme]), Stop>
         ensures { Gives (λ x. (x.0, x.1.now)) result (item_at want rest.now) };
 }
 
@@ -122,7 +122,7 @@ impl Listed for u32 {
 
     ghost item_at = { token };
 
-    fn item(_alloc: Global, rest: &[Lexeme], want: Want) -> Result<(Self, &[Lexeme]), Stop> {
+    fn item(_alloc: Global, rest: &[Lexeme], want: Expected) -> Result<(Self, &[Lexeme]), Stop> {
         take(rest, want)
     }
 }
@@ -131,18 +131,18 @@ fn more_items<T: Listed>(
     alloc: Global,
     tokens: &[Lexeme],
     separator: Class,
-    want: Want,
+    want: Expected,
 ) -> Result<(Sequence<Behind<T>>, &[Lexeme]), Stop>
     ensures { Gives (λ x. (x.0, x.1.now)) result
-        (many (Want.One separator) (behind_at separator (T.item_at want)) tokens.now) }
+        (many (Expected.One separator) (behind_at separator (T.item_at want)) tokens.now) }
 {
     let mut items = Sequence::new(alloc);
     let mut rest = tokens;
     for _ in 0..tokens.len() {
-        if !starts(rest, Want::One(separator)) {
+        if !starts(rest, Expected::One(separator)) {
             return Ok((items, rest));
         }
-        let (separator, after) = first(rest, Want::One(separator));
+        let (separator, after) = first(rest, Expected::One(separator));
         let (item, after) = T::item(alloc, after, want)?;
         items.push(Behind { separator, item })?;
         rest = after;
@@ -156,8 +156,8 @@ pub fn separated_items<T: Listed>(
     alloc: Global,
     rest: &[Lexeme],
     separator: Class,
-    first: Want,
-    want: Want,
+    first: Expected,
+    want: Expected,
 ) -> Result<(Separated<T>, &[Lexeme]), Stop>
     ensures { Gives (λ x. (x.0, x.1.now)) result
         (from_at separator (T.item_at first) (T.item_at want) rest.now) }

@@ -3,7 +3,7 @@
 ghost use Rattle.std.specs.Prelude.{◌≡◌, true};
 ghost use Rattle.proto_tree.specs.Reading.{Gives, starts, stated, syntax_at, import_at, package_at, field_at, map_field_at, value_at, token, one_token, maybe_settings, ◌then◌};
 
-use crate::class::{Class, Lexeme, Want};
+use crate::class::{Class, Expected, Lexeme};
 use crate::names::{field_type, package_name};
 use crate::options::settings;
 use crate::piece::{Piece, Statement};
@@ -15,13 +15,13 @@ use std::alloc::Global;
 /// `syntax = "proto3";`
 #[tactic(auto, unfolding(crate::specs::Reading::syntax_at))]
 pub fn syntax(rest: &[Lexeme]) -> Result<(Piece, &[Lexeme]), Stop>
-    requires { starts (Want.One Class.Syntax) rest.now ≡ true }
+    requires { starts (Expected.One Class.Syntax) rest.now ≡ true }
     ensures { Gives (λ x. (x.0, x.1.now)) result (stated Statement.Syntax syntax_at rest.now) }
 {
-    let equals = Want::One(Class::Equals);
-    let text = Want::One(Class::ProtoText);
-    let semicolon = Want::One(Class::Semicolon);
-    let (keyword, rest) = first(rest, Want::One(Class::Syntax));
+    let equals = Expected::One(Class::Equals);
+    let text = Expected::One(Class::ProtoText);
+    let semicolon = Expected::One(Class::Semicolon);
+    let (keyword, rest) = first(rest, Expected::One(Class::Syntax));
     let ((equals, text, semicolon), rest) = three(rest, equals, text, semicolon)?;
     let syntax = Syntax {
         keyword,
@@ -35,12 +35,12 @@ pub fn syntax(rest: &[Lexeme]) -> Result<(Piece, &[Lexeme]), Stop>
 /// `import public "path";`
 #[tactic(auto, unfolding(crate::specs::Reading::import_at))]
 pub fn import(rest: &[Lexeme]) -> Result<(Piece, &[Lexeme]), Stop>
-    requires { starts (Want.One Class.Import) rest.now ≡ true }
+    requires { starts (Expected.One Class.Import) rest.now ≡ true }
     ensures { Gives (λ x. (x.0, x.1.now)) result (stated Statement.Import import_at rest.now) }
 {
-    let (keyword, rest) = first(rest, Want::One(Class::Import));
-    let (public, rest) = option(rest, Want::One(Class::Public));
-    let (path, rest) = take(rest, Want::Text)?;
+    let (keyword, rest) = first(rest, Expected::One(Class::Import));
+    let (public, rest) = option(rest, Expected::One(Class::Public));
+    let (path, rest) = take(rest, Expected::Text)?;
     let (semicolon, rest) = one(rest, Class::Semicolon)?;
     let import = Import {
         keyword,
@@ -54,10 +54,10 @@ pub fn import(rest: &[Lexeme]) -> Result<(Piece, &[Lexeme]), Stop>
 /// `package a.b;`
 #[tactic(auto, unfolding(crate::specs::Reading::package_at))]
 pub fn package(alloc: Global, rest: &[Lexeme]) -> Result<(Piece, &[Lexeme]), Stop>
-    requires { starts (Want.One Class.Package) rest.now ≡ true }
+    requires { starts (Expected.One Class.Package) rest.now ≡ true }
     ensures { Gives (λ x. (x.0, x.1.now)) result (stated Statement.Package package_at rest.now) }
 {
-    let (keyword, rest) = first(rest, Want::One(Class::Package));
+    let (keyword, rest) = first(rest, Expected::One(Class::Package));
     let (name, rest) = package_name(alloc, rest)?;
     let (semicolon, rest) = one(rest, Class::Semicolon)?;
     let package = Package {
@@ -81,7 +81,7 @@ struct NumberAndSettings<N: Drop> {
 fn number_and_settings<N: Numeral>(
     alloc: Global,
     rest: &[Lexeme],
-    name: Want,
+    name: Expected,
 ) -> Result<(NumberAndSettings<N>, &[Lexeme]), Stop>
     ensures { Gives (λ x. (
       (x.0.name, (x.0.equals, (x.0.number, (x.0.settings, x.0.semicolon)))),
@@ -114,9 +114,9 @@ fn number_and_settings<N: Numeral>(
 pub fn field(alloc: Global, rest: &[Lexeme]) -> Result<(Piece, &[Lexeme]), Stop>
     ensures { Gives (λ x. (x.0, x.1.now)) result (stated Statement.Field field_at rest.now) }
 {
-    let (label, rest) = option(rest, Want::Label);
+    let (label, rest) = option(rest, Expected::Label);
     let (kind, rest) = field_type(alloc, rest)?;
-    let (numbered, rest) = number_and_settings::<u32>(alloc, rest, Want::Name)?;
+    let (numbered, rest) = number_and_settings::<u32>(alloc, rest, Expected::Name)?;
     let field = Field {
         label,
         kind,
@@ -132,17 +132,17 @@ pub fn field(alloc: Global, rest: &[Lexeme]) -> Result<(Piece, &[Lexeme]), Stop>
 /// `map<key, Type> name = 1 [settings];`
 #[tactic(auto, unfolding(crate::specs::Reading::map_field_at))]
 pub fn map_field(alloc: Global, rest: &[Lexeme]) -> Result<(Piece, &[Lexeme]), Stop>
-    requires { starts (Want.One Class.Map) rest.now ≡ true }
+    requires { starts (Expected.One Class.Map) rest.now ≡ true }
     ensures { Gives (λ x. (x.0, x.1.now)) result (stated Statement.MapField map_field_at rest.now) }
 {
-    let less = Want::One(Class::Less);
-    let scalar = Want::One(Class::Scalar);
-    let comma = Want::One(Class::Comma);
-    let (keyword, rest) = first(rest, Want::One(Class::Map));
+    let less = Expected::One(Class::Less);
+    let scalar = Expected::One(Class::Scalar);
+    let comma = Expected::One(Class::Comma);
+    let (keyword, rest) = first(rest, Expected::One(Class::Map));
     let ((open, key, comma), rest) = three(rest, less, scalar, comma)?;
     let (value, rest) = field_type(alloc, rest)?;
     let (close, rest) = one(rest, Class::Greater)?;
-    let (numbered, rest) = number_and_settings::<u32>(alloc, rest, Want::Name)?;
+    let (numbered, rest) = number_and_settings::<u32>(alloc, rest, Expected::Name)?;
     let field = MapField {
         keyword,
         open,
@@ -164,7 +164,7 @@ pub fn map_field(alloc: Global, rest: &[Lexeme]) -> Result<(Piece, &[Lexeme]), S
 pub fn value(alloc: Global, rest: &[Lexeme]) -> Result<(Piece, &[Lexeme]), Stop>
     ensures { Gives (λ x. (x.0, x.1.now)) result (stated Statement.Value value_at rest.now) }
 {
-    let (numbered, rest) = number_and_settings::<Signed>(alloc, rest, Want::ValueName)?;
+    let (numbered, rest) = number_and_settings::<Signed>(alloc, rest, Expected::ValueName)?;
     let value = Value {
         name: numbered.name,
         equals: numbered.equals,

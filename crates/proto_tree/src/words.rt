@@ -4,7 +4,7 @@ ghost use Rattle.std.specs.Prelude.{◌≡◌, [], ◌∷◌};
 ghost use Rattle.proto_tree.specs.Words.{class_in, of_length, listed, marks, text_class, class_by, is_listed};
 ghost use Rattle.proto_tree.specs.Classes.{fits};
 
-use crate::class::{Class, Want};
+use crate::class::{Class, Expected};
 use proto_text::{TokenKind, stands_for};
 
 fn of_two(text: &str) -> Class
@@ -173,12 +173,12 @@ pub fn token_class(kind: TokenKind, text: &str) -> Class
 pub fn is_listed(word: &str) -> bool
     ensures { result ≡ is_listed word.now }
 {
-    !Want::One(Class::Name).fits(word_class(word))
+    !Expected::One(Class::Name).fits(word_class(word))
 }
 
 /// Whether a word may name a value of an enum.
 pub fn may_name_value(word: &str) -> bool
-    ensures { result ≡ fits Want.ValueName (class_by TokenKind.Word word.now) }
+    ensures { result ≡ fits Expected.ValueName (class_by TokenKind.Word word.now) }
 {
-    Want::ValueName.fits(word_class(word))
+    Expected::ValueName.fits(word_class(word))
 }

@@ -6,9 +6,9 @@ mod errand;
 ghost use Rattle.std.specs.Prelude.{◌≡◌, ◌≤◌, IfOk};
 
 use errand::{Errand, Way, errand_for, way_for};
-use protoref_arguments::{WordsFault, read_words};
+use protoref_arguments::{UsageError, parse_arguments};
 use protoref_commands::{
-    Command, FolderStore, Kept, RunFault, Status, Store, StoreFault, fault_line, run_keeping,
+    Command, FolderStore, Retained, RunFault, Status, Store, StoreFault, fault_line, run_keeping,
     write_text,
 };
 use std::fs::File;
@@ -31,13 +31,13 @@ fn main(rt: HostRuntime) -> ExitCode {
 // The exit status, or the line for standard error.
 fn answer<R: Files<File = File> + Env + Print + AllocGlobal>(rt: &R) -> Result<u8, &'static str> {
     let request = match words(rt) {
-        Ok(words) => read_words(rt.alloc(), words.as_slice()),
+        Ok(words) => parse_arguments(rt.alloc(), words.as_slice()),
         Err(fault) => Err(fault),
     };
     match request {
         Ok(request) => carry_out(rt, errand_for(request)),
-        Err(WordsFault::BadCommandLine) => Err(BAD_COMMAND_LINE),
-        Err(WordsFault::NoMemory) => Err(fault_line(&RunFault::NoMemory)),
+        Err(UsageError::BadCommandLine) => Err(BAD_COMMAND_LINE),
+        Err(UsageError::NoMemory) => Err(fault_line(&RunFault::NoMemory)),
     }
 }
 
@@ -55,11 +55,11 @@ fn carry_out<R: Files<File = File> + Print + AllocGlobal>(
 }
 
 // The words of the command line, where they are texts.
-fn words<R: Env + AllocGlobal>(rt: &R) -> Result<Vec<String>, WordsFault> {
+fn words<R: Env + AllocGlobal>(rt: &R) -> Result<Vec<String>, UsageError> {
     match env::args(rt) {
         Ok(words) => Ok(words.collect(rt.alloc())?),
-        Err(error) if error.kind() == io::ErrorKind::OutOfMemory => Err(WordsFault::NoMemory),
-        Err(_) => Err(WordsFault::BadCommandLine),
+        Err(error) if error.kind() == io::ErrorKind::OutOfMemory => Err(UsageError::NoMemory),
+        Err(_) => Err(UsageError::BadCommandLine),
     }
 }
 
@@ -70,7 +70,7 @@ fn run_over<R: Files<File = File> + Print + AllocGlobal>(
     root: &str,
 ) -> Result<u8, &'static str> {
     let mut store = FolderStore::new(rt, root);
-    let mut kept = Kept::new();
+    let mut kept = Retained::new();
     let code = match begin(&mut store, way_for(&command)) {
         Ok(()) => {
             let writer = &mut io::writer(rt);

@@ -23,7 +23,7 @@ pub just_simple : is_simple program ≡ true
 unfolding clap_on_literals
 just_simple = refl
 
--- a kind of error that is no help, and no want of memory
+-- a kind of error that is no help, and no out of memory
 abbrev pub is_refusal : ErrorKind → Bool
 is_refusal kind.DisplayHelp = false
 is_refusal kind.OutOfMemory = false

@@ -1,8 +1,8 @@
 -- The words as they are handed to `clap`, one by one.
 use Rattle.std.proofs.Common.{◌≡◌, ◌∙◌, ℕ, zero, suc, ◌+◌, ◌<◌, ◌==◌, true, false, List, [], ◌∷◌, ◌++◌, map, take, length, slice_index_or, Result, Ok, Err, String, string_bytes, refl, sym, ap, ap₂, subst, arith, IsErrAnd, MatchResult, append_assoc, length-take-le}
 use Rattle.proto_base.proofs.Common.{Global, length-map, map-append, take_more, Text}
-use Rattle.protoref_arguments.specs.Common.{begins_dashed, is_bad_at, marked_first, words_marked, marks_for_word, IsWordsFaultOf, WordsFault}
-use Rattle.protoref_arguments.specs.declared.request.WordsFault.TheVariants as fault
+use Rattle.protoref_arguments.specs.Common.{begins_dashed, is_bad_at, marked_first, words_marked, marks_for_word, IsWordsFaultOf, UsageError}
+use Rattle.protoref_arguments.specs.declared.request.UsageError.TheVariants as fault
 
 marked_more : (xs : List Text) (w : Text) → words_marked (xs ++ w ∷ []) ≡ words_marked xs ++ marks_for_word (length xs) w
 marked_more [] w = refl
@@ -61,7 +61,7 @@ bad_word ws i w lt is e =
     bad_here (bytes ws) i (string_bytes w) (rw length-map lt) (ap (is_bad_at i) (mapped ws i w lt ∙ ap string_bytes (sym is)) ∙ e)
 
 -- the fault of one word is that of all
-pub fault_here : {T : Type 0} (P : T → Type 0) (ws : Words) (i : ℕ) (w : String Global) (f : WordsFault) (r : Result T WordsFault) → i < length ws → w ≡ slice_index_or ws i w
+pub fault_here : {T : Type 0} (P : T → Type 0) (ws : Words) (i : ℕ) (w : String Global) (f : UsageError) (r : Result T UsageError) → i < length ws → w ≡ slice_index_or ws i w
     → IsErrAnd r (λ e. e ≡ f) → IsWordsFaultOf (is_bad_at i (string_bytes w)) f → MatchResult r P (IsWordsFaultOf (begins_dashed (bytes ws)))
 fault_here P ws i w f (Ok x) lt is same bad = absurd same
 fault_here P ws i w fault.BadCommandLine (Err g) lt is same bad = subst (IsWordsFaultOf (begins_dashed (bytes ws))) (sym same) (bad_word ws i w lt is bad)

@@ -5,4 +5,4 @@ pub use Rattle.protoref_arguments.specs.Marked.{begins_dashed, is_bad_at, is_das
 pub use Rattle.protoref_arguments.specs.Matched.{asked_of}
 pub use Rattle.protoref_arguments.specs.Program.{program}
 pub use Rattle.protoref_arguments.specs.Requests.{IsAnswerTo, IsWordsFaultOf, IsHelpOf, IsSetFor, IsTextOf, name_rule}
-pub use Rattle.protoref_arguments.specs.declared.request.WordsFault.{WordsFault}
+pub use Rattle.protoref_arguments.specs.declared.request.UsageError.{UsageError}

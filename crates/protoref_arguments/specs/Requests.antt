@@ -12,8 +12,8 @@ use Rattle.proto_lint_rules.specs.declared.rule_set.RuleSet.{RuleSet}
 use Rattle.protoref_arguments.specs.CommandLines.{AskedCommand, names_rule, help, compile_of, lint_of, rename_of, delete_field_of, add_import_of, drop_import_of, undo_of, log_of, recover_of, migrate_of, bad_line}
 use Rattle.protoref_arguments.specs.declared.request.Request.{Request}
 use Rattle.protoref_arguments.specs.declared.request.Request.TheVariants as request
-use Rattle.protoref_arguments.specs.declared.request.WordsFault.{WordsFault}
-use Rattle.protoref_arguments.specs.declared.request.WordsFault.TheVariants as fault
+use Rattle.protoref_arguments.specs.declared.request.UsageError.{UsageError}
+use Rattle.protoref_arguments.specs.declared.request.UsageError.TheVariants as fault
 
 -- one of these texts is the identifier of a rule
 abbrev pub name_rule : List Text → Rule → Bool
@@ -48,35 +48,35 @@ IsRequest asked (request.Recover root) = asked ≡ recover_of (string_bytes root
 IsRequest asked (request.Migrate root) = asked ≡ migrate_of (string_bytes root)
 
 -- the answer to what is asked for: that request; a bad command line exactly where nothing is asked
--- for; or want of memory, which may come at any words
-abbrev pub IsAnswerTo : AskedCommand → Result Request WordsFault → Type 0
+-- for; or out of memory, which may come at any words
+abbrev pub IsAnswerTo : AskedCommand → Result Request UsageError → Type 0
 IsAnswerTo asked (Ok request) = IsRequest asked request
 IsAnswerTo asked (Err fault.BadCommandLine) = asked ≡ bad_line
 IsAnswerTo asked (Err fault.NoMemory) = Unit {0}
 
 -- ---- the parts of an answer
 
--- a fault is want of memory, or a bad command line where it is one
-abbrev pub IsWordsFaultOf : Bool → WordsFault → Type 0
+-- a fault is out of memory, or a bad command line where it is one
+abbrev pub IsWordsFaultOf : Bool → UsageError → Type 0
 IsWordsFaultOf is_bad fault.BadCommandLine = is_bad ≡ true
 IsWordsFaultOf is_bad fault.NoMemory = Unit {0}
 
 -- the answer where `clap` has an error of this kind: help alone is asked for
-abbrev pub IsHelpOf : ErrorKind → Result Request WordsFault → Type 0
+abbrev pub IsHelpOf : ErrorKind → Result Request UsageError → Type 0
 IsHelpOf k (Ok (request.Help text)) = k ≡ kind.DisplayHelp
 IsHelpOf k (Ok _) = ⊥
 IsHelpOf k (Err fault.BadCommandLine) = (k ≢ kind.DisplayHelp) × (k ≢ kind.OutOfMemory)
 IsHelpOf k (Err fault.NoMemory) = Unit {0}
 
 -- a text that an argument has, or a bad command line where it has none
-abbrev pub IsTextOf : Option Text → Result (String Global) WordsFault → Type 0
+abbrev pub IsTextOf : Option Text → Result (String Global) UsageError → Type 0
 IsTextOf (Some text) (Ok s) = string_bytes s ≡ text
 IsTextOf None (Ok s) = ⊥
 IsTextOf o (Err fault.BadCommandLine) = o ≡ None
 IsTextOf o (Err fault.NoMemory) = Unit {0}
 
 -- the set of the rules that identifiers ask for, or a bad command line where one is no rule's
-abbrev pub IsSetFor : List Text → Result RuleSet WordsFault → Type 0
+abbrev pub IsSetFor : List Text → Result RuleSet UsageError → Type 0
 IsSetFor names (Ok set) = (list_all names_rule names ≡ true) × IsSetOf names set
 IsSetFor names (Err fault.BadCommandLine) = list_all names_rule names ≡ false
 IsSetFor names (Err fault.NoMemory) = ⊥

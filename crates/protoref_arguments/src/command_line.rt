@@ -13,7 +13,7 @@ ghost use Rattle.protoref_arguments.specs.Matched.{asked_by_matches, asked_of, w
 ghost use Rattle.protoref_arguments.specs.Requests.{IsAnswerTo, IsWordsFaultOf, IsHelpOf, IsSetFor, IsTextOf, name_rule};
 
 use crate::commands::program;
-use crate::request::{Request, WordsFault};
+use crate::request::{Request, UsageError};
 use clap::error::ErrorKind;
 use clap::{ArgMatches, Error};
 use proto_lint_rules::{Rule, RuleSet};
@@ -23,7 +23,7 @@ use std::alloc::Global;
 /// text that it is, whatever it begins with, unless the first of them asks for help.
 /// `BadCommandLine` comes where the words are none of the program's, or name a rule that there is
 /// not; `NoMemory` where memory runs out.
-pub fn read_words(alloc: Global, words: &[String]) -> Result<Request, WordsFault>
+pub fn parse_arguments(alloc: Global, words: &[String]) -> Result<Request, UsageError>
     ensures { IsAnswerTo (asked_by_line (drop 1 (map string_bytes words.now))) result }
 {
     let words = marked_words(alloc, words)?;
@@ -35,18 +35,18 @@ pub fn read_words(alloc: Global, words: &[String]) -> Result<Request, WordsFault
 }
 
 // The help, where it was asked for.
-fn help_of(alloc: Global, error: &Error) -> Result<Request, WordsFault>
+fn help_of(alloc: Global, error: &Error) -> Result<Request, UsageError>
     ensures { IsHelpOf (kind_of error.now) result }
 {
     match error.kind() {
         ErrorKind::DisplayHelp => Ok(Request::Help(error.to_string(alloc)?)),
-        ErrorKind::OutOfMemory => Err(WordsFault::NoMemory),
-        _ => Err(WordsFault::BadCommandLine),
+        ErrorKind::OutOfMemory => Err(UsageError::NoMemory),
+        _ => Err(UsageError::BadCommandLine),
     }
 }
 
 // The words for `clap`, with `--` before those that are texts.
-fn marked_words<'a>(alloc: Global, words: &'a [String]) -> Result<Vec<&'a str>, WordsFault>
+fn marked_words<'a>(alloc: Global, words: &'a [String]) -> Result<Vec<&'a str>, UsageError>
     ensures { MatchResult result
         (λ v. (texts v.items ≡ words_marked (map string_bytes words.now))
         × (begins_dashed (map string_bytes words.now) ≡ false)
@@ -61,7 +61,7 @@ fn marked_words<'a>(alloc: Global, words: &'a [String]) -> Result<Vec<&'a str>, 
 }
 
 // Adds the word with this index, and `--` before it where the texts begin.
-fn put_marked<'a>(marked: &mut Vec<&'a str>, index: usize, word: &'a str) -> Result<(), WordsFault>
+fn put_marked<'a>(marked: &mut Vec<&'a str>, index: usize, word: &'a str) -> Result<(), UsageError>
     ensures { MatchResult result
         (λ _. (texts marked.new.items ≡ texts marked.old.items
         ++ marks_for_word index word.entry.now)
@@ -69,7 +69,7 @@ fn put_marked<'a>(marked: &mut Vec<&'a str>, index: usize, word: &'a str) -> Res
         (IsWordsFaultOf (is_bad_at index word.entry.now)) }
 {
     if index == 1 && word.starts_with('-') && !asks_help(word) {
-        return Err(WordsFault::BadCommandLine);
+        return Err(UsageError::BadCommandLine);
     }
     if index == 2 && !asks_help(word) {
         marked.push("--")?;
@@ -84,17 +84,17 @@ fn asks_help(word: &str) -> bool
 }
 
 // What the matches ask for.
-fn request_of(alloc: Global, matches: &ArgMatches<'_>) -> Result<Request, WordsFault>
+fn request_of(alloc: Global, matches: &ArgMatches<'_>) -> Result<Request, UsageError>
     ensures { IsAnswerTo (asked_of (subcommand_rows_of matches.now)) result }
 {
     let Some((command, matches)) = matches.subcommand() else {
-        return Err(WordsFault::BadCommandLine);
+        return Err(UsageError::BadCommandLine);
     };
     request_in(alloc, command, matches)
 }
 
 // What the command with this name and these matches asks for.
-fn request_in(alloc: Global, command: &str, matches: &ArgMatches<'_>) -> Result<Request, WordsFault>
+fn request_in(alloc: Global, command: &str, matches: &ArgMatches<'_>) -> Result<Request, UsageError>
     ensures { IsAnswerTo (asked_by_matches command.now (rows_of (found_of matches.now))) result }
 {
     let root = text_of(alloc, matches, "ROOT")?;
@@ -107,7 +107,7 @@ fn request_with(
     command: &str,
     matches: &ArgMatches<'_>,
     root: String,
-) -> Result<Request, WordsFault>
+) -> Result<Request, UsageError>
     ensures { IsAnswerTo
         (with_root command.now (rows_of (found_of matches.now)) (string_bytes root)) result }
 {
@@ -122,11 +122,11 @@ fn request_with(
         "log" => Ok(Request::Log { root }),
         "recover" => Ok(Request::Recover { root }),
         "migrate" => Ok(Request::Migrate { root }),
-        _ => Err(WordsFault::BadCommandLine),
+        _ => Err(UsageError::BadCommandLine),
     }
 }
 
-fn lint_of(matches: &ArgMatches<'_>, root: String) -> Result<Request, WordsFault>
+fn lint_of(matches: &ArgMatches<'_>, root: String) -> Result<Request, UsageError>
     ensures { IsAnswerTo (taken lint (string_bytes root
         ∷ unwrap_or (all_of (codes "RULE") (rows_of (found_of matches.now))) [])) result }
 {
@@ -135,7 +135,7 @@ fn lint_of(matches: &ArgMatches<'_>, root: String) -> Result<Request, WordsFault
 }
 
 // The rules that the matches name; all, where they name none.
-fn rules_in(matches: &ArgMatches<'_>) -> Result<RuleSet, WordsFault>
+fn rules_in(matches: &ArgMatches<'_>) -> Result<RuleSet, UsageError>
     ensures { IsSetFor (unwrap_or (all_of (codes "RULE") (rows_of (found_of matches.now))) [])
         result }
 {
@@ -145,7 +145,7 @@ fn rules_in(matches: &ArgMatches<'_>) -> Result<RuleSet, WordsFault>
     }
 }
 
-fn rename_of(alloc: Global, matches: &ArgMatches<'_>, root: String) -> Result<Request, WordsFault>
+fn rename_of(alloc: Global, matches: &ArgMatches<'_>, root: String) -> Result<Request, UsageError>
     ensures { IsAnswerTo (with_two rename (codes "NAME") (codes "TO")
         (rows_of (found_of matches.now)) (string_bytes root)) result }
 {
@@ -158,7 +158,7 @@ fn delete_field_of(
     alloc: Global,
     matches: &ArgMatches<'_>,
     root: String,
-) -> Result<Request, WordsFault>
+) -> Result<Request, UsageError>
     ensures { IsAnswerTo (with_one delete_field (codes "NAME")
         (rows_of (found_of matches.now)) (string_bytes root)) result }
 {
@@ -170,7 +170,7 @@ fn add_import_of(
     alloc: Global,
     matches: &ArgMatches<'_>,
     root: String,
-) -> Result<Request, WordsFault>
+) -> Result<Request, UsageError>
     ensures { IsAnswerTo (with_two add_import (codes "FILE") (codes "PATH")
         (rows_of (found_of matches.now)) (string_bytes root)) result }
 {
@@ -183,7 +183,7 @@ fn drop_import_of(
     alloc: Global,
     matches: &ArgMatches<'_>,
     root: String,
-) -> Result<Request, WordsFault>
+) -> Result<Request, UsageError>
     ensures { IsAnswerTo (with_two drop_import (codes "FILE") (codes "PATH")
         (rows_of (found_of matches.now)) (string_bytes root)) result }
 {
@@ -193,17 +193,17 @@ fn drop_import_of(
 }
 
 // The first value of an argument.
-fn text_of(alloc: Global, matches: &ArgMatches<'_>, id: &str) -> Result<String, WordsFault>
+fn text_of(alloc: Global, matches: &ArgMatches<'_>, id: &str) -> Result<String, UsageError>
     ensures { IsTextOf (first_of id.now (rows_of (found_of matches.now))) result }
 {
     match matches.get_str(id) {
         Some(text) => Ok(String::from_str(alloc, text)?),
-        None => Err(WordsFault::BadCommandLine),
+        None => Err(UsageError::BadCommandLine),
     }
 }
 
 // The rules with these names; all, where none is named.
-fn rules_of(names: &[&str]) -> Result<RuleSet, WordsFault>
+fn rules_of(names: &[&str]) -> Result<RuleSet, UsageError>
     ensures { IsSetFor (texts names.now) result }
 {
     if names.is_empty() {
@@ -213,18 +213,18 @@ fn rules_of(names: &[&str]) -> Result<RuleSet, WordsFault>
 }
 
 // The rules with these names.
-fn named_rules(names: &[&str]) -> Result<RuleSet, WordsFault>
+fn named_rules(names: &[&str]) -> Result<RuleSet, UsageError>
     ensures { MatchResult result
         (λ set. (list_all names_rule (texts names.now) ≡ true)
         × ((rule : Rule) → is_chosen set.chosen rule ≡ name_rule (texts names.now) rule))
-        (λ fault. (fault ≡ WordsFault.BadCommandLine)
+        (λ fault. (fault ≡ UsageError.BadCommandLine)
         × (list_all names_rule (texts names.now) ≡ false)) }
 {
     let mut rules = RuleSet::none();
     for name in names {
         match Rule::from_name(name) {
             Some(rule) => rules.insert(rule),
-            None => return Err(WordsFault::BadCommandLine),
+            None => return Err(UsageError::BadCommandLine),
         }
     }
     Ok(rules)

@@ -6,5 +6,5 @@ mod commands;
 mod help;
 mod request;
 
-pub use command_line::read_words;
-pub use request::{Request, WordsFault};
+pub use command_line::parse_arguments;
+pub use request::{Request, UsageError};

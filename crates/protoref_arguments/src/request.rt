@@ -63,9 +63,9 @@ pub enum Request {
 }
 
 // No `OrNoMemory`: its fault says nothing more, and each case has a text for people.
-/// Why the words ask for nothing. Want of memory is never told as a bad command line.
+/// Why the words ask for nothing. Out of memory is never told as a bad command line.
 #[derive(Clone, Copy, Debug, PartialEq, Eq, Error)]
-pub enum WordsFault {
+pub enum UsageError {
     /// The words are none of the program's, or name a rule that there is not.
     #[error("bad command line")]
     BadCommandLine,
@@ -74,32 +74,32 @@ pub enum WordsFault {
     NoMemory,
 }
 
-impl From<NoMemory> for WordsFault {
-    ghost use Rattle.protoref_arguments.specs.declared.request.WordsFault.TheVariants as fault;
+impl From<NoMemory> for UsageError {
+    ghost use Rattle.protoref_arguments.specs.declared.request.UsageError.TheVariants as fault;
 
     ghost from_gives = { λ _ e. e ≡ fault.NoMemory };
 
-    fn from(_error: NoMemory) -> WordsFault {
-        WordsFault::NoMemory
+    fn from(_error: NoMemory) -> UsageError {
+        UsageError::NoMemory
     }
 }
 
-impl From<AllocError> for WordsFault {
-    ghost use Rattle.protoref_arguments.specs.declared.request.WordsFault.TheVariants as fault;
+impl From<AllocError> for UsageError {
+    ghost use Rattle.protoref_arguments.specs.declared.request.UsageError.TheVariants as fault;
 
     ghost from_gives = { λ _ e. e ≡ fault.NoMemory };
 
-    fn from(_error: AllocError) -> WordsFault {
-        WordsFault::NoMemory
+    fn from(_error: AllocError) -> UsageError {
+        UsageError::NoMemory
     }
 }
 
-impl<T: Drop> From<AllocFailed<T>> for WordsFault {
-    ghost use Rattle.protoref_arguments.specs.declared.request.WordsFault.TheVariants as fault;
+impl<T: Drop> From<AllocFailed<T>> for UsageError {
+    ghost use Rattle.protoref_arguments.specs.declared.request.UsageError.TheVariants as fault;
 
     ghost from_gives = { λ _ e. e ≡ fault.NoMemory };
 
-    fn from(_error: AllocFailed<T>) -> WordsFault {
-        WordsFault::NoMemory
+    fn from(_error: AllocFailed<T>) -> UsageError {
+        UsageError::NoMemory
     }
 }

@@ -18,7 +18,7 @@ use Rattle.proto_journal_records.specs.declared.fault.JournalFault.TheVariants a
 use Rattle.proto_store.specs.Stores.{Held}
 
 -- A fault is told by its line, a refusal by this one.
--- Neither a failed store call nor want of memory has a line.
+-- Neither a failed store call nor out of memory has a line.
 abbrev pub TellsJournalFault : (Refusal → Text) → JournalFault → Text → Status → Type 0
 TellsJournalFault line_of (fault.Refused r) text status = (text ≡ line_of r) × (status ≡ Problem)
 TellsJournalFault line_of fault.Store text status = ⊥
@@ -50,7 +50,7 @@ abbrev pub CountsAlike : Result (List ChangeOf) JournalFault → Result Answer R
 CountsAlike outcome result = (before after : ℕ)
     → known.CountsJournal before after outcome → CountsStore before after result
 
--- the fault is the journal's or the store's, or want of memory, and no refusal
+-- the fault is the journal's or the store's, or out of memory, and no refusal
 abbrev pub IsNoRefusal : JournalFault → Type 0
 IsNoRefusal (fault.Refused r) = ⊥
 IsNoRefusal _ = Unit {0}

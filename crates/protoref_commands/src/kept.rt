@@ -8,7 +8,7 @@ use std::mem;
 /// What a run still holds when it has ended. Who goes on lets it go by `release`; a program that ends
 /// can spare that.
 #[derive(Drop)]
-pub struct Kept {
+pub struct Retained {
     described: Option<DescribedSchema>,
     checked: Option<CheckedSchema>,
 }
@@ -28,13 +28,13 @@ fn let_checked_go(checked: Option<CheckedSchema>) {
     }
 }
 
-impl Kept {
+impl Retained {
     /// Nothing is held yet.
-    pub fn new() -> Kept
+    pub fn new() -> Retained
         ensures described { result.described ≡ None }
         ensures checked { result.checked ≡ None }
     {
-        Kept {
+        Retained {
             described: None,
             checked: None,
         }

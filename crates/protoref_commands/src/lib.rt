@@ -14,7 +14,7 @@ mod running;
 mod telling;
 
 pub use command::Command;
-pub use kept::Kept;
+pub use kept::Retained;
 pub use proto_journal::{
     Edit, FolderStore, MemoryStore, ReadingFault, Store, StoreFault, all_files,
 };

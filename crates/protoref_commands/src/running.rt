@@ -7,7 +7,7 @@ ghost use Rattle.protoref_commands.specs.Commands.{Answers, Ran};
 use crate::answer::{descriptors_answer, findings_answer};
 use crate::changing::{edit_answer, undo_answer};
 use crate::command::Command;
-use crate::kept::Kept;
+use crate::kept::Retained;
 use crate::logging::log_answer;
 use crate::migrating::migrate_answer;
 use crate::opening::{faulty, open_checked, open_described};
@@ -36,7 +36,7 @@ pub fn run<S: Store, W: Write>(
         (S.holds store.new) (W.contents writer.old) (W.contents writer.new) result }
     ensures count { CountsStore (S.failure_count store.old) (S.failure_count store.new) result }
 {
-    let mut kept = Kept::new();
+    let mut kept = Retained::new();
     let ended = run_keeping(alloc, command, store, writer, &mut kept);
     kept.release();
     ended
@@ -49,7 +49,7 @@ pub fn run_keeping<S: Store, W: Write>(
     command: Command,
     store: &mut S,
     writer: &mut W,
-    kept: &mut Kept,
+    kept: &mut Retained,
 ) -> Result<Status, RunFault>
     requires { S.failure_count store.old < 2 ^ 64 - 1 }
     ensures ran { Ran command (S.holds store.old)
@@ -65,7 +65,7 @@ fn answer_of<S: Store>(
     alloc: Global,
     command: Command,
     store: &mut S,
-    kept: &mut Kept,
+    kept: &mut Retained,
 ) -> Result<Answer, RunFault>
     requires { S.failure_count store.old < 2 ^ 64 - 1 }
     ensures outcome { Answers command (S.holds store.old) (S.holds store.new) result }
@@ -85,7 +85,7 @@ fn answer_of<S: Store>(
 fn compile_answer<S: Store>(
     alloc: Global,
     store: &mut S,
-    kept: &mut Kept,
+    kept: &mut Retained,
 ) -> Result<Answer, RunFault>
     requires { S.failure_count store.old < 2 ^ 64 - 1 }
     ensures outcome { Answers Command.Compile (S.holds store.old) (S.holds store.new) result }
@@ -108,7 +108,7 @@ fn lint_answer<S: Store>(
     alloc: Global,
     rules: RuleSet,
     store: &mut S,
-    kept: &mut Kept,
+    kept: &mut Retained,
 ) -> Result<Answer, RunFault>
     requires { S.failure_count store.old < 2 ^ 64 - 1 }
     ensures outcome { Answers (Command.Lint rules) (S.holds store.old) (S.holds store.new) result }

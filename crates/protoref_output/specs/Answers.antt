@@ -26,7 +26,7 @@ status_of (Recovery recovered) = Done
 status_of (Migration migrated) = Done
 
 -- What a command answers before it writes: the text and the status that it prints; or that a store
--- call failed, which may have cut it; or want of memory, which leaves the store.
+-- call failed, which may have cut it; or out of memory, which leaves the store.
 abbrev pub IsAnswer : (List ℕ → Status → Type 0) → Type 0
     → Option Held → Option Held → Result Answer RunFault → Type 0
 IsAnswer Prints Cut before after (Ok answer) = Prints (printed_text answer) (status_of answer)

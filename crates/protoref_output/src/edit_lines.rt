@@ -51,8 +51,8 @@ fn write_change<W: Write>(writer: &mut W, change: &Change) -> Result<(), OutputF
 }
 
 /// The line of a refusal, ended by a line feed: `refused: NUMBER NAME`, and behind it
-/// ` path:line:column` of the reference in these files that would be captured or is needed. Only
-/// want of memory is refused.
+/// ` path:line:column` of the reference in these files that would be captured or is needed. Fails
+/// only when out of memory.
 pub fn refusal_line(alloc: Global, refusal: &Refusal, files: &Files) -> Result<String, NoMemory>
     ensures { IfOk result (λ text. string_bytes text ≡ refused_line files.now refusal.now) }
 {
@@ -97,7 +97,7 @@ fn place_behind_space(
 }
 
 /// The line of a fault of a journal, ended by a line feed:
-/// `journal: NUMBER NAME`. Only want of memory is refused.
+/// `journal: NUMBER NAME`. Fails only when out of memory.
 pub fn journal_line(alloc: Global, fault: &JournalFault) -> Result<String, NoMemory>
     ensures { IfOk result (λ text. string_bytes text ≡ faulty_line fault.now) }
 {

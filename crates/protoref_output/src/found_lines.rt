@@ -16,7 +16,7 @@ use std::alloc::Global;
 
 /// The line of each finding, ended by a line feed:
 /// `path:line:column: RULE name`. Findings in the order of their places take
-/// one walk through the files and their texts. Only want of memory is refused.
+/// one walk through the files and their texts. Fails only when out of memory.
 pub fn lines_of_findings(
     alloc: Global,
     files: &Files,

@@ -38,7 +38,7 @@ impl<'a> fmt::Display for Location<'a> {
 
 /// Where each of the references begins, in their order. One that is not of these files stands at
 /// the beginning of its file, and where there is no such file, of one with an empty path. References
-/// in the order of a link take one walk through the texts. Only want of memory is refused.
+/// in the order of a link take one walk through the texts. Fails only when out of memory.
 pub fn locations_of_references<'a>(
     alloc: Global,
     files: &'a Files,

@@ -12,8 +12,8 @@ use std::alloc::Global;
 
 /// The line of each record, ended by a line feed: `INDEX STATE PATHS`, and behind it the words of
 /// the edit as on the command line without ROOT, where the record tells it. The index counts from
-/// 1, the state is `open` or `done`, and the paths of the changed files are joined by `,`. Only
-/// want of memory is refused.
+/// 1, the state is `open` or `done`, and the paths of the changed files are joined by `,`. Fails
+/// only when out of memory.
 pub fn lines_of_records(alloc: Global, records: &[Record]) -> Result<String, NoMemory>
     ensures { IfOk result (λ text. string_bytes text ≡ log_lines records.now) }
 {

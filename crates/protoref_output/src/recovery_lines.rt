@@ -54,7 +54,7 @@ fn migration_text(migrated: bool) -> &'static str
 }
 
 /// The line of a refusal that tells of no reference, ended by a line feed: `refused: NUMBER NAME`.
-/// No files are asked for it. Only want of memory is refused.
+/// No files are asked for it. Fails only when out of memory.
 pub fn plain_refusal_line(alloc: Global, refusal: &Refusal) -> Result<String, NoMemory>
     ensures { IfOk result (λ text. string_bytes text ≡ plain_refused_line refusal.now) }
 {

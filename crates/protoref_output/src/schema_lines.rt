@@ -9,7 +9,7 @@ use proto_base::{Fault, NoMemory};
 use std::alloc::Global;
 
 /// The line of a fault at a place, ended by a line feed:
-/// `path:line:column: NUMBER NAME`. Only want of memory is refused.
+/// `path:line:column: NUMBER NAME`. Fails only when out of memory.
 pub fn schema_line(alloc: Global, fault: &Fault, place: Place) -> Result<String, NoMemory>
     ensures { IfOk result (λ text. string_bytes text
         ≡ line_of (fault_at fault.now) place.line place.column) }

@@ -114,7 +114,7 @@ fn apply(alloc: Global, workspace: &mut Workspace, step: Step) -> Answer
     workspace.apply(alloc, edit)
 }
 
-// Made once more in the files before, where memory refused it. A second time is want of memory.
+// Made once more in the files before, where memory refused it. A second time is out of memory.
 fn answered_again(
     alloc: Global,
     workspace: &mut Workspace,

@@ -20,7 +20,7 @@ pub(crate) struct Words {
     ghost some: { 0 < length (string_bytes text) },
 }
 
-/// Want of memory, the name of a fault or a refusal that no row speaks of, or what is otherwise, in
+/// Out of memory, the name of a fault or a refusal that no row speaks of, or what is otherwise, in
 /// words.
 #[derive(Drop)]
 pub(crate) enum Unlike {

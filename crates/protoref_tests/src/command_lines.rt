@@ -1,7 +1,7 @@
 //! Which command the words of the command line ask for.
 
 use crate::linting::rules_named;
-use protoref_arguments::{Request, WordsFault, read_words};
+use protoref_arguments::{Request, UsageError, parse_arguments};
 use protoref_commands::{Rule, RuleSet};
 use std::process::Abort;
 
@@ -19,10 +19,10 @@ fn expect_rows<R: AllocGlobal + Abort>(rt: &R, rows: &[Row]) {
             let word = String::from_str(rt.alloc(), word).expect(rt, "memory");
             words.push(word).expect(rt, "memory");
         }
-        let is_wanted = match read_words(rt.alloc(), words.as_slice()) {
+        let is_wanted = match parse_arguments(rt.alloc(), words.as_slice()) {
             Ok(request) => asks_for(rt, &request, wanted),
-            Err(WordsFault::BadCommandLine) => *wanted == REFUSAL,
-            Err(WordsFault::NoMemory) => false,
+            Err(UsageError::BadCommandLine) => *wanted == REFUSAL,
+            Err(UsageError::NoMemory) => false,
         };
         assert!(rt; is_wanted, "at {line}");
     }

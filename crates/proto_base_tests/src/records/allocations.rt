@@ -1,5 +1,5 @@
-//! Want of memory: the same call again answers as if it had not come. In a run that refuses one allocation this test
-//! still passes, whichever it is.
+//! Out of memory: the same call again answers as if it had not come. In a run that refuses one
+//! allocation this test still passes, whichever it is.
 
 use super::calls::*;
 use crate::calls::{is_held, store_of};

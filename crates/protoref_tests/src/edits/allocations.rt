@@ -1,5 +1,5 @@
-//! Want of memory: it changes nothing, and the same call again answers as if it had not come. In a run that refuses one
-//! allocation these tests still pass, whichever it is.
+//! Out of memory: it changes nothing, and the same call again answers as if it had not come. In a
+//! run that refuses one allocation these tests still pass, whichever it is.
 
 use super::calls::{Flat, difference_of, expect_none};
 use super::deletions::{ONEOF, PLAIN};

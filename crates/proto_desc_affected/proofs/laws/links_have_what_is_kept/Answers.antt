@@ -1,4 +1,4 @@
-use Rattle.proto_desc_affected.proofs.KeptEnums.{links_have_enums_kept}
+use Rattle.proto_desc_affected.proofs.EnumSummaries.{links_have_enums_kept}
 use Rattle.proto_desc_affected.proofs.Linked.{links_have_what_is_kept, meant_messages_are_no_enums}
 use Rattle.proto_desc_affected.proofs.Listed.{links_list_references}
 use Rattle.proto_desc_affected.proofs.laws.links_have_what_is_kept.Goals as goal

@@ -1,19 +1,19 @@
 use Rattle.std.proofs.Common.{ℕ, List, All, [], get_or, take, refl, subst, ◌∙◌, take_all}
 use Rattle.std.proofs.lemmas.List.Elements.{All-more, All-nil}
-use Rattle.proto_desc_affected.specs.Common.{AreUsersMarked, AreUsersOfFilesMarked, kept_files_of}
+use Rattle.proto_desc_affected.specs.Common.{AreUsersMarked, AreUsersOfFilesMarked, file_summaries_of}
 use Rattle.proto_desc_affected.proofs.ToldMarks.{files_stay}
 use Rattle.proto_desc_affected.proofs.marks.mark_users.Goals as goal
 
 pub loop-place-init : goal.loop-place-init
 loop-place-init c = record {
   stay = record { count = refl; set = λ file h. h };
-  marked = All-nil (λ (file : ℕ). All (AreUsersMarked c.args.link.now (kept_files_of c.args.kept.now) c.args.marks.now.items) (get_or c.args.link.now.rows file []));
+  marked = All-nil (λ (file : ℕ). All (AreUsersMarked c.args.link.now (file_summaries_of c.args.kept.now) c.args.marks.now.items) (get_or c.args.link.now.rows file []));
 }
 
 pub loop-place-preserved : goal.loop-place-preserved
 loop-place-preserved c =
     let l = c.args.link.now in
-    let ks = kept_files_of c.args.kept.now in
+    let ks = file_summaries_of c.args.kept.now in
     let now = c.mark_users_of_file.new.marks.items in
     let stay = c.loop-place.invariant.stay in
     let on = c.mark_users_of_file.ensures.stay in
@@ -28,5 +28,5 @@ returns-clause-stay c = c.loop-place.invariant.stay
 
 pub returns-clause-marked : goal.returns-clause-marked
 returns-clause-marked c =
-    subst (λ (ps : List ℕ). AreUsersOfFilesMarked ps c.args.link.now (kept_files_of c.args.kept.now) c.loop-place.marks.items)
+    subst (λ (ps : List ℕ). AreUsersOfFilesMarked ps c.args.link.now (file_summaries_of c.args.kept.now) c.loop-place.marks.items)
     (take_all c.loop-place.place-index c.args.places.now c.loop-place-test.false) c.loop-place.invariant.marked

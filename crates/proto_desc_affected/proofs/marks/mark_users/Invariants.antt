@@ -1,10 +1,10 @@
 use Rattle.std.proofs.Common.{take}
 use Rattle.proto_names_affected.specs.Marking.{MarksStay}
-use Rattle.proto_desc_affected.specs.Common.{AreUsersOfFilesMarked, kept_files_of}
+use Rattle.proto_desc_affected.specs.Common.{AreUsersOfFilesMarked, file_summaries_of}
 use Rattle.proto_desc_affected.proofs.marks.mark_users.Given as goal
 
 abbrev pub invariant-loop-place : goal.invariant-loop-place
 invariant-loop-place l = record {
   stay : MarksStay l.initial.marks.items l.marks.items;
-  marked : AreUsersOfFilesMarked (take l.place-index l.places) l.link (kept_files_of l.kept) l.marks.items;
+  marked : AreUsersOfFilesMarked (take l.place-index l.places) l.link (file_summaries_of l.kept) l.marks.items;
 }

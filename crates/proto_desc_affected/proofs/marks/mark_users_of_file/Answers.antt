@@ -1,7 +1,7 @@
 use Rattle.std.proofs.Common.{ℕ, IfSome, List, [], get_or, length, slice_get, refl, ap, subst, ◌∙◌, arith, below_more}
 use Rattle.std.proofs.lemmas.Option.{IfSome_then}
 use Rattle.proto_base.proofs.Common.{slice_get-get_or}
-use Rattle.proto_desc_affected.specs.Common.{AreUsersMarked, kept_files_of}
+use Rattle.proto_desc_affected.specs.Common.{AreUsersMarked, file_summaries_of}
 use Rattle.proto_desc_affected.proofs.ToldMarks.{name_stays}
 use Rattle.proto_desc_affected.proofs.marks.mark_users_of_file.Goals as goal
 
@@ -11,7 +11,7 @@ loop-place-init c = record { stay = record { count = refl; set = λ file h. h };
 pub loop-place-preserved : goal.loop-place-preserved
 loop-place-preserved c =
     let l = c.args.link.now in
-    let ks = kept_files_of c.args.kept.now in
+    let ks = file_summaries_of c.args.kept.now in
     let was = c.loop-place.marks.items in
     let now = c.mark_users_at.new.marks.items in
     let rows = get_or l.rows c.args.file [] in
@@ -30,5 +30,5 @@ returns-clause-stay c = c.loop-place.invariant.stay
 pub returns-clause-marked : goal.returns-clause-marked
 returns-clause-marked c = λ k d n.
     (let rows = get_or c.args.link.now.rows c.args.file [] in
-    let P = AreUsersMarked c.args.link.now (kept_files_of c.args.kept.now) c.loop-place.marks.items in
+    let P = AreUsersMarked c.args.link.now (file_summaries_of c.args.kept.now) c.loop-place.marks.items in
     subst (λ o. IfSome o P) (slice_get-get_or rows k d n) (c.loop-place.invariant.marked k (omega (arith, n, c.loop-place-test.false, c.len-place-end.ensures, ap length c.declared_in-names.ensures.exact))))

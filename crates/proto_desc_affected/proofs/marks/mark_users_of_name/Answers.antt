@@ -1,7 +1,7 @@
 use Rattle.std.proofs.Common.{All, take, refl, subst, ◌∙◌, take_all}
 use Rattle.std.proofs.lemmas.List.Elements.{All-more, All-nil}
 use Rattle.proto_names.specs.Linking.{RefId}
-use Rattle.proto_desc_affected.specs.Common.{IsUserMarked, kept_files_of}
+use Rattle.proto_desc_affected.specs.Common.{IsUserMarked, file_summaries_of}
 use Rattle.proto_desc_affected.proofs.ToldMarks.{users_stay}
 use Rattle.proto_desc_affected.proofs.marks.mark_users_of_name.Goals as goal
 
@@ -9,12 +9,12 @@ abbrev none : RefId
 none = record { file = 0; token = 0 }
 
 pub loop-user-init : goal.loop-user-init
-loop-user-init c = record { stay = record { count = refl; set = λ file h. h }; marked = All-nil (IsUserMarked c.args.link.now (kept_files_of c.args.kept.now) c.args.marks.now.items c.args.name.row) }
+loop-user-init c = record { stay = record { count = refl; set = λ file h. h }; marked = All-nil (IsUserMarked c.args.link.now (file_summaries_of c.args.kept.now) c.args.marks.now.items c.args.name.row) }
 
 pub loop-user-preserved : goal.loop-user-preserved
 loop-user-preserved c =
     let l = c.args.link.now in
-    let ks = kept_files_of c.args.kept.now in
+    let ks = file_summaries_of c.args.kept.now in
     let row = c.args.name.row in
     let now = c.mark_user.new.marks.items in
     let stay = c.loop-user.invariant.stay in
@@ -31,5 +31,5 @@ returns-clause-stay c = c.loop-user.invariant.stay
 
 pub returns-clause-marked : goal.returns-clause-marked
 returns-clause-marked c =
-    let P = IsUserMarked c.args.link.now (kept_files_of c.args.kept.now) c.loop-user.marks.items c.args.name.row in
+    let P = IsUserMarked c.args.link.now (file_summaries_of c.args.kept.now) c.loop-user.marks.items c.args.name.row in
     subst (All P) c.references-user-items.ensures.exact (subst (All P) (take_all c.loop-user.user-index c.references-user-items.result.now c.loop-user-test.false) c.loop-user.invariant.marked)

@@ -1,10 +1,10 @@
 use Rattle.std.proofs.Common.{All, take}
 use Rattle.proto_names_affected.specs.Marking.{MarksStay}
-use Rattle.proto_desc_affected.specs.Common.{IsUserMarked, kept_files_of}
+use Rattle.proto_desc_affected.specs.Common.{IsUserMarked, file_summaries_of}
 use Rattle.proto_desc_affected.proofs.marks.mark_users_of_name.Given as goal
 
 abbrev pub invariant-loop-user : goal.invariant-loop-user
 invariant-loop-user l = record {
   stay : MarksStay l.initial.marks.items l.marks.items;
-  marked : All (IsUserMarked l.link (kept_files_of l.kept) l.marks.items l.name.row) (take l.user-index l.user-items);
+  marked : All (IsUserMarked l.link (file_summaries_of l.kept) l.marks.items l.name.row) (take l.user-index l.user-items);
 }

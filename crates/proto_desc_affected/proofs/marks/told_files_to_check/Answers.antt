@@ -1,7 +1,7 @@
 use Rattle.std.proofs.Common.{List, Bool, subst}
 use Rattle.std.proofs.lemmas.Result.{IfOk-weaker}
 use Rattle.proto_names_affected.specs.Marking.{MarksStay}
-use Rattle.proto_desc_affected.specs.Common.{AreUnsureKept, kept_files_of}
+use Rattle.proto_desc_affected.specs.Common.{AreUnsureKept, file_summaries_of}
 use Rattle.proto_desc_affected.proofs.ToldMarks.{told_others}
 use Rattle.proto_desc_affected.proofs.marks.told_files_to_check.Goals as goal
 
@@ -10,7 +10,7 @@ returns-clause-others c =
     let files = c.args.files.now in
     let places = c.args.places.now in
     let l = c.args.link.now in
-    let ks = kept_files_of c.args.kept.now in
+    let ks = file_summaries_of c.args.kept.now in
     let told = c.args.told.now in
     let unsure = c.mark_users.new.marks.items in
     IfOk-weaker c.unsure_to_check.result _ _

@@ -4,7 +4,7 @@ use Rattle.proto_base.proofs.Common.{get_or-map}
 use Rattle.proto_files.proofs.Common.{each_pushed}
 use Rattle.proto_desc_affected.specs.Checked.{IsKeptStill, nothing_kept}
 use Rattle.proto_names_affected.specs.Marking.{ArePlacesMarked}
-use Rattle.proto_desc_affected.specs.Common.{kept_file_of, kept_files_of}
+use Rattle.proto_desc_affected.specs.Common.{file_summary_of, file_summaries_of}
 use Rattle.proto_desc_affected.proofs.marks.unsure_to_check.Goals as goal
 
 pub loop-file-preserved : goal.loop-file-preserved
@@ -21,10 +21,10 @@ loop-file-preserved c =
     let marked = subst (λ (marks : List Bool). ArePlacesMarked marks places) (sym c.deref.ensures.value) c.mark_places.ensures.marked in
     record {
       len = omega (arith, ap length c.in_ok-push.ensures.items, length-append was (not one ∷ []), c.loop-file.invariant.len);
-      others = each_pushed (λ k mark. mark ≡ false → (get_or unsure k false ≡ false) ⊎ IsKeptStill places files l (kept_files_of kept) k) was c.push.new.self.items (not one) file c.in_ok-push.ensures.items c.loop-file.invariant.len c.loop-file.invariant.others
+      others = each_pushed (λ k mark. mark ≡ false → (get_or unsure k false ≡ false) ⊎ IsKeptStill places files l (file_summaries_of kept) k) was c.push.new.self.items (not one) file c.in_ok-push.ensures.items c.loop-file.invariant.len c.loop-file.invariant.others
           (λ e. elim (c.is_left_out-stays.ensures (not-false one e)) [
             | inl sure ↦ inl sure
-            | inr stays ↦ inr (stays places marked files (kept_files_of kept) c.in_ok-still.ensures within
-                (get_or-map kept_file_of kept file c.index-kept-file.result nothing_kept (omega (arith, within, c.requires.paired)) ∙ ap kept_file_of (sym c.index-kept-file.is)))
+            | inr stays ↦ inr (stays places marked files (file_summaries_of kept) c.in_ok-still.ensures within
+                (get_or-map file_summary_of kept file c.index-kept-file.result nothing_kept (omega (arith, within, c.requires.paired)) ∙ ap file_summary_of (sym c.index-kept-file.is)))
           ]);
     }

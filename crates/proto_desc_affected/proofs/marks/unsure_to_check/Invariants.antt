@@ -1,11 +1,11 @@
 use Rattle.std.proofs.Common.{◌≡◌, ◌⊎◌, false, length, get_or}
 use Rattle.proto_files.proofs.Common.{Each}
 use Rattle.proto_desc_affected.specs.Checked.{IsKeptStill}
-use Rattle.proto_desc_affected.specs.Common.{kept_files_of}
+use Rattle.proto_desc_affected.specs.Common.{file_summaries_of}
 use Rattle.proto_desc_affected.proofs.marks.unsure_to_check.Given as goal
 
 abbrev pub invariant-loop-file : goal.invariant-loop-file
 invariant-loop-file l = record {
   len : length l.marks.items ≡ l.file;
-  others : Each (λ file mark. mark ≡ false → (get_or l.unsure file false ≡ false) ⊎ IsKeptStill l.places l.files l.link (kept_files_of l.kept) file) l.marks.items;
+  others : Each (λ file mark. mark ≡ false → (get_or l.unsure file false ≡ false) ⊎ IsKeptStill l.places l.files l.link (file_summaries_of l.kept) file) l.marks.items;
 }

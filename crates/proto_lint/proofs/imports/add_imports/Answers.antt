@@ -5,7 +5,7 @@ use Rattle.proto_tree.specs.File.{tree_of_file}
 use Rattle.proto_tree.specs.declared.tree.Import.{Import}
 use Rattle.proto_files.proofs.Common.{file_at, paths_of, ReadOf, read_at, same_tree}
 use Rattle.proto_names_imports.specs.Links.{names_of_files}
-use Rattle.proto_lint_names.proofs.Common.{Reading, reading_of, word_in, found_of}
+use Rattle.proto_lint_names.proofs.Common.{LintFile, reading_of, word_in, found_of}
 use Rattle.proto_lint.proofs.ImportLists.{paths_are_strings}
 use Rattle.proto_lint.specs.Imports.{import_finds, import_statements_in}
 use Rattle.proto_lint.proofs.imports.add_imports.Goals as goal
@@ -22,7 +22,7 @@ add_statements-requires-clause-strings c =
     λ k d l.
     (let i : Import = (get_or all k d).now in
     let there : Contains (import_statements_in tree) i = subst (λ (is : List Import). Contains is i) same (contains_map (λ x. x.now) all (get_or all k d) (Contains-get_or all k d l)) in
-    subst (λ (r : Reading). IsString (word_in r i.path)) (sym (c.requires.reading reads are)) (paths_are_strings (file_at files file).bytes (read_at reads file).tokens tree (are.trees file c.requires.file) i there))
+    subst (λ (r : LintFile). IsString (word_in r i.path)) (sym (c.requires.reading reads are)) (paths_are_strings (file_at files file).bytes (read_at reads file).tokens tree (are.trees file c.requires.file) i there))
 
 pub returns : goal.returns
 returns c =

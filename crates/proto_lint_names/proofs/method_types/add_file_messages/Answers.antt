@@ -1,13 +1,13 @@
 use Rattle.std.proofs.Common.{ℕ, List, ◌++◌, map, ◌∙◌, ap, refl}
 use Rattle.proto_tree.specs.declared.tree.Item.{Item}
 use Rattle.proto_tree.specs.File.{item_tree, trees}
-use Rattle.proto_lint_names.specs.Readings.{Reading, reading_of}
+use Rattle.proto_lint_names.specs.Readings.{LintFile, reading_of}
 use Rattle.proto_lint_names.specs.Walks.{outer_messages}
 use Rattle.proto_lint_names.proofs.OuterMessages.{outer_of_items}
 use Rattle.proto_base.proofs.Turns.{all_listed, listed_turn}
 use Rattle.proto_lint_names.proofs.method_types.add_file_messages.Goals as goal
 
-abbrev told : Reading → List Item → List (List ℕ)
+abbrev told : LintFile → List Item → List (List ℕ)
 told r items = outer_messages r (trees item_tree items)
 
 pub loop-item-preserved : goal.loop-item-preserved

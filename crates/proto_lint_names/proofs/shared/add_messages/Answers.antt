@@ -2,13 +2,13 @@ use Rattle.std.proofs.Common.{ℕ, List, [], ◌∷◌, ◌++◌, map, refl, ap,
 use Rattle.proto_tree.specs.declared.tree.ServiceItem.{ServiceItem}
 use Rattle.proto_tree.specs.declared.tree.Signature.{Signature}
 use Rattle.proto_tree.specs.File.{service_item_tree, trees}
-use Rattle.proto_lint_names.specs.Readings.{Reading, reading_of}
+use Rattle.proto_lint_names.specs.Readings.{LintFile, reading_of}
 use Rattle.proto_lint_names.specs.Methods.{method_messages, signatures_in, type_meant}
 use Rattle.proto_base.proofs.Turns.{all_listed, listed_turn}
 use Rattle.proto_lint_names.proofs.JoinedTrees.{of_signatures}
 use Rattle.proto_lint_names.proofs.shared.add_messages.Goals as goal
 
-abbrev told : Reading → List ServiceItem → List (List ℕ)
+abbrev told : LintFile → List ServiceItem → List (List ℕ)
 told r items = method_messages r (signatures_in (trees service_item_tree items))
 
 pub loop-item-preserved : goal.loop-item-preserved

@@ -1,4 +1,4 @@
-use Rattle.proto_tree.specs.declared.class.Want.TheVariants as want
+use Rattle.proto_tree.specs.declared.class.Expected.TheVariants as want
 use Rattle.proto_tree.specs.Reading.{token}
 use Rattle.proto_tree.proofs.Many.{so_far_start, so_far_goes_on}
 use Rattle.proto_tree.proofs.options.more_texts.Goals as goal

@@ -1,4 +1,4 @@
-use Rattle.proto_tree.specs.declared.class.Want.TheVariants as want
+use Rattle.proto_tree.specs.declared.class.Expected.TheVariants as want
 use Rattle.proto_tree.specs.Reading.{token}
 use Rattle.proto_tree.proofs.Many.{IsSoFar}
 use Rattle.proto_tree.proofs.options.more_texts.Given as goal

@@ -1,7 +1,7 @@
 use Rattle.std.proofs.Common.{◌≡◌, ℕ, List, Some, refl, sym}
 use Rattle.std.proofs.lemmas.Result.{err_from_is_err_and}
 use Rattle.proto_tree.specs.Common.{Class, Lexeme, Stop, Reader, Fails, token, behind_at}
-use Rattle.proto_tree.specs.declared.class.Want.TheVariants as want
+use Rattle.proto_tree.specs.declared.class.Expected.TheVariants as want
 use Rattle.proto_tree.specs.declared.reading.Stop.TheVariants as stop
 use Rattle.proto_tree.proofs.Many.{so_far_start, so_far_goes_on, so_far_fails, so_far_stops, so_far_ends}
 use Rattle.proto_tree.proofs.reading.more_items.Goals as goal

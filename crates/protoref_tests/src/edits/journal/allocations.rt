@@ -1,5 +1,6 @@
-//! Want of memory: the store and the workspace are then as before, or, where a call of the store ran out, the store is cut.
-//! In a run that refuses one allocation this test still passes, whichever it is.
+//! Out of memory: the store and the workspace are then as before, or, where a call of the store ran
+//! out, the store is cut. In a run that refuses one allocation this test still passes, whichever it
+//! is.
 
 use super::calls::*;
 use proto_base::NoMemory;
@@ -43,7 +44,7 @@ fn expect_left<R: AllocGlobal + Abort>(
     };
     let (is_so, wanted) = match (number, name) {
         (0, "done") => (is_one_of(rt, store, &[made]), AFTER),
-        // Refused for want of memory.
+        // Refused when out of memory.
         (6, _) => (is_one_of(rt, store, &[before]), BEFORE),
         // The store's own growth was refused, which is a call that failed.
         (4, _) => (is_one_of(rt, store, cuts), BEFORE),

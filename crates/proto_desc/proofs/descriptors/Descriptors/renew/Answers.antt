@@ -3,8 +3,8 @@ use Rattle.std.specs.Global.{Box}
 use Rattle.proto_base.proofs.Common.{Vec}
 use Rattle.proto_files.proofs.Common.{HasNoFault}
 use Rattle.proto_resolved.specs.Enums.{IsEnumTableOf}
-use Rattle.proto_desc_affected.specs.Common.{AreEnumsMarked, HasNoMarkedExtends, kept_files_of}
-use Rattle.proto_desc_affected.specs.declared.kept_file.KeptFile.{KeptFile}
+use Rattle.proto_desc_affected.specs.Common.{AreEnumsMarked, HasNoMarkedExtends, file_summaries_of}
+use Rattle.proto_desc_affected.specs.declared.file_summary.FileSummary.{FileSummary}
 use Rattle.proto_desc.specs.Checked.{CheckFaults}
 use Rattle.proto_desc.specs.Edited.{AreDescriptorsOf}
 use Rattle.proto_desc.specs.Renewing.{AreMade}
@@ -41,12 +41,12 @@ both c =
     let asked = c.has_no_marked_extends.ensures.0 c.if-not-has_no_marked_extends.false in
     let none =
     subst (λ (ms : List Bool). HasNoMarkedExtends files (files_kept old) ms) c.deref.ensures.value
-    (subst (λ (ks : List KeptFile). HasNoMarkedExtends files (kept_files_of ks) c.deref.result.now) c.deref-2.ensures.value asked) in
+    (subst (λ (ks : List FileSummary). HasNoMarkedExtends files (file_summaries_of ks) c.deref.result.now) c.deref-2.ensures.value asked) in
     let made =
     subst (λ (ms : List Bool). AreMade files ms c.in-Some.all.items) c.deref-6.ensures.value
     (subst (λ (o : Option (Vec (Option (Box Made)))). IfSome o (λ all. AreMade files c.deref-6.result.now all.items)) c.in-Some.is c.in_ok-all.ensures) in
     renewed
-    (record { sound = c.clean_edits_are_sound.ensures; tells = c.kept_files_tell_spared.ensures; described = c.spared_files_stay.ensures.descriptors; flawless = c.spared_files_stay.ensures.flawless })
+    (record { sound = c.clean_edits_are_sound.ensures; tells = c.kept_files_tell_unaffected.ensures; described = c.unaffected_files_stay.ensures.descriptors; flawless = c.unaffected_files_stay.ensures.flawless })
     places files c.requires.clean (option_map (λ marks. marks.now) c.args.told) old c.put.new.self c.requires.were link marks (record { link = c.requires.link; others = others; none = none }) c.in-Some.all.items made c.put.ensures
 
 pub returns-clause-clean : goal.returns-clause-clean

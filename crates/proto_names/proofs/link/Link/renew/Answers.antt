@@ -3,7 +3,7 @@ use Rattle.proto_base.proofs.Common.{Vec, both_ways}
 use Rattle.proto_base.specs.declared.fault.SchemaFault.{SchemaFault}
 use Rattle.proto_base.specs.declared.fault.SchemaFault.TheVariants.{NoMemory}
 use Rattle.proto_names.specs.declared.whole_link.Renewal.{Renewal}
-use Rattle.proto_names.specs.declared.whole_link.Renewal.TheVariants.{Done, GivenUp, Refused}
+use Rattle.proto_names.specs.declared.whole_link.Renewal.TheVariants.{Done, Rebuild, Refused}
 use Rattle.proto_files.proofs.Common.{AreRead, HasNoFault, ReadOf}
 use Rattle.proto_names_imports.proofs.Common.{LinkFaults}
 use Rattle.proto_names_imports.specs.LinkErrors.{IsLinkError}
@@ -105,19 +105,19 @@ returns-clause-kept g c = λ other.
 abbrev fault_of : SchemaFault → Renewal → SchemaFault
 fault_of other (Refused fault) = fault
 fault_of other Done = other
-fault_of other GivenUp = other
+fault_of other Rebuild = other
 
 abbrev is_refused : Renewal → Bool
 is_refused (Refused fault) = true
 is_refused Done = false
-is_refused GivenUp = false
+is_refused Rebuild = false
 
 pub returns-clause-refused : goal.returns-clause-refused
 returns-clause-refused g c = λ fault is.
     elim c.match-renewed.branch [
       | in-Ok-Some+in-Err-follow w ↦
           let same : w.in-Err-follow.fault ≡ fault = ap (fault_of fault) (sym w.answer-is ∙ is) in
-          inr (subst (λ o. IfSome o (λ (marks : Vec Bool). HasNoFault (LinkFaults c.args.files.now))) w.in-Ok-Some.field-0-is w.in-Ok-Some.ensures.clean, subst (g.M.MadeOfLink.IsRefused c.args.files.now) same w.in-Err-follow.ensures.fault)
+          inr (subst (λ o. IfSome o (λ (marks : Vec Bool). HasNoFault (LinkFaults c.args.files.now))) w.in-Ok-Some.field-0-is w.in-Ok-Some.ensures.clean, subst (g.M.Derived.IsRefused c.args.files.now) same w.in-Err-follow.ensures.fault)
       | in-Ok-None w ↦ absurd (both_ways false refl (ap is_refused (sym w.answer-is ∙ is)))
       | in-Err w ↦
           let same : NoMemory ≡ fault = ap (fault_of fault) (sym w.answer-is ∙ is) in

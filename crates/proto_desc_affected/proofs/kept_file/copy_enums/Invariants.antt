@@ -1,6 +1,0 @@
-use Rattle.std.proofs.Common.{◌≡◌, map, take}
-use Rattle.proto_desc_affected.specs.Common.{kept_enum_of}
-use Rattle.proto_desc_affected.proofs.kept_file.copy_enums.Given as goal
-
-abbrev pub invariant-loop-kept : goal.invariant-loop-kept
-invariant-loop-kept l = map kept_enum_of l.copy.items ≡ map kept_enum_of (take l.kept-index l.enums)

@@ -1,5 +1,0 @@
-use Rattle.proto_desc_affected.proofs.Checked.{kept_files_tell_spared}
-use Rattle.proto_desc_affected.proofs.laws.kept_files_tell_spared.Goals as goal
-
-pub returns : goal.returns
-returns c = kept_files_tell_spared
