@@ -1,6 +1,6 @@
 //! How often a link and descriptors ask for memory where one of 256 files is edited. In a run that refuses one allocation a
-//! test here fails exactly where the call that follows the edit is what meets the refusal: `tools/refuse_allocations --fewer`
-//! counts these runs. In a run that refuses none it passes.
+//! test here fails exactly where the call that follows the edit is what meets the refusal:
+//! `tools/acceptance/refused_allocations --fewer` counts these runs. In a run that refuses none it passes.
 
 ghost use Rattle.std.specs.Prelude.{◌≡◌, ◌≢◌, ◌<◌, ℕ, length, IfOk};
 ghost use Rattle.proto_files.specs.GivenFiles.{file_at, paths_of};

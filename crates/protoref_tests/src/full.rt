@@ -1,4 +1,4 @@
-//! The limit of a file. `tools/largest_inputs` has that of a journal.
+//! The limit of a file. `tools/acceptance/largest_inputs` has that of a journal.
 
 use crate::stores::{CHANGED, OLD, RENAME, joined_text};
 use crate::turns::Turn::{Done, Holds, Problem};
