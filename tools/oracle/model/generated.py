@@ -5,7 +5,7 @@ that means what they should. A workspace compiles by how it is made; the model's
 """
 
 from renames import KINDS
-from schemas import LISTED, SCALARS, NoSchema, Reference, Token, Use, Value, Workspace, derived_json, entry_name
+from schemas import LISTED, SCALARS, Reference, Token, Use, Value, Workspace, derived_json, entry_name
 
 PATHS = "a b c d Z p/a p/q/x-1 p/b a.b _u v1/m".split()
 PACKAGES = ["", "p", "p.q", "q", "p.q.r", "a", "a.b", "b", "x.M", "p.M"]
