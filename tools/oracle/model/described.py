@@ -74,8 +74,8 @@ class Scene:
     def __init__(self, workspace, uses, is_proto3):
         self.workspace, self.uses, self.is_proto3 = workspace, uses, is_proto3
 
-    def meant(self, reference):
-        return self.workspace.meaning(self.uses[id(reference)])
+    def resolved(self, reference):
+        return self.workspace.resolution(self.uses[id(reference)])
 
     def message(self, above, block):
         name = above + (block.name.text,)
@@ -114,14 +114,14 @@ class Scene:
         """The type of a field, or of a map field's value."""
         if field.scalar:
             return {"type": "TYPE_" + field.scalar.upper()}
-        name = self.meant(field.reference)
+        name = self.resolved(field.reference)
         kind = "ENUM" if self.workspace.by_name[name].kind == "enum" else "MESSAGE"
         return {"type": "TYPE_" + kind, "typeName": "." + ".".join(name)}
 
     def extensions(self, around):
         found = []
         for extend in around.of(Extend):
-            extendee = "." + ".".join(self.meant(extend.extendee))
+            extendee = "." + ".".join(self.resolved(extend.extendee))
             for one in extend.fields:
                 described = self.field(one, None, None)
                 del described["jsonName"]
@@ -171,8 +171,8 @@ class Scene:
         methods = [
             without_empty({
                 "name": method.name.text,
-                "inputType": "." + ".".join(self.meant(method.input)),
-                "outputType": "." + ".".join(self.meant(method.output)),
+                "inputType": "." + ".".join(self.resolved(method.input)),
+                "outputType": "." + ".".join(self.resolved(method.output)),
                 "clientStreaming": method.streams[0],
                 "serverStreaming": method.streams[1],
                 "options": options_of(method.options),

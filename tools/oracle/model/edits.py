@@ -22,14 +22,14 @@ NAMES = {
     15: "Needed",
     16: "TooLarge",
 }
-# By the command's word, with the words behind ROOT.
+# By the command's word; each takes the words after ROOT.
 EDITS = {"rename": rename_of, "delete-field": deletion_of, "add-import": addition_of, "drop-import": drop_of}
 # The keys of those words in the journal.
 KEYS = {"rename": ("name", "to"), "delete-field": ("name",), "add-import": ("file", "path"), "drop-import": ("file", "path")}
 
 
 def answer(workspace, command, *words):
-    """The number of what refuses an edit, the reference that it tells of, and the edit itself where nothing refuses it."""
+    """The number of what refuses an edit, the reference that it reports, and the edit itself where nothing refuses it."""
     return EDITS[command](workspace, *words)
 
 

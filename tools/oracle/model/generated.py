@@ -1,7 +1,7 @@
-"""Workspaces by chance, and renames of what they declare.
+"""Random workspaces, and renames of what they declare.
 
-Names come from small pools, so that new names often collide, capture, clash or are reserved. References are spelled in any way
-that means what they should. A workspace compiles by how it is made; the model's own faults are asked all the same.
+Names come from small pools, so that new names often collide, capture, clash or are reserved. References are written in any way
+that resolves to their names. A workspace compiles by how it is made; the model is asked for its faults nevertheless.
 """
 
 from renames import KINDS
@@ -326,7 +326,7 @@ class Maker:
     def fill_slot(self, workspace, syntaxes, slot, place):
         choices = []
         for symbol in workspace.symbols:
-            if workspace.shown[place].get(symbol.name) != symbol.kind or symbol.kind not in ("message", "enum"):
+            if workspace.visible[place].get(symbol.name) != symbol.kind or symbol.kind not in ("message", "enum"):
                 continue
             if symbol.kind == "enum":
                 is_closed = syntaxes[place] == "proto3" and syntaxes[symbol.file] != "proto3"
@@ -369,11 +369,11 @@ class Maker:
             place.tokens = [self.written(number)]
 
     def spelling(self, workspace, place, scope, name):
-        """A way to write the name that means it."""
+        """A way to write the name that resolves to it."""
         found = []
         for cut in range(len(name)):
             words = name[cut:]
-            if words[0] not in LISTED and workspace.meaning(use_of(place, scope, words)) == name:
+            if words[0] not in LISTED and workspace.resolution(use_of(place, scope, words)) == name:
                 found.append(words)
         if not found or self.rolls(0.12):
             return [piece for word in name for piece in (".", word)]
@@ -435,12 +435,12 @@ def workspace_by_chance(chance, counts=(1, 1, 1, 2, 2, 3, 3, 4, 5, 6, 7, 8)):
 
 
 def is_between(symbol, use, cut):
-    """Whether a symbol stands right below a scope between a reference and its hit, or is such a scope."""
+    """Whether a symbol is a child of a scope between a reference and its hit, or is such a scope."""
     return symbol.name[:-1] == use.scope[: len(symbol.name) - 1] and len(symbol.name) > cut + 1
 
 
 class Renamer:
-    """Picks renames in a workspace as it stands."""
+    """Picks renames in a workspace."""
 
     def __init__(self, chance, workspace, earlier):
         self.chance, self.workspace, self.earlier = chance, workspace, earlier
@@ -495,13 +495,13 @@ class Renamer:
         use = self.any(self.workspace.uses)
         if not use:
             return None
-        meant = self.workspace.meaning(use)
+        resolved = self.workspace.resolution(use)
         default = use.field.setting("default") if use.field else None
         if default and self.chance.random() < 0.6:
-            return meant[:-1] + (default[-1].text,), self.chance.choice(VALUES + FRESH)
-        name = meant[: len(meant) - self.chance.randrange(len(use.reference.words))]
+            return resolved[:-1] + (default[-1].text,), self.chance.choice(VALUES + FRESH)
+        name = resolved[: len(resolved) - self.chance.randrange(len(use.reference.words))]
         is_package = self.workspace.by_name[name].kind == "package"
-        return meant if is_package else name, self.chance.choice(TYPES + FRESH)
+        return resolved if is_package else name, self.chance.choice(TYPES + FRESH)
 
     def extension(self):
         symbol = self.any([one for one in self.allowed if one.kind == "extension"])
@@ -514,9 +514,9 @@ class Renamer:
             return None
         file, scope, extend = found
         use = next(one for one in self.workspace.uses if one.reference is extend.extendee)
-        meant = self.workspace.meaning(use)
-        name = meant[: len(meant) - self.chance.randrange(len(extend.extendee.words))]
-        name = meant if self.workspace.by_name[name].kind == "package" else name
+        resolved = self.workspace.resolution(use)
+        name = resolved[: len(resolved) - self.chance.randrange(len(extend.extendee.words))]
+        name = resolved if self.workspace.by_name[name].kind == "package" else name
         near = [one.name[-1] for one in self.workspace.symbols if one.name[: len(scope)] == scope and len(one.name) > len(scope)]
         return name, self.chance.choice(near * (self.chance.random() < 0.5) + FRESH)
 
@@ -552,7 +552,7 @@ class Renamer:
         return field.name, self.chance.choice([entry, word, word.lower(), word[0].lower() + word[1:], "f_oo", "foo_", "Foo"])
 
     def entry_of_reference(self):
-        """A map field whose new entry would stand between a reference and its hit."""
+        """A map field whose new entry would be between a reference and its hit."""
         use, cut = self.any([hit for hit in self.hits() if hit[0].reference.words[0].endswith("Entry")]) or (None, 0)
         maps = [one for one in self.allowed if one.kind == "field" and one.node.key]
         field = use and self.any([one for one in maps if is_between(one, use, cut)])
@@ -561,8 +561,8 @@ class Renamer:
 
     def sibling(self):
         symbol = self.any(self.allowed)
-        beside = symbol and self.any([one for one in self.workspace.symbols if one.name[:-1] == symbol.name[:-1]])
-        return beside and (symbol.name, beside.name[-1])
+        other = symbol and self.any([one for one in self.workspace.symbols if one.name[:-1] == symbol.name[:-1]])
+        return other and (symbol.name, other.name[-1])
 
     def package(self):
         words = sorted({word for one in self.workspace.symbols if one.kind == "package" for word in one.name})

@@ -1,5 +1,5 @@
-"""Edits by chance in a workspace as it stands: renames, deleted fields, added and dropped imports. What the model answers to
-them is asked beforehand where answers of a kind are few."""
+"""Random edits of a workspace: renames, deleted fields, added and dropped imports. Where answers of a kind are rare, edits are
+picked by what the model answers to them."""
 
 from edits import answer
 from generated import FIELDS, PATHS, Renamer
@@ -15,7 +15,7 @@ class Editor:
         self.chance, self.workspace, self.earlier = chance, workspace, earlier
 
     def pick(self):
-        """The command's word and the words behind ROOT."""
+        """The command's word and the words after ROOT."""
         ways = {self.rename: 25, self.deletion: 35, self.addition: 22, self.drop: 22}
         while True:
             (way,) = self.chance.choices(list(ways), list(ways.values()))
@@ -111,6 +111,6 @@ class Editor:
             number, use, _ = answer(self.workspace, *edit)
             kind = (number, use and self.workspace.files[use.file].path == edit[1])
             kinds.setdefault(kind, []).append(edit)
-        # What is refused as it stands tells little more each time.
+        # An import that is there already, or that would make a cycle, is refused alike each time: these are picked less often.
         weights = [0.3 if kind[0] in (12, 14) else 2 if kind[0] in (0, 16) else 1 for kind in kinds]
         return self.chance.choice(self.chance.choices(list(kinds.values()), weights)[0]) if kinds else None

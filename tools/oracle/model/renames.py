@@ -1,5 +1,5 @@
 """What a rename is, in a model of schemas: its name map, the cases that refuse it and the words that it changes, as
-docs/edits.md has them. Everything is read in the workspace as it is before; no changed text is looked at.
+docs/edits.md has them. Everything is read in the workspace as it is before the edit; no changed text is read.
 """
 
 import copy
@@ -20,9 +20,9 @@ class Rename:
         # The renamed names with their new ones: of a map field its entry's too.
         self.pairs = [(self.old, self.new)]
         if target.kind == "field" and target.node.key:
-            above = target.name[:-1]
-            self.pairs.append((above + (entry_name(self.old[-1]),), above + (entry_name(to),)))
-        # The enum of a renamed value: it stands beside its values.
+            parent = target.name[:-1]
+            self.pairs.append((parent + (entry_name(self.old[-1]),), parent + (entry_name(to),)))
+        # The enum of a renamed value, which is a sibling of its values.
         self.enum = target.name[:-1] + (target.block.name.text,) if target.kind == "value" else None
 
     @property
@@ -44,34 +44,34 @@ class Rename:
 
     def words_after(self, use):
         """The words of a reference as rewritten."""
-        meant, words = self.workspace.meaning(use), use.reference.words
-        fronts = [meant[: len(meant) - len(words) + place + 1] for place in range(len(words))]
-        return tuple(self.to if front == self.old else word for front, word in zip(fronts, words))
+        resolved, words = self.workspace.resolution(use), use.reference.words
+        prefixes = [resolved[: len(resolved) - len(words) + place + 1] for place in range(len(words))]
+        return tuple(self.to if prefix == self.old else word for prefix, word in zip(prefixes, words))
 
-    def shown_after(self, place):
+    def visible_after(self, place):
         """The visible names of a file under the name map, each with its kinds."""
-        shown = {}
-        for name, kind in self.workspace.shown[place].items():
-            shown.setdefault(self.map(name), set()).add(kind)
-        return shown
+        visible = {}
+        for name, kind in self.workspace.visible[place].items():
+            visible.setdefault(self.map(name), set()).add(kind)
+        return visible
 
-    def is_captured(self, use, shown):
+    def is_captured(self, use, visible):
         if use.reference.is_absolute:
             return False
         words = self.words_after(use)
         for cut in range(self.workspace.hit(use) + 1, len(use.scope) + 1):
-            kinds = shown.get(self.map(use.scope[:cut]) + words[:1], ())
+            kinds = visible.get(self.map(use.scope[:cut]) + words[:1], ())
             if any(fits(kind, words) for kind in kinds):
                 return True
         return False
 
     def captured(self):
         """The first captured reference, or None."""
-        shown = {}
+        visible = {}
         for use in self.workspace.uses:
-            if use.file not in shown:
-                shown[use.file] = self.shown_after(use.file)
-            if self.is_captured(use, shown[use.file]):
+            if use.file not in visible:
+                visible[use.file] = self.visible_after(use.file)
+            if self.is_captured(use, visible[use.file]):
                 return use
         return None
 
@@ -114,7 +114,7 @@ class Rename:
                 if token.text != word:
                     yield use.file, token
             default = use.field.setting("default") if use.field else None
-            if default and self.enum and self.workspace.meaning(use) == self.enum and default[-1].text == self.old[-1]:
+            if default and self.enum and self.workspace.resolution(use) == self.enum and default[-1].text == self.old[-1]:
                 yield use.file, default[-1]
 
     def changes(self):
@@ -131,12 +131,12 @@ class Rename:
         return found
 
 
-def is_below(name, front):
-    return name[: len(front)] == front
+def is_below(name, prefix):
+    return name[: len(prefix)] == prefix
 
 
 def rename_of(workspace, name, to):
-    """The number of what refuses a rename, the reference that it tells of, and the rename itself where nothing refuses it."""
+    """The number of what refuses a rename, the reference that it reports, and the rename itself where nothing refuses it."""
     target = next((symbol for symbol in workspace.symbols if ".".join(symbol.name) == name), None)
     if target is None:
         return 1, None, None
@@ -177,37 +177,37 @@ def mapped(rename, descriptors):
             for method in service.get("method", []):
                 map_name(rename, name, method)
                 for key in ("inputType", "outputType"):
-                    method[key] = map_meaning(rename, method[key])
+                    method[key] = map_resolved(rename, method[key])
     return after
 
 
-def map_name(rename, above, element):
+def map_name(rename, parent, element):
     """Maps the name of an element, and answers its full name before."""
-    name = above + (element["name"],)
+    name = parent + (element["name"],)
     element["name"] = rename.map(name)[-1]
     return name
 
 
-def map_meaning(rename, written):
+def map_resolved(rename, written):
     return "." + ".".join(rename.map(tuple(written[1:].split("."))))
 
 
-def map_types(rename, above, holder):
+def map_types(rename, parent, holder):
     for enum in holder.get("enumType", []):
-        map_name(rename, above, enum)
+        map_name(rename, parent, enum)
         for value in enum["value"]:
-            map_name(rename, above, value)
+            map_name(rename, parent, value)
     for extension in holder.get("extension", []):
-        map_name(rename, above, extension)
+        map_name(rename, parent, extension)
         map_typed(rename, extension)
-        extension["extendee"] = map_meaning(rename, extension["extendee"])
+        extension["extendee"] = map_resolved(rename, extension["extendee"])
     for key in ("messageType", "nestedType"):
         for message in holder.get(key, []):
-            map_message(rename, above, message)
+            map_message(rename, parent, message)
 
 
-def map_message(rename, above, message):
-    name = map_name(rename, above, message)
+def map_message(rename, parent, message):
+    name = map_name(rename, parent, message)
     map_types(rename, name, message)
     for oneof in message.get("oneofDecl", []):
         map_name(rename, name, oneof)
@@ -224,4 +224,4 @@ def map_typed(rename, field):
         if field.get("defaultValue") == rename.old[-1]:
             field["defaultValue"] = rename.to
     if "typeName" in field:
-        field["typeName"] = map_meaning(rename, field["typeName"])
+        field["typeName"] = map_resolved(rename, field["typeName"])

@@ -6,7 +6,7 @@ edits, are read in the tests.
 import re
 
 P3 = 'syntax = "proto3"; '
-# The faults that the model tells with their places.
+# The faults that the model reports, with their places.
 OF_EXTENSIONS = (25, 27, 31, 36, 37, 38)
 ONE = P3 + "message A { string b_c = 1; }"
 ENUMS = (
@@ -60,8 +60,8 @@ def values_of_table(table, named):
 def rows_of_faults(source):
     """The rows that a source of tests has of faults of extensions: texts by path, and the number, the path and the offset."""
     for table in re.findall(r"^const \w+: &\[\(&str, &str\)\] = (.*?\];)$", source, re.S | re.M):
-        told = values_of_table("[" + ",".join(one for one in TEXT.findall(table) if one[0] == '"') + "]", {})
-        for given, said in zip(told[::2], told[1::2]):
+        reported = values_of_table("[" + ",".join(one for one in TEXT.findall(table) if one[0] == '"') + "]", {})
+        for given, said in zip(reported[::2], reported[1::2]):
             fault = re.fullmatch(r"(\S+):(\d+): (\d+) \w+", said)
             if fault and int(fault[3]) in OF_EXTENSIONS:
                 yield texts_of(given), int(fault[3]), fault[1], int(fault[2])
@@ -69,11 +69,11 @@ def rows_of_faults(source):
 
 def parts_of_row(kind, row):
     if kind == "Deletion":
-        text, name, told, after, json = row
-        return {"a.proto": text}, [("delete", name, "", told)], {"a.proto": after}, json
+        text, name, reported, after, json = row
+        return {"a.proto": text}, [("delete", name, "", reported)], {"a.proto": after}, json
     if kind == "Place":
-        text, told, after, json = row
-        return {"a.proto": text, **EMPTY}, [("add", "a.proto", "b.proto", told)], {"a.proto": after, **EMPTY}, json
+        text, reported, after, json = row
+        return {"a.proto": text, **EMPTY}, [("add", "a.proto", "b.proto", reported)], {"a.proto": after, **EMPTY}, json
     given, asked, after, json = row
     return texts_of(given), [step_of(written) for written in asked.split("|")], texts_of(after), json
 
@@ -83,8 +83,8 @@ def texts_of(written):
 
 
 def step_of(written):
-    asked, _, told = written.partition(" > ")
-    return (*asked.split(" "), "", "")[:3] + (told,)
+    asked, _, reported = written.partition(" > ")
+    return (*asked.split(" "), "", "")[:3] + (reported,)
 
 
 ROWS = [

@@ -1,7 +1,7 @@
-"""A plain model of schemas: tokens, trees, names, what a file sees and what a reference means.
+"""A plain model of schemas: tokens, trees, names, what a file sees and what a reference resolves to.
 
-It is written from docs/language.md and docs/faults.md alone. A text is held as its bytes read as Latin-1, so that a place in
-it counts bytes. Full names are tuples of words.
+It is written from docs/language.md and docs/faults.md alone. A text is held as its bytes read as Latin-1, so that an offset
+in it counts bytes. Full names are tuples of words.
 """
 
 import re
@@ -29,7 +29,7 @@ ESCAPED = {"a": "\a", "b": "\b", "f": "\f", "n": "\n", "r": "\r", "t": "\t", "v"
 
 # Kinds of symbols. A reference of one word fits types, a longer one fits what may have types below it.
 TYPES = ("message", "entry", "enum")
-FRONTS = TYPES + ("service", "package")
+PREFIXES = TYPES + ("service", "package")
 
 
 class NoSchema(Exception):
@@ -165,7 +165,7 @@ class File:
     package: tuple = ()
     imports: list = field(default_factory=list)
     members: list = field(default_factory=list)
-    # The bytes of each import, and the places behind the `;` of the package and of the syntax.
+    # The bytes of each import, and the offsets after the `;` of the package and of the syntax.
     import_spans: list = field(default_factory=list)
     package_end: Optional[int] = None
     syntax_end: Optional[int] = None
@@ -237,7 +237,7 @@ class Reader:
         return self.take()
 
     def take_end(self, text=";"):
-        """Takes the text, and answers the place behind it."""
+        """Takes the text, and answers the offset after it."""
         return self.take_text(text).start + len(text)
 
     def takes(self, text):
@@ -462,7 +462,7 @@ class Workspace:
         # Extend blocks with their files and scopes, in the order of paths and offsets.
         self.extends = sorted(self.extended(), key=lambda found: (found[0], found[2].keyword.start))
         self.uses = sorted(self.used(), key=lambda use: (use.file, use.reference.first.start))
-        self.shown = [self.shown_in(place) for place in range(len(self.files))]
+        self.visible = [self.visible_in(place) for place in range(len(self.files))]
 
     # ---- names
 
@@ -498,10 +498,10 @@ class Workspace:
 
     def sees(self, place):
         """The places of the files that a file sees."""
-        return self.seen_by({one: file.imports for one, file in enumerate(self.files)}, place)
+        return self.sees_with({one: file.imports for one, file in enumerate(self.files)}, place)
 
-    def seen_by(self, imports_of, place):
-        """The places of the files that a file would see if each had these imports."""
+    def sees_with(self, imports_of, place):
+        """The numbers of the files that a file would see if each had these imports."""
         seen = {place}
         todo = [self.place_of[path] for path, _ in imports_of[place] if path in self.place_of]
         while todo:
@@ -512,16 +512,16 @@ class Workspace:
                 todo += [self.place_of[path] for path, is_public in imports if is_public and path in self.place_of]
         return seen
 
-    def shown_in(self, place):
+    def visible_in(self, place):
         """The visible names of a file with their kinds."""
         return self.names_in(self.sees(place))
 
     def names_in(self, seen):
         """The names of these files and of their packages with their kinds."""
-        shown = {symbol.name: symbol.kind for symbol in self.symbols if symbol.file in seen}
+        visible = {symbol.name: symbol.kind for symbol in self.symbols if symbol.file in seen}
         for package in (self.files[one].package for one in seen):
-            shown.update({package[:cut]: "package" for cut in range(1, len(package) + 1)})
-        return shown
+            visible.update({package[:cut]: "package" for cut in range(1, len(package) + 1)})
+        return visible
 
     # ---- references
 
@@ -554,12 +554,12 @@ class Workspace:
         """How many parts the longest prefix of the scope has at which the first word is visible and fits."""
         words = words or use.reference.words
         for cut in range(len(use.scope), -1, -1):
-            if fits(self.shown[use.file].get(use.scope[:cut] + words[:1]), words):
+            if fits(self.visible[use.file].get(use.scope[:cut] + words[:1]), words):
                 return cut
         return None
 
-    def meaning(self, use, words=None):
-        """The full name that a reference means, or that these words in its place would mean."""
+    def resolution(self, use, words=None):
+        """The full name that a reference resolves to, or that these words in its place would resolve to."""
         if use.reference.is_absolute and words is None:
             name = use.reference.words
         else:
@@ -568,7 +568,7 @@ class Workspace:
             if cut is None:
                 return None
             name = use.scope[:cut] + words
-        return name if self.shown[use.file].get(name) in TYPES else None
+        return name if self.visible[use.file].get(name) in TYPES else None
 
     # ---- faults
 
@@ -593,7 +593,7 @@ class Workspace:
 
     def faults_of_extends(self):
         """Those of extensions, each with its path and offset."""
-        extendee_of = {id(use.reference): self.meaning(use) for use in self.uses if use.wants_message}
+        extendee_of = {id(use.reference): self.resolution(use) for use in self.uses if use.wants_message}
         taken = set()
         for file, _, extend in self.extends:
             path = self.files[file].path
@@ -629,21 +629,21 @@ class Workspace:
         return False
 
     def faults_of_use(self, use):
-        meant = self.meaning(use)
-        if meant is None:
+        resolved = self.resolution(use)
+        if resolved is None:
             return [(14, use.reference.words)]
-        symbol = self.by_name[meant]
+        symbol = self.by_name[resolved]
         found = []
         if use.wants_message and symbol.kind == "enum":
-            found.append((15, meant))
+            found.append((15, resolved))
         if symbol.kind == "entry":
-            found.append((16, meant))
+            found.append((16, resolved))
         if symbol.kind == "enum" and use.field:
             values = symbol.node.of(Value)
             if use.field.key and values and values[0].number != 0:
-                found.append((23, meant))
+                found.append((23, resolved))
             if self.files[use.file].syntax == "proto3" and self.files[symbol.file].syntax == "proto2":
-                found.append((24, meant))
+                found.append((24, resolved))
             default = use.field.setting("default")
             if default and default[-1].text not in [value.name.text for value in values]:
                 found.append((28, default[-1].text))
@@ -688,4 +688,4 @@ def shares(bounds, other):
 
 
 def fits(kind, words):
-    return kind in (TYPES if len(words) == 1 else FRONTS)
+    return kind in (TYPES if len(words) == 1 else PREFIXES)

@@ -1,5 +1,5 @@
 """What a deleted field, an added import and a dropped one are, in a model of schemas: the cases that refuse each, its one splice,
-and what becomes of the descriptors, as docs/edits.md has them. Everything is read in the workspace as it is before.
+and what becomes of the descriptors, as docs/edits.md has them. Everything is read in the workspace as it is before the edit.
 """
 
 import copy
@@ -97,7 +97,7 @@ def deletion_of(workspace, name):
 
 
 class Addition(Statement):
-    """An import behind the last one, else behind the package, else behind the syntax, else first of all."""
+    """An import after the last one, else after the package, else after the syntax, else first of all."""
 
     def __init__(self, workspace, place, path):
         self.path = path
@@ -117,25 +117,25 @@ def imports_with(workspace, place, imports):
     return {one: imports if one == place else file.imports for one, file in enumerate(workspace.files)}
 
 
-def overtaken(workspace, place, path):
+def captured(workspace, place, path):
     """The first reference of a file that would be found further inward if it imported the path too."""
     imports = imports_with(workspace, place, workspace.files[place].imports + [(path, False)])
-    shown = workspace.names_in(workspace.seen_by(imports, place))
+    visible = workspace.names_in(workspace.sees_with(imports, place))
     for use in workspace.uses:
         if use.file != place or use.reference.is_absolute:
             continue
         words = use.reference.words
         for cut in range(workspace.hit(use) + 1, len(use.scope) + 1):
-            if fits(shown.get(use.scope[:cut] + words[:1]), words):
+            if fits(visible.get(use.scope[:cut] + words[:1]), words):
                 return use
     return None
 
 
 def addition_of(workspace, path, imported):
-    """The number of what refuses an added import, the reference that it tells of, and the addition where nothing does."""
+    """The number of what refuses an added import, the reference that it reports, and the addition where nothing does."""
     place, other = workspace.place_of.get(path), workspace.place_of.get(imported)
     if place is not None and other is not None:
-        use = overtaken(workspace, place, imported)
+        use = captured(workspace, place, imported)
         if use:
             return 7, use, None
     if place is None or other is None:
@@ -172,18 +172,18 @@ class Drop(Statement):
 
 
 def needed(workspace, place, path):
-    """The first reference of any file that means what its file would no longer see."""
+    """The first reference of any file that resolves to what its file would no longer see."""
     left = [one for one in workspace.files[place].imports if one[0] != path]
     imports = imports_with(workspace, place, left)
-    seen = [workspace.seen_by(imports, one) for one in range(len(workspace.files))]
+    seen = [workspace.sees_with(imports, one) for one in range(len(workspace.files))]
     for use in workspace.uses:
-        if workspace.by_name[workspace.meaning(use)].file not in seen[use.file]:
+        if workspace.by_name[workspace.resolution(use)].file not in seen[use.file]:
             return use
     return None
 
 
 def drop_of(workspace, path, imported):
-    """The number of what refuses a dropped import, the reference that it tells of, and the drop where nothing does."""
+    """The number of what refuses a dropped import, the reference that it reports, and the drop where nothing does."""
     place = workspace.place_of.get(path)
     if place is None:
         return 11, None, None
