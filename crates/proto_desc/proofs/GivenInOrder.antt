@@ -9,7 +9,7 @@ use Rattle.proto_files.proofs.Members.{Contains-from_member}
 use Rattle.proto_desc.proofs.Opened.{read_error}
 use Rattle.proto_desc.specs.Opening.{AreReadOf, IsOpenError}
 
-rises : (w : List FileOf) → AllPairs (λ f g. IsBefore f.path g.path) w → PathsRise (paths_of w)
+pub rises : (w : List FileOf) → AllPairs (λ f g. IsBefore f.path g.path) w → PathsRise (paths_of w)
 rises [] h = tt
 rises (f ∷ w) h = (
   (λ q m. (

@@ -8,6 +8,7 @@ use Rattle.proto_files.proofs.Common.{FaultAt, IsLeastFault, FileOf, paths_of, A
 use Rattle.proto_files.proofs.Members.{Contains-from_member}
 use Rattle.proto_edit_entries.specs.Putting.{AreShortFiles}
 use Rattle.proto_desc.specs.Whole.{IsSortedOf, FileFaults, WorkspaceFaults, of_path, of_files, of_read}
+use Rattle.proto_desc.proofs.GivenInOrder.{rises}
 use Rattle.proto_edit_rename_described.proofs.CleanFiles.{clean_files_are_read}
 use Rattle.proto_edit.specs.Common.{AreCompiled, fault_of_kind, CompiledAreRead, WorkspacesAreClean}
 
@@ -30,15 +31,6 @@ sorted_again w files workspace sorted = one_order files w (IsPermutation-sym w f
         let long = length_permutation w files sorted.same in
         let few = workspace.few in
         record { few = omega (arith, long, few); named = All-permutation (λ (f : FileOf). IsWorkspacePath f.path) w files sorted.same workspace.named; ordered = sorted.ordered }
-
-rises : (w : List FileOf) → AllPairs (λ f g. IsBefore f.path g.path) w → PathsRise (paths_of w)
-rises [] h = tt
-rises (f ∷ w) h = (
-  (λ q m. (
-      let c = from_map (λ (g : FileOf). g.path) w q (Contains-from_member q (paths_of w) m) in
-      subst (IsBefore f.path) c.2 (subst (λ (g : FileOf). IsBefore f.path g.path) c.1.2 (h 0 (suc c.1.0) c.0 (omega arith) (omega (arith, c.1.1)))))),
-  rises w (λ i j d lt within. h (suc i) (suc j) d (omega arith) (omega arith)),
-)
 
 no_path_fault : (w : List FileOf) → AreWorkspaceFiles w → (k : FaultKind) (p : List ℕ) → IsPathFault 4096 (paths_of w) k p → ⊥
 no_path_fault w workspace BadPath p h =

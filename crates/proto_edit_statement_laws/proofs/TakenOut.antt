@@ -47,7 +47,7 @@ block_long k i within j rest =
 pub leaf_long : (s : Statement) → length (flat (Leaf s End)) ≡ length (flat_statement s)
 leaf_long s = ap (λ (x : List Mark). length x) (nothing_behind (flat_statement s))
 
-exchanged_long : (g : Move) (a b : Tree) (c : Context) (t u : Tree) → IsExchanged g a b c t u → length (flat u) + length (flat a) ≡ length (flat t) + length (flat b)
+pub exchanged_long : (g : Move) (a b : Tree) (c : Context) (t u : Tree) → IsExchanged g a b c t u → length (flat u) + length (flat a) ≡ length (flat t) + length (flat b)
 exchanged_long g a b c t u r =
     let s = around g a b c t u r in
     let x = ap (λ (m : List Mark). length m) s.old ∙ length-append s.front (flat a ++ s.back) ∙ ap (λ (n : ℕ). length s.front + n) (length-append (flat a) s.back) in
