@@ -1,5 +1,5 @@
 -- General lemmas on lists, for every crate above: tests over lists, members, and words that are the same.
-use Rattle.std.proofs.Common.{◌≡◌, ℕ, zero, suc, ◌<◌, Bool, true, false, cond, ◌||◌, List, [], ◌∷◌, length, get_or, refl, sym, ◌∙◌, ap, subst, inl, inr, ◌⊎◌, arith, map, flat_map, Contains, filter, bytes_eq}
+use Rattle.std.proofs.Common.{◌≡◌, ℕ, zero, suc, ◌<◌, Bool, true, false, cond, ◌||◌, List, [], ◌∷◌, length, get_or, refl, sym, ◌∙◌, ap, subst, inl, inr, ◌⊎◌, arith, map, flat_map, Contains, filter, find, Option, Some, None, option_map, bytes_eq}
 use Rattle.std.specs.List.{list_any}
 use Rattle.std.proofs.lemmas.List.Folds.{Any-from_list_any, list_any_at}
 use Rattle.std.proofs.lemmas.Slice.Eq.{bytes_eq-Decides}
@@ -98,6 +98,15 @@ from_filter p (y ∷ xs) x c = go (p y) refl (from_filter p xs x) c
       | inr d ↦ let r = ih d in (contains_later y x xs r.0, r.1)
     ]
     go false e ih c = let r = ih c in (contains_later y x xs r.0, r.1)
+
+-- what is found in a mapped list is the image of what is found
+pub found_in_map : {A B : Type 0} (p : B → Bool) (f : A → B) (xs : List A) → find p (map f xs) ≡ option_map f (find (λ x. p (f x)) xs)
+found_in_map p f [] = refl
+found_in_map p f (x ∷ xs) = by (p (f x)) (found_in_map p f xs)
+  where
+    by : (b : Bool) → find p (map f xs) ≡ option_map f (find (λ x. p (f x)) xs) → cond b (Some (f x)) (find p (map f xs)) ≡ option_map f (cond b (Some x) (find (λ x. p (f x)) xs))
+    by true e = refl
+    by false e = e
 
 pub word_from_same : (x y : List ℕ) → bytes_eq x y ≡ true → x ≡ y
 word_from_same x y h = (bytes_eq-Decides x y).0 h

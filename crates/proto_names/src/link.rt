@@ -8,7 +8,7 @@ ghost use Rattle.proto_text.specs.Tokens.{AreTokens};
 ghost use Rattle.proto_text.specs.declared.lexer.Token.{Token};
 ghost use Rattle.proto_tree.specs.References.{dotted};
 ghost use Rattle.proto_names_rules.specs.Joined.{joined, ArePlain};
-ghost use Rattle.proto_names.specs.FileReferences.{declared_names};
+ghost use Rattle.proto_names_update.specs.NamesOfFiles.{declared_names};
 ghost use Rattle.proto_names.specs.LinkOfFiles.{IsLinkOf};
 ghost use Rattle.proto_names_rules.specs.Linked.{is_package};
 ghost use Rattle.proto_names.specs.Linking.{NameOf, declared_row, name_of_row, name_at, name_text, declaring_file, declaring_token, row_at, meant_at, shows_text, is_visible};

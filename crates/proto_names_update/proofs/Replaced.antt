@@ -5,6 +5,7 @@ use Rattle.proto_case.specs.Camel.{entry_name}
 use Rattle.proto_base.proofs.Common.{Contains-append_cases, Contains-append_left, Contains-append_right, cases_Bool, contains_filter, contains_map, from_filter, from_map, get_or-map, get_or_default, length-map, list_any, both_ways, not-true, not_from_false, or_cases, or_parts, or_right}
 use Rattle.proto_files.proofs.Common.{AreRead, FileOf, ReadOf, file_at, one_reading, read_at}
 use Rattle.proto_names_imports.specs.Links.{link_skeleton, names_in, text_of}
+use Rattle.proto_names_imports.proofs.NumberedFiles.{IsNumbered, file_there, numbered}
 use Rattle.proto_names_outline.proofs.Common.{items_in, package_first, whole}
 use Rattle.proto_names_rules.proofs.Common.{ArePlain, At, Declared, EntryOf, FileAt, FileNames, Given, Placed, Source, Symbol, Token, at, declared_to, declares, file_placed, front, is_package, joined, joined_apart, map_map, name_of, names_apart, package_from, place_from, place_of, shifted_source}
 use Rattle.proto_names_rules.proofs.Files.{declared_from}
@@ -41,29 +42,6 @@ same_name text now file same [] = refl
 same_name text now file same (Token i ∷ path) = ap₂ (λ (w : List ℕ) (n : List (List ℕ)). w ∷ n) (same i) (same_name text now file same path)
 same_name text now file same (EntryOf i ∷ path) = ap₂ (λ (w : List ℕ) (n : List (List ℕ)). entry_name w ∷ n) (same i) (same_name text now file same path)
 same_name text now file same (Given w ∷ path) = ap (λ (n : List (List ℕ)). w ∷ n) (same_name text now file same path)
-
--- ---- the file with a number
-
-file_there : (n : ℕ) (rs : List ReadOf) (k : ℕ) → k < length rs → FileAt n (map names_in rs) (n + k) (names_in (read_at rs k))
-file_there n [] k l = absurd (omega (arith, l))
-file_there n (r ∷ rs) zero l = inl (omega arith, refl)
-file_there n (r ∷ rs) (suc k) l =
-    let e : suc n + k ≡ n + suc k = omega arith in
-    inr (subst (λ m. FileAt (suc n) (map names_in rs) m (names_in (read_at rs k))) e (file_there (suc n) rs k (omega (arith, l))))
-
--- what is known of a file by its number
-record IsNumbered (n : ℕ) (rs : List ReadOf) (file : ℕ) (f : FileNames) : Type 0 where
-  place : ℕ
-  within : place < length rs
-  file_is : file ≡ n + place
-  names_are : names_in (read_at rs place) ≡ f
-
-numbered : (n : ℕ) (rs : List ReadOf) (file : ℕ) (f : FileNames) → FileAt n (map names_in rs) file f → IsNumbered n rs file f
-numbered n [] file f h = absurd h
-numbered n (r ∷ rs) file f (inl h) = record { place = 0; within = omega arith; file_is = omega (arith, h.0); names_are = h.1 }
-numbered n (r ∷ rs) file f (inr h) =
-    let i = numbered (suc n) rs file f h in
-    record { place = suc i.place; within = omega (arith, i.within); file_is = omega (arith, i.file_is); names_are = i.names_are }
 
 -- ---- what a file declares, and that files which are not edited declare the same
 
