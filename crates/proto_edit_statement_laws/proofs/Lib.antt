@@ -29,7 +29,6 @@ pub mod NamesCommon
 pub mod NamesOut
 pub mod NewStatements
 pub mod OneFile
-pub mod PathPlaces
 pub mod Paths
 pub mod Places
 pub use Rattle.proto_edit_rename_laws.proofs.Declarations

@@ -1,5 +1,5 @@
-use Rattle.std.proofs.Common.{◌∙◌, [], Contains-get_or, sym}
-use Rattle.proto_base.proofs.Common.{contains_map}
+use Rattle.std.proofs.Common.{◌∙◌, [], sym}
+use Rattle.proto_base.proofs.Common.{Contains-get_or, contains_map}
 use Rattle.proto_files.proofs.Common.{FileOf, file_at}
 use Rattle.proto_edit_entries.proofs.TextPlaces.{file_found, no_path}
 use Rattle.protoref_output.proofs.FoundFiles.{text_of_file, text_of_none_named}
