@@ -267,7 +267,7 @@ KeptFilesTellUnaffected =
     → (file : ℕ) → IsKeptStill places files l ks file
     → StaysKept places before was files reads file
 
--- ---- which files are told to be looked at again
+-- ---- which files are given to be re-checked
 
 -- what the reference means stands in a file that is not edited; or, of a file without an `extend`
 -- block, it is a message's, or an enum's that is to the file what is kept of it
@@ -278,7 +278,7 @@ IsSettled places files l ks by m =
     ⊎ ((by.has_extend ≡ false)
     × (((kept_by_link l m).is_message ≡ true) ⊎ IsEnumAtRow files l ks by.is_proto3 m.row))
 
--- of a file that need not be looked at again the references mean the names that they meant, and a
+-- of a file that need not be re-checked the references mean the names that they meant, and a
 -- message's was one; so it is unaffected, where each of its references is settled
 abbrev pub MarksTellKept : Type 0
 MarksTellKept =

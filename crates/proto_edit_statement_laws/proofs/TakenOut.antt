@@ -71,7 +71,7 @@ pub record IsTakenOut (g k : Move) (s : Statement) (b : Tree) (c d : Context) (t
   pub put_at : before put + length (flat_statement s) ≡ p
 
 module _ (g k : Move) (s : Statement) where
-  -- among items of a context that none of them changes, with b in the place of the statement
+  -- among items of a context that none of them changes, with b in place of the statement
   among : (b : Tree) (c d : Context) (t : Tree) → d ≡ c → allows c kind.Close ≡ true → IsWellFormed c b → last_of c b ≡ c → (h : StandsIn s t) → IsTakenOut g k s b c d t (before_it h) (before_it h + length (flat_statement s))
   among b c d _ e inner fine stays (First rest) = record {
     middle = move_tree g rest;

@@ -53,7 +53,7 @@ fn asked_for<'a>(alloc: Global, paths: &'a [String]) -> Result<IndexSet<&'a str>
     Ok(known)
 }
 
-// What is put in the place of a file, if anything; the known paths are those of the store.
+// What is put in place of a file, if anything; the known paths are those of the store.
 fn old_file<S: Store>(
     alloc: Global,
     store: &mut S,
@@ -87,7 +87,7 @@ fn old_file<S: Store>(
     }
 }
 
-// Adds what is put in the place of each file of an entry; the known paths are those of the store,
+// Adds what is put in place of each file of an entry; the known paths are those of the store,
 // and the other changes lead back. The list is the caller's, so no exit drops a file.
 fn add_each<S: Store>(
     alloc: Global,
@@ -117,7 +117,7 @@ fn add_each<S: Store>(
     Ok(())
 }
 
-// Adds what is put in the place of the files of an entry.
+// Adds what is put in place of the files of an entry.
 fn add_old_files<S: Store>(
     alloc: Global,
     store: &mut S,
@@ -141,7 +141,7 @@ fn add_old_files<S: Store>(
     add_each(alloc, store, &known, entry, back.as_slice(), files)
 }
 
-// What is put in the place of the files of an entry.
+// What is put in place of the files of an entry.
 pub(crate) fn old_files<S: Store>(
     alloc: Global,
     store: &mut S,

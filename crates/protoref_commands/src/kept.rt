@@ -40,12 +40,12 @@ impl Retained {
         }
     }
 
-    /// Keeps schemas with their descriptors, in the place of any kept before.
+    /// Keeps schemas with their descriptors, in place of any kept before.
     pub(crate) fn keep(&mut self, schema: DescribedSchema) {
         let_go(mem::replace(&mut self.described, Some(schema)));
     }
 
-    /// Keeps schemas without descriptors, in the place of any kept before.
+    /// Keeps schemas without descriptors, in place of any kept before.
     pub(crate) fn keep_checked(&mut self, schema: CheckedSchema) {
         let_checked_go(mem::replace(&mut self.checked, Some(schema)));
     }
