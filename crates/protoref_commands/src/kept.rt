@@ -5,8 +5,8 @@ ghost use Rattle.std.specs.Prelude.{◌≡◌, None};
 use proto_desc::{CheckedSchema, DescribedSchema};
 use std::mem;
 
-/// What a run still holds when it has ended. Who goes on lets it go by `release`; a program that ends
-/// can spare that.
+/// What a run still holds when it has ended. A caller that goes on drops it by `release`; a program
+/// that ends need not.
 #[derive(Drop)]
 pub struct Retained {
     described: Option<DescribedSchema>,
