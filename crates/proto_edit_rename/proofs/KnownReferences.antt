@@ -10,7 +10,7 @@ use Rattle.proto_names_rules.specs.declared.kind.Kind.{Kind}
 use Rattle.proto_names_rules.specs.declared.kind.Kind.TheVariants.{Package, Entry, EntryField}
 use Rattle.proto_names_imports.proofs.Common.{LinkFaults, link_skeleton, names_of_files, text_of, used_named, uses_of, name_in, names_are_plain}
 use Rattle.proto_names.proofs.Common.{use_there, IsLinkRead, TextMeant, meant_by_link, meant_by_use, LinkOf, NameOf, name_at, name_text}
-use Rattle.proto_names.specs.FileReferences.{declared_names}
+use Rattle.proto_names.specs.Common.{declared_names}
 use Rattle.proto_names.specs.LinkOfFiles.{has_text, reference_id}
 use Rattle.proto_names.specs.Linking.{RefId}
 use Rattle.proto_names.specs.Linking.{Meant}

@@ -10,7 +10,7 @@ use Rattle.proto_tree.specs.declared.class.Class.TheVariants as class
 use Rattle.proto_tree.specs.declared.class.Expected.TheVariants as want
 use Rattle.proto_tree.specs.declared.context.Context.TheVariants as context
 use Rattle.proto_tree.proofs.Common.{is_word, fits, Mark, one, Fit, flat, class_by, classes, word_is_word, place_of_word}
-use Rattle.proto_tree.proofs.MarkLaws.{fit_length as fit_long}
+pub use Rattle.proto_tree.proofs.MarkLaws.{fit_length as fit_long}
 use Rattle.proto_edit_statement_laws.specs.Common.{before, PlacesAreSeams}
 use Rattle.proto_edit_statement_laws.proofs.Endings.{is_end, IsApart, apart_then, tree_apart}
 use Rattle.proto_edit_statement_laws.proofs.Exchanged.{around}

@@ -7,7 +7,7 @@ use Rattle.proto_journal_records.specs.declared.record.State.TheVariants as stat
 use Rattle.proto_journal_records.specs.declared.record.Version.{Version}
 use Rattle.proto_journal_records.specs.declared.record.Version.TheVariants.{Second}
 use Rattle.proto_journal_records.proofs.Common.{record_text, IsJournal, is_last_open, is_open, done, journal_text, HasOpenEntry, IsReady, IsUnreadable, CountsFault, Over, RecordOf, IsJournalIn, IsReadyWith, unread}
-use Rattle.proto_journal_records.proofs.OneRecovery.{last_of}
+pub use Rattle.proto_journal_records.proofs.OneRecovery.{last_of}
 use Rattle.proto_store.specs.Stores.{Held, HoldsJournal}
 use Rattle.proto_journal.specs.Common.{IsUnready, LastOutcome, IsReadyText}
 

@@ -8,7 +8,7 @@ use Rattle.proto_names_table.proofs.Common.{named_as, tree_named, Named, named_i
 use Rattle.proto_files.specs.FilesRead.{Each, ReadOf, read_at}
 use Rattle.proto_names_imports.specs.declared.import.WrittenImport.{WrittenImport}
 use Rattle.proto_names_table.specs.declared.spelled.Spelled.{Spelled}
-use Rattle.proto_names_update.proofs.FileLists.{same_at}
+pub use Rattle.proto_names_update.proofs.FileLists.{same_at}
 
 pub all_pushed : {A : Type 0} (P : A → Type 0) (xs after : List A) (x : A) → after ≡ xs ++ x ∷ [] → All P xs → P x → All P after
 all_pushed P xs after x a h p = subst (All P) (sym a) (All-append P xs (x ∷ []) h (All-cons P x [] p (All-nil P)))
