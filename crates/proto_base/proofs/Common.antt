@@ -1,5 +1,5 @@
 -- What proofs of the crates above name of this crate, and of std beside its own Common, passed on from one place. Declares nothing.
-pub use Rattle.proto_base.proofs.Lists.{any_agree, any_from, any_map, any_to, contains_cases, contains_filter, contains_head, contains_later, contains_map, fails_from, from_filter, from_map, same_from_word, word_from_same}
+pub use Rattle.proto_base.proofs.Lists.{any_agree, any_from, any_map, any_to, contains_cases, contains_filter, contains_head, contains_later, contains_map, contains_or_not, fails_from, found_in_map, from_filter, from_flat_map, from_map, same_from_word, to_flat_map, word_from_same}
 pub use Rattle.proto_base.proofs.Turns.{added_all, added_more, all_listed, front_element, listed_more, listed_turn, pushed_more, taken_more, then_added}
 pub use Rattle.proto_base.specs.FaultTable.{kind_number, phase_of}
 pub use Rattle.proto_base.specs.GivenFiles.{FileOf, file_of, files_of, paths_of}

@@ -80,7 +80,7 @@ fn has_text(files: &Files, text: &str, count: usize) -> bool {
         && files.tokens(1).len() == count
 }
 
-// Whether of two files the one at place 1 gets a text in the place of another.
+// Whether of two files the one at place 1 gets a text in place of another.
 fn is_set<R: AllocGlobal + Abort>(rt: &R, files: &mut Files, old: &str, new: &str) -> bool {
     if files.len() != 2 {
         return false;

@@ -3,7 +3,7 @@
 use crate::expect::{expect, owned_text, repeated_text};
 use proto_base::{FaultKind, SchemaFault};
 use proto_files::{
-    Files, Paths, Words, all_paths, are_read, fault_at_token, file_named, is_workspace_path,
+    Files, Paths, Words, all_paths, are_read, fault_at_token, is_workspace_path,
     offset_of,
 };
 use proto_text::{Span, Token, TokenKind};
@@ -118,18 +118,10 @@ fn meets(files: &Files, paths: &[&str]) -> bool {
     left.next().is_none()
 }
 
-// Whether the file with this path has this place, wherever the search begins.
+// Whether the file with this path has this place.
 fn is_place(files: &Files, path: &str, place: Option<u32>) -> bool {
     are_read(files);
-    if files.place_of_path(path) != place {
-        return false;
-    }
-    for start in 0..5 {
-        if file_named(files, start, path) != place {
-            return false;
-        }
-    }
-    true
+    files.place_of_path(path) == place
 }
 
 // Whether a token has this text and begins at this byte.

@@ -9,7 +9,7 @@ use Rattle.proto_files.proofs.Members.{Contains-from_member}
 use Rattle.proto_desc.proofs.Opened.{read_error}
 use Rattle.proto_desc.specs.Opening.{AreReadOf, IsOpenError}
 
-rises : (w : List FileOf) → AllPairs (λ f g. IsBefore f.path g.path) w → PathsRise (paths_of w)
+pub rises : (w : List FileOf) → AllPairs (λ f g. IsBefore f.path g.path) w → PathsRise (paths_of w)
 rises [] h = tt
 rises (f ∷ w) h = (
   (λ q m. (
@@ -18,7 +18,7 @@ rises (f ∷ w) h = (
   rises w (λ i j d lt within. h (suc i) (suc j) d (omega arith) (omega arith)),
 )
 
-no_fault_of_path : (w : List FileOf) → AreWorkspaceFiles w → (k : FaultKind) (p : List ℕ) → IsPathFault 4096 (paths_of w) k p → ⊥
+pub no_fault_of_path : (w : List FileOf) → AreWorkspaceFiles w → (k : FaultKind) (p : List ℕ) → IsPathFault 4096 (paths_of w) k p → ⊥
 no_fault_of_path w workspace BadPath p h =
     let c = from_map (λ (g : FileOf). g.path) w p h.0 in
     h.1 (subst IsWorkspacePath c.2 (subst (λ (g : FileOf). IsWorkspacePath g.path) c.1.2 (workspace.named c.1.0 c.0 c.1.1)))

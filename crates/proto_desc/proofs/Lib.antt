@@ -1,6 +1,6 @@
 pub mod CheckedFiles
 pub mod Common
-mod GivenInOrder
+pub mod GivenInOrder
 pub mod LeastCheckFault
 mod MadePut
 mod NewTextFaults

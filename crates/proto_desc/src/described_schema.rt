@@ -20,7 +20,7 @@ use std::alloc::Global;
 use std::marker::Model;
 
 /// Files that compile: at most 4,096 in the order of their paths, with their descriptors. The link
-/// of the files is let go when these are made, so that who prints them has its memory, and nothing
+/// of the files is dropped when these are made, so that who prints them has its memory, and nothing
 /// is kept for edits.
 #[derive(Drop)]
 pub struct DescribedSchema {

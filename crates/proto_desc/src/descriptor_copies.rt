@@ -29,8 +29,8 @@ impl Descriptors {
         Ok(Descriptors { file, kept })
     }
 
-    /// Makes these the descriptors of the files, which are those that they were of but at these
-    /// places. It answers as `check` of the files does; after a refusal they are as they were.
+    /// Changes these to the descriptors of the files, which differ from those before at these places
+    /// alone. It answers as `check` of the files does; after a refusal they are as they were.
     pub fn replace(
         &mut self,
         alloc: Global,
@@ -50,7 +50,7 @@ impl Descriptors {
         self.renew_or_check(alloc, files, link, places, None)
     }
 
-    /// The same; marks may be told of the files that have to be looked at again.
+    /// The same; marks may be told of the files that have to be re-checked.
     fn renew_or_check(
         &mut self,
         alloc: Global,

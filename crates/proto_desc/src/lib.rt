@@ -17,7 +17,6 @@ mod put_texts;
 mod renewing;
 mod replacing;
 mod schema;
-mod text_faults;
 mod texts;
 
 pub use checking::{check, pass_checks};

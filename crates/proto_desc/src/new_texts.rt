@@ -7,10 +7,9 @@ ghost use Rattle.proto_edit_entries.specs.Putting.{with_texts};
 ghost use Rattle.proto_files.specs.ReadFaults.{IsTextFault, IsGrammarFault};
 ghost use Rattle.proto_files.specs.Reading.{IsFileError, IsFirstError};
 
-use crate::text_faults::{grammar_error, text_error};
 use crate::texts::{GivenText, LexedText, ReadText};
 use proto_base::{NoMemory, SchemaFault};
-use proto_files::Files;
+use proto_files::{Files, grammar_error, text_error};
 use proto_text::{Source, lex};
 use proto_tree::{Steps, parse_counted};
 use std::alloc::Global;

@@ -155,7 +155,7 @@ impl Descriptors {
 
     /// Makes these the descriptors of the files, which are those that they were of but at these
     /// places, as far as the edit affects a file. Marks may be told of the files that have
-    /// to be looked at again. Answers false where it gives up: where a file that is affected has
+    /// to be re-checked. Answers false where it gives up: where a file that is affected has
     /// a flaw, or has or had an `extend` block. Fails only when out of memory. Where it does not
     /// answer true, nothing is changed.
     pub(crate) fn renew(

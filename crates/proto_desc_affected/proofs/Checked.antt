@@ -11,6 +11,7 @@ use Rattle.proto_names.specs.LinkOfFiles.{IsLinkRead, meant_by_link, meant_by_us
 use Rattle.proto_names.specs.Linking.{LinkOf, Meant, NameOf, name_at}
 use Rattle.proto_names_update.specs.Edited.{AreEdited}
 use Rattle.proto_names_update.proofs.Clean.{no_reference}
+use Rattle.proto_names_update.proofs.Differing.{turned}
 use Rattle.proto_resolved.specs.SceneOf.{declared_as, enum_named, is_proto3_file, meaning_of}
 use Rattle.proto_desc_extensions.specs.Extends.{has_extend}
 use Rattle.proto_desc_affected.specs.Checked.{AreKeptOf, AreMeantStill, DoesMeanStill, IsEnumStill, IsKeptStill, IsMeantStill, KeepsEnum, FileSummaryOf, KeptFilesTellUnaffected, is_message_kind, file_summary, type_use, nothing_kept}
@@ -43,15 +44,6 @@ kind_of o = is_message_kind (option_map (λ (x : Declared At). x.kind) o)
 
 -- ---- files
 
--- what was edited, read backwards
-turned : (places : List ℕ) (before : List FileOf) (was : List ReadOf) (files : List FileOf) (reads : List ReadOf) → AreEdited places before was files reads → AreEdited places files reads before was
-turned places before was files reads are = record {
-  same = record {
-    paths = sym are.same.paths;
-    others = λ file l out. sym (are.same.others file (omega (arith, l, as_many places before was files reads are)) out);
-  };
-  were_read = are.are_read;
-  are_read = are.were_read;
 }
 
 module _ (places : List ℕ) (before : List FileOf) (was : List ReadOf) (files : List FileOf) (reads : List ReadOf) (are : AreSoundlyEdited places before was files reads) where

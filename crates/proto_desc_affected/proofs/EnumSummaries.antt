@@ -15,7 +15,7 @@ use Rattle.proto_names.specs.Linking.{LinkOf, NameOf, declaring_token, name_at, 
 use Rattle.proto_names.proofs.Common.{name_declared_as}
 use Rattle.proto_ast.specs.Scenes.{EnumOf}
 use Rattle.proto_resolved.specs.SceneOf.{enum_at, enum_named}
-use Rattle.proto_desc_extensions.proofs.WrittenExtensions.{from_flat}
+use Rattle.proto_desc_extensions.proofs.WrittenExtensions.{from_flat_map}
 use Rattle.proto_desc_affected.specs.Checked.{KeepsEnum, EnumSummaryOf, LinksHaveEnumsKept, enum_as_kept, enum_by_link, is_enum_kind, enum_summary, enum_summaries, file_summary}
 use Rattle.proto_desc_affected.proofs.Declared.{IsNamed, declared_in, declared_named, no_package}
 use Rattle.proto_desc_affected.proofs.Linked.{one_kind}
@@ -91,7 +91,7 @@ module _ (files : List FileOf) (reads : List ReadOf) (are : AreRead files reads)
   pub kept_is : (name : List (List ℕ)) → ArePlain name → (e : EnumOf) → KeepsEnum (file_summary files reads file) (joined name) e → IsKeptEnum name e
   kept_is name plain e kept =
       let x : EnumSummaryOf = as_kept (joined name) e in
-      let p = from_flat (enum_summary files reads file) own x kept in
+      let p = from_flat_map (enum_summary files reads file) own x kept in
       let k = kept_as p.0.kind (joined (own_name p.0)) (enum_at files reads (at file (place_from 0 (whole p.0)))) x p.2 in
       let declared = there p.0 p.1 in
       let plain_own : ArePlain (own_name p.0) = subst ArePlain (spelled p.0) (names_are_plain files reads are (symbol_of (text_of files reads) entry_name (declares file p.0)) (contains_map (symbol_of (text_of files reads) entry_name) (link_skeleton files reads).declared (declares file p.0) declared)) in

@@ -22,7 +22,7 @@ use Rattle.proto_desc_checks.proofs.KnownNames.{flat_map_same}
 use Rattle.proto_resolved.specs.SceneOf.{meaning_of, scene_of}
 use Rattle.proto_desc_extensions.specs.Common.{ExtensionOf, all_flaws, block_extensions, extendee_in, extension_ranges_at, extensions_before, extensions_in, extensions_of, has_extend, is_extend, is_extendable, is_message_at, name_meant, not_extendable, ranges_at_place, ranges_within, repeated_extensions}
 use Rattle.proto_desc_extensions.proofs.NoExtensions.{no_flaw}
-use Rattle.proto_desc_extensions.proofs.WrittenExtensions.{from_flat}
+use Rattle.proto_desc_extensions.proofs.WrittenExtensions.{from_flat_map}
 use Rattle.proto_desc_affected.specs.Extended.{ExtendsAreUnaffected, HasNoExtend, UnaffectedFilesStayFlawless, UnaffectedFlawsOfFilesStay, UnaffectedFlawsStay}
 use Rattle.proto_desc_affected.specs.Unaffected.{AreSoundlyEdited, IsUnaffectedFile, StoodElsewhere}
 use Rattle.proto_desc_affected.proofs.Declared.{found_passes}
@@ -43,7 +43,7 @@ none_extend cap files reads file none = go (extensions_in cap files reads file) 
     go : (es : List ExtensionOf) → ((e : ExtensionOf) → Contains es e → Contains (extensions_in cap files reads file) e) → es ≡ []
     go [] h = refl
     go (e ∷ es) h =
-        let b = from_flat (block_extensions cap files reads file) (blocks_in (read_at reads file).tree) e (h e (contains_head e es)) in
+        let b = from_flat_map (block_extensions cap files reads file) (blocks_in (read_at reads file).tree) e (h e (contains_head e es)) in
         absurd (by b.0 b.1 b.2 (is_extend b.0.header) refl)
       where
         by : (b : BlockOf) → Contains (blocks_in (read_at reads file).tree) b → Contains (block_extensions cap files reads file b) e → (t : Bool) → is_extend b.header ≡ t → ⊥
@@ -61,7 +61,7 @@ found_by {X} p f us x e = by (find p us) refl e
 
 extendee_meant : (cap : Option ℕ) (files : List FileOf) (reads : List ReadOf) (file : ℕ) (e : ExtensionOf) → Contains (extensions_in cap files reads file) e → (u : Used ℕ) × Contains (uses_of reads file) u × (meaning_of files reads file u ≡ Some e.extendee)
 extendee_meant cap files reads file e c =
-    let b = from_flat (block_extensions cap files reads file) (blocks_in (read_at reads file).tree) e c in
+    let b = from_flat_map (block_extensions cap files reads file) (blocks_in (read_at reads file).tree) e c in
     of_reference (extendee_in b.0.header) (named (option_and_then (name_meant files reads file) (extendee_in b.0.header)) b.0.within b.2)
   where
     named : (o : Option (List (List ℕ))) (within : Tree) → Contains (extensions_of (scene_of cap files reads file) o within) e → o ≡ Some e.extendee

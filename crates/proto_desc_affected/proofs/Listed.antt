@@ -7,7 +7,7 @@ use Rattle.proto_names_outline.proofs.Common.{items_in, package_first, same_decl
 use Rattle.proto_names_rules.proofs.Common.{At, Declared, Placed, Source, Used, all_used, at, declares, joined, meaning, name_of, place_of, reference_of, used_in}
 use Rattle.proto_names_imports.proofs.Common.{name_in, use_in}
 use Rattle.proto_names_imports.specs.Links.{link_skeleton, names_in, names_of_files, text_of, uses_of}
-use Rattle.proto_names.specs.FileReferences.{declared_names}
+use Rattle.proto_names.specs.Common.{declared_names}
 use Rattle.proto_names.specs.LinkOfFiles.{IsLinkRead, TextMeant, has_text, meant_by_link, meant_by_use, reference_id}
 use Rattle.proto_names.specs.Linking.{LinkOf, Meant, NameOf, RefId, declaring_file, name_at, name_text}
 use Rattle.proto_desc_affected.specs.Checked.{LinksListReferences}

@@ -1,6 +1,6 @@
--- What is kept of a file that need not be looked at again tells that the file is unaffected.
+-- What is kept of a file that need not be re-checked tells that the file is unaffected.
 use Rattle.std.proofs.Common.{◌≡◌, ℕ, suc, ◌+◌, ◌<◌, Bool, false, List, [], ◌∷◌, length, get_or, map, Option, Some, None, option_map, refl, sym, ◌∙◌, ap, subst, inl, inr, ◌⊎◌, arith, All, Contains}
-use Rattle.proto_base.proofs.Common.{cases_eq, contains_cases, contains_head, contains_later, contains_map, false≢true, from_map, same_Some}
+use Rattle.proto_base.proofs.Common.{cases_eq, contains_cases, contains_head, contains_later, contains_map, false≢true, from_map, same_Some, contains_or_not}
 use Rattle.proto_case.specs.Camel.{entry_name}
 use Rattle.proto_files.proofs.Common.{FileOf, HasNoFault, ReadOf}
 use Rattle.proto_names_rules.specs.declared.kind.Kind.{Kind}
@@ -20,17 +20,6 @@ use Rattle.proto_desc_affected.proofs.Checked.{resolved}
 use Rattle.proto_desc_affected.proofs.Declared.{IsNamed, declared_named, meant_named}
 use Rattle.proto_desc_affected.proofs.Linked.{has_meant, message_kind}
 use Rattle.proto_desc_affected.proofs.Unedited.{as_many, same_reading, same_text}
-
--- a place is one of these, or it is none
-is_place : (places : List ℕ) (k : ℕ) → Contains places k ⊎ (Contains places k → ⊥)
-is_place [] k = inr (λ c. omega (arith, c.1))
-is_place (x ∷ places) k = elim (cases_eq x k) [
-  | inl same ↦ inl (subst (Contains (x ∷ places)) same (contains_head x places))
-  | inr other ↦ elim (is_place places k) [
-    | inl later ↦ inl (contains_later x k places later)
-    | inr none ↦ inr (λ c. elim (contains_cases x k places c) [ inl e ↦ other e | inr d ↦ none d ])
-  ]
-]
 
 -- a use of a file is a reference of the files
 reference_there : (files : List FileOf) (reads : List ReadOf) (file : ℕ) (u : Used ℕ) → file < length reads → Contains (uses_of reads file) u → Contains (names_of_files files reads).references (used_named (text_of files reads) file u)
@@ -67,7 +56,7 @@ module _ (differ : EditedFilesDiffer) (unmarked : UnmarkedFilesMeanTheSame) (key
   stays_declared u c name means d is =
       let s : Symbol = symbol_of (text_of before was) entry_name d in
       let there = contains_map (symbol_of (text_of before was) entry_name) (link_skeleton before was).declared d is.there in
-      elim (is_place places s.file) [
+      elim (contains_or_not places s.file) [
         | inl edited ↦ told.none_gone (used_named (text_of before was) file u) s (reference_there before was file u within_before c) off (means ∙ ap (λ (n : List (List ℕ)). Some n) (sym is.spelled)) there edited is.typed
         | inr elsewhere ↦ (differ places before was files reads are.edited).stay s there elsewhere
       ]

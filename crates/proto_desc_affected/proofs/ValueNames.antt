@@ -4,14 +4,7 @@ use Rattle.proto_tree.specs.declared.tree.Reference.{Reference}
 use Rattle.proto_tree.specs.References.{first_of}
 use Rattle.proto_ast.proofs.Common.{EnumOf, MeantOf, Scene, enum_meant, meant_by}
 use Rattle.proto_desc_affected.specs.Values.{enum_without_names, meant_without_names, without_value_names}
-
-pub found_in_map : {A B : Type 0} (p : B → Bool) (f : A → B) (xs : List A) → find p (map f xs) ≡ option_map f (find (λ x. p (f x)) xs)
-found_in_map p f [] = refl
-found_in_map p f (x ∷ xs) = by (p (f x)) (found_in_map p f xs)
-  where
-    by : (b : Bool) → find p (map f xs) ≡ option_map f (find (λ x. p (f x)) xs) → cond b (Some (f x)) (find p (map f xs)) ≡ option_map f (cond b (Some x) (find (λ x. p (f x)) xs))
-    by true e = refl
-    by false e = e
+use Rattle.proto_base.proofs.Common.{found_in_map}
 
 module _ (scene : Scene) where
   -- the same reference means the same, without the names

@@ -124,7 +124,8 @@ file_summary files reads file = record {
 
 -- this is what is kept of the file with this number
 abbrev pub IsKeptOf : List FileOf → ℕ → FileSummaryOf → Type 0
-IsKeptOf files file k = (reads : List ReadOf) → AreRead files reads → k ≡ file_summary files reads file
+IsKeptOf files file k =
+    (reads : List ReadOf) → AreRead files reads → k ≡ file_summary files reads file
 
 -- these are what is kept of the files, in the order of their paths
 pub record AreKeptOf (files : List FileOf) (ks : List FileSummaryOf) : Type 0 where
@@ -216,8 +217,8 @@ IsEnumAtRow files l ks proto3 row =
 -- by the link the reference means the name that is kept, which stands in a file that is not edited;
 -- of a file without an `extend` block it may also be that of a message, and have been one, or of an
 -- enum that is to the file what is kept of it
-pub record IsMeantStill (places : List ℕ) (files : List FileOf) (l : LinkOf) (ks : List FileSummaryOf)
-    (by : FileSummaryOf) (k : TypeUseOf) (m : Meant) : Type 0 where
+pub record IsMeantStill (places : List ℕ) (files : List FileOf) (l : LinkOf)
+    (ks : List FileSummaryOf) (by : FileSummaryOf) (k : TypeUseOf) (m : Meant) : Type 0 where
   pub text : name_text l m.row ≡ Some k.text
   pub settled : IsElsewhere places l m.row
       ⊎ ((by.has_extend ≡ false)
@@ -242,8 +243,8 @@ DoesMeanStill places files l ks file k =
     AreMeantStill places files l ks k k.means (get_or l.meant file [])
 
 -- a file that is not edited, by what is kept of each file and the link of the edited files
-pub record IsKeptStill (places : List ℕ) (files : List FileOf) (l : LinkOf) (ks : List FileSummaryOf)
-    (file : ℕ) : Type 0 where
+pub record IsKeptStill (places : List ℕ) (files : List FileOf) (l : LinkOf)
+    (ks : List FileSummaryOf) (file : ℕ) : Type 0 where
   pub within : file < length files
   pub left : Contains places file → ⊥
   pub means : DoesMeanStill places files l ks file (get_or ks file nothing_kept)
@@ -267,7 +268,7 @@ KeptFilesTellUnaffected =
     → (file : ℕ) → IsKeptStill places files l ks file
     → StaysKept places before was files reads file
 
--- ---- which files are told to be looked at again
+-- ---- which files are given to be re-checked
 
 -- what the reference means stands in a file that is not edited; or, of a file without an `extend`
 -- block, it is a message's, or an enum's that is to the file what is kept of it
@@ -278,7 +279,7 @@ IsSettled places files l ks by m =
     ⊎ ((by.has_extend ≡ false)
     × (((kept_by_link l m).is_message ≡ true) ⊎ IsEnumAtRow files l ks by.is_proto3 m.row))
 
--- of a file that need not be looked at again the references mean the names that they meant, and a
+-- of a file that need not be re-checked the references mean the names that they meant, and a
 -- message's was one; so it is unaffected, where each of its references is settled
 abbrev pub MarksTellKept : Type 0
 MarksTellKept =

@@ -58,7 +58,7 @@ AreUsersOfFilesMarked places l ks marks =
     All (λ file. All (AreUsersMarked l ks marks) (get_or l.rows file [])) places
 
 -- where what is kept is of files without faults, and the marks that are told are of the files that
--- have to be looked at again once these are edited: each file that is not marked is not edited, and
+-- have to be re-checked once these are edited: each file that is not marked is not edited, and
 -- by the link its references mean what is kept
 abbrev pub AreOthersKeptAsTold
     : List ℕ → List FileOf → LinkOf → List FileSummaryOf → List Bool → List Bool → Type 0

@@ -17,7 +17,7 @@ pub fn clean_edits_are_sound()
 /// file but for the names of enums' values (`scenes`). So are the descriptor (`descriptors`) and
 /// what is wrong with the file alone (`own`), and all that is wrong with one without an `extend`
 /// block (`flaws`). Where each file that has one is unaffected, and refers to what stood in files
-/// that are not edited, a unaffected file without a flaw has none still (`flawless`).
+/// that are not edited, an unaffected file without a flaw has none still (`flawless`).
 pub fn unaffected_files_stay()
     ensures scenes { UnaffectedScenesStay }
     ensures descriptors { UnaffectedDescriptorsStay }
@@ -54,7 +54,7 @@ pub fn value_names_matter_to_proto2_alone()
     ensures extensions { ValueNamesMatterToNoExtension }
 {}
 
-/// Where the files that have to be looked at again are marked, what is kept of any other tells that
+/// Where the files that have to be re-checked are marked, what is kept of any other tells that
 /// it is unaffected, if what its references mean stands in files that are not edited, or the file
 /// had no `extend` block and it is messages', or enums' that are to the file what is kept of them.
 pub fn marks_tell_kept()

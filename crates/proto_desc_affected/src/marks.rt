@@ -277,7 +277,7 @@ fn mark_users(marks: &mut Vec<bool>, link: &Link, kept: &[FileSummary], places: 
 }
 
 /// Marks of the files that an edit of the files at these places affects, by the marks of
-/// those that have to be looked at again, which are told. Of these, and of the files that refer to a
+/// those that have to be re-checked, which are told. Of these, and of the files that refer to a
 /// name of an edited file, where it is no message's or they had an `extend` block, it is asked what
 /// their references mean; no other file is asked. Fails only when out of memory.
 pub fn told_files_to_check(

@@ -1,6 +1,6 @@
 -- A token names one field, or an option of one field (for the crates above).
 use Rattle.std.proofs.Common.{◌≡◌, ℕ, suc, ◌+◌, List, [], ◌∷◌, ◌++◌, length, map, flat_map, Option, Some, None, refl, sym, subst, ◌∙◌, arith, inl, inr, Contains}
-use Rattle.proto_base.proofs.Common.{Contains-append_cases, Contains-append_left, Contains-append_right, contains_cases, contains_head, contains_later, from_map}
+use Rattle.proto_base.proofs.Common.{Contains-append_cases, Contains-append_left, Contains-append_right, contains_cases, contains_head, contains_later, from_map, from_flat_map}
 use Rattle.proto_tree.specs.declared.class.Class.TheVariants as class
 use Rattle.proto_tree.specs.declared.class.Expected.TheVariants as want
 use Rattle.proto_tree.specs.declared.piece.Header.TheVariants as header
@@ -74,13 +74,6 @@ one_statement n (Block hd i within j rest) h s u cs cu m k cm ck e =
     ]
 
 -- ---- the statement of a field
-
-from_flat_map : {X Y : Type 0} (f : X → List Y) (xs : List X) (y : Y) → Contains (flat_map f xs) y → (x : X) × Contains xs x × Contains (f x) y
-from_flat_map f [] y c = absurd (omega (arith, c.1))
-from_flat_map f (x ∷ xs) y c = elim (Contains-append_cases (f x) (flat_map f xs) y c) [
-  | inl h ↦ (x, contains_head x xs, h)
-  | inr h ↦ let r = from_flat_map f xs y h in (r.0, contains_later x r.0 xs r.1, r.2)
-]
 
 statements_in : (t : Tree) (s : Statement) → Contains (statements t) s → Contains (all_in t) s
 statements_in End s c = absurd (omega (arith, c.1))

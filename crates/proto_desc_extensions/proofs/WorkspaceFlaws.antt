@@ -11,7 +11,7 @@ use Rattle.proto_desc_checks.proofs.FlawTokens.{flaw_within}
 use Rattle.proto_desc_checks.proofs.Phases.{flaws_are_of_checks}
 use Rattle.proto_resolved.specs.SceneOf.{scene_of}
 use Rattle.proto_desc_extensions.specs.Common.{all_flaws, workspace_flaws}
-use Rattle.proto_desc_extensions.proofs.WrittenExtensions.{Written, again_of, flaws_written, from_flat, outside_of, written_in, wrong_there}
+use Rattle.proto_desc_extensions.proofs.WrittenExtensions.{Written, again_of, flaws_written, from_flat_map, outside_of, written_in, wrong_there}
 use Rattle.proto_ast.proofs.Common.{Scene, number_value, text}
 
 of_if : (b : Bool) (k : FaultKind) (t : ℕ) (f : Flaw) → Contains (flaw_if b k t) f → flaw k t ≡ f
@@ -40,7 +40,7 @@ module _ (cap : Option ℕ) (files : List FileOf) (reads : List ReadOf) (file : 
   stands : (f : Flaw) → Contains (workspace_flaws cap files reads file) f → Stands f
   stands f c = elim (Contains-append_cases (flat_map (outside_of files reads cap) (written_in files reads file)) (again_of files reads cap file) f (subst (λ (fs : List Flaw). Contains fs f) (flaws_written files reads cap file) c)) [
     | inl h ↦
-        let r = from_flat (outside_of files reads cap) (written_in files reads file) f h in
+        let r = from_flat_map (outside_of files reads cap) (written_in files reads file) f h in
         let e = of_if _ kind.NotExtendable r.0.token f r.2 in
         record { at = r.0; there = r.1; token = ap (λ (x : Flaw). x.token) e; phase = ap (λ (x : Flaw). phase_of x.kind) (sym e) }
     | inr h ↦

@@ -11,6 +11,7 @@ use Rattle.proto_names.proofs.Common.{IsLinkRead, LinkOf}
 use Rattle.proto_ast.proofs.Common.{BlockOf, FieldOf, blocks_in, fields_in, past, Scene}
 use Rattle.proto_desc_numbers.specs.declared.flaw.Flaw.{Flaw}
 use Rattle.proto_desc_numbers.proofs.Common.{earlier, flaw_if, marked, number_of_field}
+use Rattle.proto_desc_numbers.proofs.CappedRanges.{agree}
 use Rattle.proto_desc_checks.proofs.FlawTokens.{both}
 use Rattle.proto_resolved.specs.SceneOf.{meaning_of, scene_of}
 use Rattle.indexmap.specs.IndexSet.{IndexSet}
@@ -18,11 +19,6 @@ use Rattle.proto_desc_extensions.specs.Common.{ExtensionOf, HasSeen, Key, Told, 
 
 abbrev pub HasPlainName : ExtensionOf → Type 0
 HasPlainName e = ArePlain e.extendee
-
-agree : (a b : Bool) → (a ≡ true → b ≡ true) → (b ≡ true → a ≡ true) → a ≡ b
-agree true b h k = sym (h refl)
-agree false true h k = k refl
-agree false false h k = refl
 
 -- plain names are told apart by their texts
 same_text : (a b : List (List ℕ)) → ArePlain a → ArePlain b → bytes_eq (joined a) (joined b) ≡ same_name a b

@@ -2,6 +2,7 @@
 use Rattle.std.proofs.Common.{◌≡◌, ℕ, zero, suc, ℤ, not, List, [], ◌∷◌, ◌++◌, map, flat_map, Option, Some, None, option_and_then, refl, sym, ◌∙◌, ap, subst, inl, inr, arith, Contains, false}
 use Rattle.proto_base.proofs.Common.{Contains-append_cases, Contains-append_left, Contains-append_right, contains_head, contains_later, from_map, map-append}
 use Rattle.proto_base.specs.declared.fault.FaultKind.TheVariants as kind
+pub use Rattle.proto_base.proofs.Common.{from_flat_map}
 use Rattle.proto_tree.specs.declared.piece.Header.{Header}
 use Rattle.proto_tree.specs.declared.piece.Header.TheVariants as header
 use Rattle.proto_tree.specs.Tree.{Tree}
@@ -15,13 +16,6 @@ use Rattle.proto_desc_numbers.proofs.CappedRanges.{outside_here}
 use Rattle.proto_desc_checks.proofs.Common.{block_flaws, extend_flaws, file_flaws, flaws_in_blocks, flaws_of_extension, option_flaws}
 use Rattle.proto_resolved.specs.SceneOf.{scene_of}
 use Rattle.proto_desc_extensions.specs.Common.{ExtensionOf, are_same, block_extensions, extendee_in, extensions_before, extensions_in, extensions_of, is_extendable, name_meant, not_extendable, repeated_extensions, workspace_flaws}
-
-pub from_flat : {X Y : Type 0} (f : X → List Y) (xs : List X) (y : Y) → Contains (flat_map f xs) y → (x : X) × Contains xs x × Contains (f x) y
-from_flat f [] y c = absurd (omega (arith, c.1))
-from_flat f (x ∷ xs) y c = elim (Contains-append_cases (f x) (flat_map f xs) y c) [
-  | inl h ↦ (x, contains_head x xs, h)
-  | inr h ↦ let r = from_flat f xs y h in (r.0, contains_later x r.0 xs r.1, r.2)
-]
 
 -- an extension as it is written: where its number stands, and the name of what it extends
 pub record Written : Type 0 where
@@ -133,6 +127,6 @@ module _ (files : List FileOf) (reads : List ReadOf) where
     pub wrong_there : (w : Written) → Contains (written_in file) w → is_field_number (written_number d w) ≡ false → Contains (file_flaws (scene d file) (read_at reads file).tree) (flaw kind.NumberRange w.token)
     wrong_there w h e =
         let tree : Tree = (read_at reads file).tree in
-        let b = from_flat (written_block file) (blocks_in tree) w h in
+        let b = from_flat_map (written_block file) (blocks_in tree) w h in
         Contains-append_right (option_flaws (scene d file) element.File (options_in tree)) (flaws_in_blocks (scene d file) tree) (flaw kind.NumberRange w.token)
         (contains_flat (λ (x : BlockOf). block_flaws (scene d file) x.header x.within) (blocks_in tree) b.0 (flaw kind.NumberRange w.token) b.1 (in_extend b.0.header b.0.within w b.2 e))

@@ -8,7 +8,7 @@ use Rattle.proto_ast.specs.declared.ranges.RangeAt.{RangeAt}
 use Rattle.proto_desc_numbers.proofs.CappedNumbers.{Alike, alike_back, is_near, near_between, near_within, same_near, numbers_same, le_through, le_or_back, IsLimit}
 use Rattle.proto_desc_numbers.proofs.CappedCovers.{Beneath, Covered, covered_equal, covered_join, covered_if, covered_marked, contains_flat, flaw_here}
 
-agree : (a b : Bool) → (a ≡ true → b ≡ true) → (b ≡ true → a ≡ true) → a ≡ b
+pub agree : (a b : Bool) → (a ≡ true → b ≡ true) → (b ≡ true → a ≡ true) → a ≡ b
 agree true b h k = sym (h refl)
 agree false true h k = k refl
 agree false false h k = refl

@@ -10,6 +10,7 @@ use Rattle.std.proofs.Math.Seq.{get_or-append_seam}
 use Rattle.std.proofs.lemmas.Map.Views.{any-filter_same}
 use Rattle.proto_ast.specs.declared.ranges.RangeAt.{RangeAt}
 use Rattle.proto_desc_numbers.specs.Common.{is_inside, share, has_numbers, RangesAreInOrder, reach, range_reaches, AreRaised, IsRangeIndexOf}
+use Rattle.proto_desc_numbers.proofs.CappedRanges.{agree as both}
 
 le_trans : (a b c : ℤ) → int_le a b ≡ true → int_le b c ≡ true → int_le a c ≡ true
 le_trans a b c h k = grind (arith, ints)
@@ -77,11 +78,6 @@ raised_turn rs i d before after new most lt h m e first last =
     (raised_more (take i rs) before (get_or rs i d) new h first (λ n. most_turn rs i d new most lt m last n ∙ ap (reach n) (take_more rs i d lt))))
 
 -- ---- looking up
-
-both : (a b : Bool) → (a ≡ true → b ≡ true) → (b ≡ true → a ≡ true) → a ≡ b
-both true b h k = sym (h refl)
-both false true h k = k refl
-both false false h k = refl
 
 and_true : (a b : Bool) → (a && b) ≡ true → (a ≡ true) × (b ≡ true)
 and_true true b h = (refl, h)

@@ -8,6 +8,7 @@ use Rattle.proto_files.proofs.Common.{FaultAt, IsLeastFault, FileOf, paths_of, A
 use Rattle.proto_files.proofs.Members.{Contains-from_member}
 use Rattle.proto_edit_entries.specs.Putting.{AreShortFiles}
 use Rattle.proto_desc.specs.Whole.{IsSortedOf, FileFaults, WorkspaceFaults, of_path, of_files, of_read}
+use Rattle.proto_desc.proofs.GivenInOrder.{no_fault_of_path}
 use Rattle.proto_edit_rename_described.proofs.CleanFiles.{clean_files_are_read}
 use Rattle.proto_edit.specs.Common.{AreCompiled, fault_of_kind, CompiledAreRead, WorkspacesAreClean}
 
@@ -31,30 +32,8 @@ sorted_again w files workspace sorted = one_order files w (IsPermutation-sym w f
         let few = workspace.few in
         record { few = omega (arith, long, few); named = All-permutation (λ (f : FileOf). IsWorkspacePath f.path) w files sorted.same workspace.named; ordered = sorted.ordered }
 
-rises : (w : List FileOf) → AllPairs (λ f g. IsBefore f.path g.path) w → PathsRise (paths_of w)
-rises [] h = tt
-rises (f ∷ w) h = (
-  (λ q m. (
-      let c = from_map (λ (g : FileOf). g.path) w q (Contains-from_member q (paths_of w) m) in
-      subst (IsBefore f.path) c.2 (subst (λ (g : FileOf). IsBefore f.path g.path) c.1.2 (h 0 (suc c.1.0) c.0 (omega arith) (omega (arith, c.1.1)))))),
-  rises w (λ i j d lt within. h (suc i) (suc j) d (omega arith) (omega arith)),
-)
-
-no_path_fault : (w : List FileOf) → AreWorkspaceFiles w → (k : FaultKind) (p : List ℕ) → IsPathFault 4096 (paths_of w) k p → ⊥
-no_path_fault w workspace BadPath p h =
-    let c = from_map (λ (g : FileOf). g.path) w p h.0 in
-    h.1 (subst IsWorkspacePath c.2 (subst (λ (g : FileOf). IsWorkspacePath g.path) c.1.2 (workspace.named c.1.0 c.0 c.1.1)))
-no_path_fault w workspace DoublePath p h = (let once = count_once p (paths_of w) (rises w workspace.ordered) in omega (arith, once, h))
-no_path_fault w workspace TooManyFiles p h =
-    let few = workspace.few in
-    let same = length_permutation (paths_of w) h.ordered h.same_paths in
-    let long = length_map (λ (f : FileOf). f.path) w in
-    let place = h.is_place in
-    omega (arith, few, same, long, place)
-no_path_fault w workspace _ p h = absurd h
-
 pub workspaces_are_clean : WorkspacesAreClean
-workspaces_are_clean w has y (of_path z h) = no_path_fault w has.workspace y.kind y.path h.1
+workspaces_are_clean w has y (of_path z h) = no_fault_of_path w has.workspace y.kind y.path h.1
 workspaces_are_clean w has y (of_files files z sorted h) = has.clean y (subst (λ (fs : List FileOf). FileFaults fs y) (sorted_again w files has.workspace sorted) h)
 
 -- what compiles is opened again

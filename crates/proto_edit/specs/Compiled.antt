@@ -6,7 +6,7 @@ use Rattle.proto_files.specs.Faults.{FaultAt, HasNoFault}
 use Rattle.proto_files.specs.GivenFiles.{FileOf, AreWorkspaceFiles}
 use Rattle.proto_desc.specs.Whole.{FileFaults}
 
--- files of a workspace, in the order of their paths, without a fault of the whole language
+-- files of a workspace, in the order of their paths, that have no fault
 pub record AreCompiled (files : List FileOf) : Type 0 where
   pub workspace : AreWorkspaceFiles files
   pub clean : HasNoFault (FileFaults files)

@@ -59,7 +59,7 @@ PlaceOf files reads (drop_import file imported) path offset =
 abbrev pub IsCaseAt : List FileOf → Asked → Path → ℕ → Type 0
 IsCaseAt w e path offset = (reads : List ReadOf) × AreRead w reads × PlaceOf w reads e path offset
 
--- The least case, with its place where one is answered; memory may come in the place of any.
+-- The least case, with its place where one is answered; out of memory may be answered instead.
 abbrev pub IsRefusal : List FileOf → Asked → Refusal → Type 0
 IsRefusal w e refusal.NoMemory = Unit {0}
 IsRefusal w e (refusal.Captured path offset) = IsLeastCase w e 7

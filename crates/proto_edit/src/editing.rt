@@ -195,7 +195,7 @@ impl Workspace {
         self.make(alloc, &edit, steps)
     }
 
-    /// Goes back before an entry; a stale entry changes nothing.
+    /// Undoes an entry in this workspace; a refused undo changes nothing.
     pub fn undo(&mut self, alloc: Global, entry: &Entry) -> Result<(), Refusal>
         ensures ok { IfOk result (λ _. IsUndo self.old entry.now self.new) }
         ensures err { IfErr result (λ r. IsUndoRefusal self.old entry.now r
@@ -225,7 +225,7 @@ impl Workspace {
     }
 
     /// The run of the edits: the workspace after them, and what each of them is answered. Fails
-    /// only when out of memory, and it is no answer of an edit.
+    /// only when out of memory, which is the answer to no edit of the run.
     pub fn apply_all(
         &self,
         alloc: Global,

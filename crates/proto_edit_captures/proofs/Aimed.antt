@@ -10,17 +10,12 @@ use Rattle.proto_names_outline.specs.FromTree.{items_in}
 use Rattle.proto_names_imports.proofs.Common.{LinkFaults, link_skeleton, names_of_files, text_of, names_are_plain}
 use Rattle.proto_names.proofs.Common.{IsLinkOf, IsLinkRead, LinkOf, NameOf, name_at, name_text}
 use Rattle.proto_edit_rename_laws.proofs.Common.{IsUnknown, RenameCase, unknown_target, kind_not_allowed, Target, IsNamed, may_rename, EndsAs, IsDeclaredBy, declared_by, path_of_declared, placed_ends, is_written, files_are_linked, files_are_woven, place_last, targets_are_there, IsInside, tokens_are_inside}
+use Rattle.proto_edit_rename_laws.proofs.TokenRoles.{place_of_entry}
 use Rattle.proto_edit_captures.specs.Common.{IsAimedAt, IsNoTarget, IsNotAllowed, Aim, HasDeclared, HasUnmoved, IsNotDeclared}
 use Rattle.proto_edit_captures.specs.declared.aim.NoTarget.{NoTarget}
 use Rattle.proto_edit_captures.specs.declared.aim.NoTarget.TheVariants as variant
 use Rattle.proto_edit_captures.proofs.JoinedNames.{lead, joined_last}
 use Rattle.proto_edit_captures.proofs.LookedUp.{same_test}
-
-place_of_entry : (x : At) (above : List (Source At)) (i : At) → place_from x (above ++ EntryOf i ∷ []) ≡ i
-place_of_entry x [] i = refl
-place_of_entry x (Token t ∷ above) i = place_of_entry t above i
-place_of_entry x (EntryOf t ∷ above) i = place_of_entry t above i
-place_of_entry x (Given w ∷ above) i = place_of_entry x above i
 
 -- what is an entry ends so
 entry_path : (reads : List ReadOf) (d : Declared At) → IsDeclaredBy 0 reads d → d.kind ≡ Entry → (above : List (Source At)) × (i : At) × (d.path ≡ above ++ EntryOf i ∷ [])

@@ -10,11 +10,7 @@ use Rattle.proto_edit_captures.specs.Common.{bytes_before, captures_at, captures
 use Rattle.proto_edit_captures.proofs.ByTexts.{shown_is, target_plain, texts_for}
 use Rattle.proto_edit_captures.proofs.FrontLengths.{before_first, deeper, joined_begins, not_deeper, scan_from, scan_to}
 use Rattle.proto_edit_captures.proofs.NewlyShown.{same_truth, shown_is_anew}
-
-pub plain_take : (xs : List (List ℕ)) (k : ℕ) → ArePlain xs → ArePlain (take k xs)
-plain_take xs zero p = tt
-plain_take [] (suc k) p = tt
-plain_take (x ∷ xs) (suc k) p = (p.0, plain_take xs k p.1)
+pub use Rattle.proto_names_table.proofs.Search.{plain_take}
 
 pub taken : (xs : List (List ℕ)) (j : ℕ) → 0 < j → j ≤ length xs → take j xs ≢ []
 taken xs j some within e = (let l = length-take-le j xs within in let n = ap length e in omega (arith, l, n, some))

@@ -1,7 +1,7 @@
 mod Aimed
 pub mod Aims
 mod AllFiles
-mod ByTexts
+pub mod ByTexts
 mod CapturedWords
 pub mod Common
 mod FileCaptures

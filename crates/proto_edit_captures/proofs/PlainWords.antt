@@ -2,15 +2,8 @@
 use Rattle.std.proofs.Common.{◌≡◌, ◌≢◌, ℕ, zero, suc, List, [], ◌∷◌, ◌++◌, length, take, drop, refl, sym, ap, subst, ◌∙◌, arith, length-append, append_assoc, Contains, append-nil, take-append-drop, take_at}
 use Rattle.proto_base.proofs.Common.{take-map, contains_map}
 use Rattle.proto_names_rules.proofs.Common.{ArePlain, Reference, Symbol, Workspace, Source, Declared, Used, Skeleton, IsWoven, name_of, reference_of, spell, symbol_of, workspace_of}
+use Rattle.proto_names_rules.proofs.Edited.{split_source}
 use Rattle.proto_edit_rename_laws.specs.Captures.{HasScope}
-
-split_source : {X : Type 0} (b : List (Source X)) → b ≢ [] → (a : List (Source X)) × (x : Source X) × (b ≡ a ++ x ∷ [])
-split_source [] h = absurd (h refl)
-split_source (p ∷ []) h = ([], p, refl)
-split_source (p ∷ q ∷ b) h = let r = split_source (q ∷ b) (λ z. not_empty z) in (p ∷ r.0, r.1, ap (λ l. p ∷ l) r.2)
-  where
-    not_empty : q ∷ b ≡ [] → ⊥
-    not_empty z = cc
 
 module _ {X : Type 0} (text : X → List ℕ) (entry : List ℕ → List ℕ) (k : Skeleton X) (woven : IsWoven k) where
   front_there : (n : ℕ) (x y : List (Source X)) → length y ≡ n → x ≢ [] → (s : Declared X) × Contains k.declared s × (s.path ≡ x ++ y) → (u : Declared X) × Contains k.declared u × (u.path ≡ x)

@@ -9,6 +9,7 @@ use Rattle.proto_case.specs.Camel.{entry_name}
 use Rattle.proto_names_rules.proofs.Common.{Source, name_of, spell, Placed}
 use Rattle.proto_names_outline.specs.declared.listing.LastWord.TheVariants.{Text}
 use Rattle.proto_names_rules.specs.declared.kind.Kind.TheVariants.{Package}
+use Rattle.proto_names_table.proofs.SpelledNames.{read_on-front as read_front}
 
 -- what is read past the end
 abbrev pub no_entry : Listed
@@ -22,13 +23,6 @@ path_more ds more k l =
 above_more : (ds more : List Placed) (above : Above) → needs above ≤ length ds → path_at (ds ++ more) above ≡ path_at ds above
 above_more ds more Outermost l = refl
 above_more ds more (Below k) l = path_more ds more k (omega (arith, l))
-
-read_front : (before : List Placed) (es : List Listed) → (rest : List Placed) × (read_on before es ≡ before ++ rest)
-read_front before [] = ([], sym (append-nil before))
-read_front before (e ∷ es) =
-    let p = seen (path_at before e.above) e in
-    let r = read_front (before ++ p ∷ []) es in
-    (p ∷ r.0, r.1 ∙ append_assoc before (p ∷ []) r.0)
 
 path_here : (before : List Placed) (p : Placed) (rest : List Placed) (n : ℕ) → n ≡ length before → path_of (before ++ p ∷ rest) n ≡ whole p
 path_here before p rest n e =

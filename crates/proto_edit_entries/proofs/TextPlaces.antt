@@ -191,14 +191,14 @@ few_changes (f ∷ fs) (d ∷ cs) (g ∷ gs) h =
 -- ---- the place of a path
 
 module _ (files : List FileOf) (path : List ℕ) where
-  file_found : (place : ℕ) → position (bytes_eq path) (paths_of files) ≡ Some place → (place < length files) × ((file_at files place).path ≡ path)
+  pub file_found : (place : ℕ) → position (bytes_eq path) (paths_of files) ≡ Some place → (place < length files) × ((file_at files place).path ≡ path)
   file_found place e =
       let p = position-Some (bytes_eq path) (paths_of files) place [] e in
       let count = length-map files (λ f. f.path) in
       let within : place < length files = omega (arith, count, p.0) in
       (within, sym (word_from_same path (get_or (paths_of files) place []) p.1 ∙ get_or-map (λ f. f.path) files place (record { path = []; bytes = [] }) [] within))
 
-  no_path : position (bytes_eq path) (paths_of files) ≡ None → (q : List ℕ) → Contains (paths_of files) q → path ≡ q → ⊥
+  pub no_path : position (bytes_eq path) (paths_of files) ≡ None → (q : List ℕ) → Contains (paths_of files) q → path ≡ q → ⊥
   no_path e q k same = elim (cases_lt (position_or_len (bytes_eq path) (paths_of files)) (length (paths_of files))) [
     | inl lt ↦
         let n = position_or_len (bytes_eq path) (paths_of files) in

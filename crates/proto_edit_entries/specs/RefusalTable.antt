@@ -4,7 +4,7 @@ use Rattle.proto_base.specs.Texts.{Text}
 use Rattle.proto_edit_entries.specs.declared.refusal.Refusal.{Refusal}
 use Rattle.proto_edit_entries.specs.declared.refusal.Refusal.TheVariants as refusal
 
--- the number of a refusal; of cases that hold, the least is told
+-- the number of a refusal; of cases that hold, the least is answered
 abbrev pub refusal_number : Refusal → ℕ
 refusal_number refusal.UnknownTarget = 1
 refusal_number refusal.KindNotAllowed = 2

@@ -12,5 +12,5 @@ mod refusal;
 pub use change::{all_turned_round, in_order, one_splice};
 pub use edit::Edit;
 pub use entry::{Change, Entry};
-pub use putting::{ChangedTexts, changed_texts, put_all};
+pub use putting::{ChangedTexts, changed_text, changed_texts, put_all};
 pub use refusal::Refusal;

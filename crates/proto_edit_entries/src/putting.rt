@@ -11,8 +11,13 @@ use proto_files::Files;
 use proto_text::{SpliceFault, apply_splices};
 use std::alloc::Global;
 
-// The text with a change; none where it is not as before the change, or would be too long.
-fn changed_text(alloc: Global, text: &[u8], change: &Change) -> Result<Option<Vec<u8>>, NoMemory>
+/// The text with a change. None where it is not as before the change, or would be too long.
+/// Fails only when out of memory.
+pub fn changed_text(
+    alloc: Global,
+    text: &[u8],
+    change: &Change,
+) -> Result<Option<Vec<u8>>, NoMemory>
     ensures { IfOk result (λ found. IsChangedText text.now (change_of change.now) found) }
 {
     if text.len() != change.before as usize {

@@ -10,7 +10,7 @@ use Rattle.proto_names_rules.specs.declared.kind.Kind.{Kind}
 use Rattle.proto_names_rules.specs.declared.kind.Kind.TheVariants.{Package, Entry, EntryField}
 use Rattle.proto_names_imports.proofs.Common.{LinkFaults, link_skeleton, names_of_files, text_of, used_named, uses_of, name_in, names_are_plain}
 use Rattle.proto_names.proofs.Common.{use_there, IsLinkRead, TextMeant, meant_by_link, meant_by_use, LinkOf, NameOf, name_at, name_text}
-use Rattle.proto_names.specs.FileReferences.{declared_names}
+use Rattle.proto_names.specs.Common.{declared_names}
 use Rattle.proto_names.specs.LinkOfFiles.{has_text, reference_id}
 use Rattle.proto_names.specs.Linking.{RefId}
 use Rattle.proto_names.specs.Linking.{Meant}
@@ -18,6 +18,7 @@ use Rattle.proto_edit_rename_laws.proofs.Common.{Target, IsNamed, may_rename, na
 use Rattle.proto_edit_rename_laws.proofs.Declarations.{declared_by, ends_with_token, is_written}
 use Rattle.proto_edit_rename.specs.StandingTokens.{words_behind}
 use Rattle.proto_edit_rename.proofs.NameTexts.{is_behind}
+use Rattle.proto_edit_captures.proofs.ByTexts.{named_at}
 
 written : (k : Kind) → may_rename k ≡ true → is_written k ≡ true
 written Entry h = absurd (true≢false (sym h))
@@ -26,14 +27,6 @@ written whole h = refl
 
 no_package : (k : Kind) → may_rename k ≡ true → k ≢ Package
 no_package k h e = true≢false (sym h ∙ ap may_rename e)
-
--- the name with a text
-named_at : (l : LinkOf) (row : ℕ) (text : List ℕ) → name_text l row ≡ Some text → (n : NameOf) × (name_at l row ≡ Some n) × (n.text ≡ text)
-named_at l row text h = go (name_at l row) refl h
-  where
-    go : (o : Option NameOf) → name_at l row ≡ o → option_map (λ n. n.text) o ≡ Some text → (n : NameOf) × (name_at l row ≡ Some n) × (n.text ≡ text)
-    go None e q = absurd (none-some text q)
-    go (Some n) e q = (n, e, same_Some n.text text q)
 
 module _ (files : List FileOf) (reads : List ReadOf) (are : AreRead files reads) (clean : HasNoFault (LinkFaults files)) (l : LinkOf) (link : IsLinkRead files reads l) where
   abbrev text : At → List ℕ

@@ -1,4 +1,4 @@
--- Tokens of a text stand in order, and so do the words that come in the place of some of them.
+-- Tokens of a text stand in order, and so do the words that replace some of them.
 use Rattle.std.proofs.Common.{◌≡◌, ℕ, zero, suc, ◌+◌, ◌-◌, ◌*◌, ◌<◌, ◌≤◌, Bool, true, false, List, [], ◌∷◌, ◌++◌, length, get_or, drop, map, refl, sym, ap, subst, ◌∙◌, arith, length-append, zero-mul, suc-mul, length-take, length-drop, append-nil}
 use Rattle.proto_base.proofs.Common.{at_drop_more, text_limit}
 use Rattle.proto_text.specs.declared.kind.PieceKind.{PieceKind}

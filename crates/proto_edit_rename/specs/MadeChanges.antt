@@ -58,7 +58,7 @@ marked_tokens [] marks = []
 marked_tokens (t ∷ ts) [] = []
 marked_tokens (t ∷ ts) (m ∷ marks) = (if m then t ∷ [] else []) ++ marked_tokens ts marks
 
--- the word in the place of a token
+-- the word in place of a token
 abbrev pub word_put : Text → Text → Token → Edit
 word_put text to t = record { at = t.span.start; old = text_at text t.span; new = to }
 

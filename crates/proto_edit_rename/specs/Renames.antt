@@ -30,7 +30,7 @@ IsCapturedAt files name to path offset = (reads : List ReadOf)
     × IsFirstPlace files reads (Captures files reads t to) path offset)
 
 -- The least case, with its place where a reference is captured;
--- memory may come in the place of any.
+-- out of memory may be answered instead.
 abbrev pub IsRenameRefusal : List FileOf → Text → Text → Refusal → Type 0
 IsRenameRefusal files name to refusal.NoMemory = Unit {0}
 IsRenameRefusal files name to (refusal.Captured path offset) = IsLeastRenameCase files name to 7

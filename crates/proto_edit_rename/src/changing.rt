@@ -137,7 +137,7 @@ fn push_if(found: &mut Vec<Token>, is_marked: bool, token: Token) -> Result<(), 
     Ok(())
 }
 
-/// How many bytes the text has with the word in the place of each of these tokens; none
+/// How many bytes the text has with the word in place of each of these tokens; none
 /// where a text may not have as many.
 fn len_after(source: &Source, tokens: &[Token], to: &str) -> Option<u32>
     requires some { 0 < length tokens.now }

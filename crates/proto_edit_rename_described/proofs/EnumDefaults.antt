@@ -1,6 +1,7 @@
 -- A default of an enum's field is one of the enum's values after a rename (for the crates above).
 use Rattle.std.proofs.Common.{◌≡◌, ℕ, ◌<◌, ◌==◌, Bool, true, false, ◌&&◌, ◌≢◌, ◌⊎◌, if◌then◌else◌, List, [], ◌∷◌, length, map, Option, Some, None, option_map, refl, sym, ap, ap₂, subst, ◌∙◌, inl, inr, cond, option_and_then, Contains, find, bytes_eq}
 use Rattle.proto_base.proofs.Common.{and_parts, cases_Bool, cond-true, cond-false, any_from, any_to, contains_map, from_map, same_from_word, word_from_same}
+pub use Rattle.proto_base.proofs.Common.{found_in_map}
 use Rattle.proto_case.specs.Camel.{entry_name}
 use Rattle.proto_text.specs.Texts.{word_at}
 use Rattle.proto_tree.specs.declared.tree.Reference.{Reference}
@@ -16,14 +17,6 @@ use Rattle.proto_edit_rename_described.specs.Allowed.{IsAllowedRename}
 use Rattle.proto_edit_rename_described.specs.EnumDefaults.{EnumDefaultsFit}
 use Rattle.proto_edit_rename_described.proofs.Allowed.{allowed_roles, is_rename}
 
-pub find_map : {A B : Type 0} (p : B → Bool) (f : A → B) (xs : List A) → find p (map f xs) ≡ option_map f (find (λ x. p (f x)) xs)
-find_map p f [] = refl
-find_map p f (x ∷ xs) = by (p (f x)) (find_map p f xs)
-  where
-    by : (b : Bool) → find p (map f xs) ≡ option_map f (find (λ x. p (f x)) xs) → cond b (Some (f x)) (find p (map f xs)) ≡ option_map f (cond b (Some x) (find (λ x. p (f x)) xs))
-    by true e = refl
-    by false e = e
-
 pub meant_token : (files : List FileOf) (reads : List ReadOf) (t : ℕ) (o : Option (List (List ℕ))) → (meant_as files reads t o).token ≡ t
 meant_token files reads t None = refl
 meant_token files reads t (Some m) = refl
@@ -34,7 +27,7 @@ meant_by_first : (files : List FileOf) (reads : List ReadOf) (file first : ℕ) 
     ≡ option_and_then (λ (u : Used ℕ). (meant_as files reads u.first (meaning_of files reads file u)).enum) (find (λ (u : Used ℕ). u.first == first) us)
 meant_by_first files reads file first us =
     let f : Used ℕ → MeantOf = λ u. meant_as files reads u.first (meaning_of files reads file u) in
-    ap (option_and_then (λ (m : MeantOf). m.enum)) (find_map (λ (m : MeantOf). m.token == first) f us ∙ ap (option_map f) (find_agree (λ u. (f u).token == first) (λ (u : Used ℕ). u.first == first) us (λ u c. ap (λ n. n == first) (meant_token files reads u.first (meaning_of files reads file u)))))
+    ap (option_and_then (λ (m : MeantOf). m.enum)) (found_in_map (λ (m : MeantOf). m.token == first) f us ∙ ap (option_map f) (find_agree (λ u. (f u).token == first) (λ (u : Used ℕ). u.first == first) us (λ u c. ap (λ n. n == first) (meant_token files reads u.first (meaning_of files reads file u)))))
     ∙ through (find (λ (u : Used ℕ). u.first == first) us)
   where
     through : (o : Option (Used ℕ)) → option_and_then (λ (m : MeantOf). m.enum) (option_map (λ u. meant_as files reads u.first (meaning_of files reads file u)) o) ≡ option_and_then (λ (u : Used ℕ). (meant_as files reads u.first (meaning_of files reads file u)).enum) o

@@ -33,7 +33,7 @@ use Rattle.proto_edit_rename_described.specs.Common.{IsAllowedRename, Taken, is_
 use Rattle.proto_edit_rename_described.specs.FilesTurn.{AllAreMapped, FilesTurn, RenamesAreMapped}
 use Rattle.proto_edit_rename_described.proofs.Allowed.{allowed_roles, clean, empty_each, is_rename}
 use Rattle.proto_edit_rename_described.proofs.DefaultWords.{fields_have_roles}
-use Rattle.proto_edit_rename_described.proofs.EnumDefaults.{find_map, meant_token}
+use Rattle.proto_edit_rename_described.proofs.EnumDefaults.{found_in_map, meant_token}
 use Rattle.proto_edit_rename_described.proofs.FileStays.{file_options_stay, signed_stays, values_agree}
 use Rattle.proto_edit_rename_described.proofs.Mapped.{descriptors_are_mapped, joined_dotted, words_of_dotted}
 use Rattle.proto_edit_rename_described.proofs.NamesKept.{empty_parts, none_flawed}
@@ -185,7 +185,7 @@ module _ (files : List FileOf) (reads : List ReadOf) (name to : List ℕ) (t : T
 
         meant_is : meant_by (scene_of None files reads file) r ≡ option_map f (find (λ (u : Used ℕ). u.first == first) (uses_of reads file))
         meant_is =
-            find_map (λ (m : MeantOf). m.token == first) f (uses_of reads file)
+            found_in_map (λ (m : MeantOf). m.token == first) f (uses_of reads file)
             ∙ ap (option_map f) (find_agree (λ u. (f u).token == first) (λ (u : Used ℕ). u.first == first) (uses_of reads file) (λ u d. ap (λ n. n == first) (meant_token files reads u.first (meaning_of files reads file u))))
 
         by : (o : Option (Used ℕ)) → find (λ (u : Used ℕ). u.first == first) (uses_of reads file) ≡ o

@@ -13,7 +13,7 @@ use Rattle.proto_edit_rename_laws.proofs.Common.{meaning_of, meant_as, scene_of,
 use Rattle.proto_edit_rename_laws.proofs.TokenRoles.{placed_declared}
 use Rattle.proto_edit_rename_described.specs.Common.{word_under, IsUnder}
 use Rattle.proto_edit_rename_described.specs.ScenesTurn.{NamesTurn, MeaningsTurn}
-use Rattle.proto_edit_rename_described.proofs.EnumDefaults.{find_map, meant_token}
+use Rattle.proto_edit_rename_described.proofs.EnumDefaults.{found_in_map, meant_token}
 use Rattle.proto_edit_rename_described.proofs.Mapped.{ren_more}
 
 last_there : {A B : Type 0} (f : A → B) (xs : List A) (x : A) → map f (xs ++ x ∷ []) ≢ []
@@ -92,10 +92,10 @@ module _ (files : List FileOf) (reads : List ReadOf) (c : NewWords) (after : Lis
         let g : Used ℕ → MeantOf = λ u. meant_as after seen u.first (meaning_of after seen file u) in
         let o = find (λ (u : Used ℕ). u.first == first) us in
         let old : meant_by (scene_of None files reads file) x ≡ option_map f o =
-        find_map (λ (m : MeantOf). m.token == first) f us ∙ ap (option_map f) (find_agree (λ u. (f u).token == first) (λ (u : Used ℕ). u.first == first) us (λ u c. ap (λ n. n == first) (meant_token files reads u.first (meaning_of files reads file u)))) in
+        found_in_map (λ (m : MeantOf). m.token == first) f us ∙ ap (option_map f) (find_agree (λ u. (f u).token == first) (λ (u : Used ℕ). u.first == first) us (λ u c. ap (λ n. n == first) (meant_token files reads u.first (meaning_of files reads file u)))) in
         let new_is : meant_by (scene_of None after seen file) x ≡ option_map g o =
         ap (λ vs. find (λ (m : MeantOf). m.token == first) (map g vs)) (uses_stay files reads c after seen token above aim is_map to r file)
-        ∙ find_map (λ (m : MeantOf). m.token == first) g us ∙ ap (option_map g) (find_agree (λ u. (g u).token == first) (λ (u : Used ℕ). u.first == first) us (λ u c. ap (λ n. n == first) (meant_token after seen u.first (meaning_of after seen file u)))) in
+        ∙ found_in_map (λ (m : MeantOf). m.token == first) g us ∙ ap (option_map g) (find_agree (λ u. (g u).token == first) (λ (u : Used ℕ). u.first == first) us (λ u c. ap (λ n. n == first) (meant_token after seen u.first (meaning_of after seen file u)))) in
         subst (λ z. IsUnder e z (meant_by (scene_of None after seen file) x)) (sym old) (subst (λ z. IsUnder e (option_map f o) z) (sym new_is)
         (all_under us (λ u c. c) o (λ u q. (find_there (λ (u : Used ℕ). u.first == first) us u q).0)))
 

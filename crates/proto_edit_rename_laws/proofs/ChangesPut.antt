@@ -12,7 +12,7 @@ use Rattle.proto_edit_rename_laws.proofs.Rewording.{at_same}
 abbrev pub edits_at : (At → Option (List ℕ)) → ℕ → List FileOf → List ReadOf → ℕ → List Edit
 edits_at c n fs rs k = token_edits (file_at fs k).bytes (words_of_file c (n + k)) 0 (read_at rs k).tokens
 
-each_puts : (cs : List ChangeOf) (fs gs : List FileOf) → length gs ≡ length fs → ((k : ℕ) → k < length fs → PutsFile cs (file_at fs k) (file_at gs k)) → EachPuts cs fs gs
+pub each_puts : (cs : List ChangeOf) (fs gs : List FileOf) → length gs ≡ length fs → ((k : ℕ) → k < length fs → PutsFile cs (file_at fs k) (file_at gs k)) → EachPuts cs fs gs
 each_puts cs [] [] e h = tt
 each_puts cs [] (g ∷ gs) e h = absurd (omega (arith, e))
 each_puts cs (f ∷ fs) [] e h = absurd (omega (arith, e))
@@ -53,7 +53,7 @@ to_changes c n (f ∷ fs) (r ∷ rs) ch (suc k) l e h =
     Contains-append_right (change_by f (token_edits f.bytes (words_of_file c n) 0 r.tokens)) (changes_from c (suc n) fs rs) ch
     (to_changes c (suc n) fs rs ch k (omega (arith, l)) (omega (arith, e)) (subst (λ m. Contains (change_by (file_at fs k) (token_edits (file_at fs k).bytes (words_of_file c m) 0 (read_at rs k).tokens)) ch) same h))
 
-index_get : (xs : List FileOf) (d : FileOf) (k : ℕ) → k < length xs → get_or xs k d ≡ file_at xs k
+pub index_get : (xs : List FileOf) (d : FileOf) (k : ℕ) → k < length xs → get_or xs k d ≡ file_at xs k
 index_get [] d k l = absurd (omega (arith, l))
 index_get (x ∷ xs) d zero l = refl
 index_get (x ∷ xs) d (suc k) l = index_get xs d k (omega (arith, l))

@@ -1,6 +1,7 @@
 -- The texts after a rename spell the skeleton as the name map wants it (for the crates above).
 use Rattle.std.proofs.Common.{◌≡◌, ◌≢◌, ℕ, ◌==◌, Bool, true, false, ◌&&◌, ◌⊎◌, List, [], ◌∷◌, ◌++◌, map, Some, None, refl, sym, ap, ap₂, subst, ◌∙◌, inl, inr, arith, if◌then◌else◌, append_assoc, flat_map, Contains, eqb-true, eq-eqb, append-nil}
 use Rattle.proto_base.proofs.Common.{list_any, cases_Bool, cond-true, cond-false, both_ways, false_from_ne_true, Contains-append_left, Contains-append_right, Contains-append_cases, any_from, any_to, contains_head, contains_later, contains_cases}
+pub use Rattle.proto_base.proofs.Common.{from_flat_map, to_flat_map}
 use Rattle.proto_case.specs.Camel.{entry_name}
 use Rattle.proto_text.specs.Texts.{or_word}
 use Rattle.proto_names_rules.proofs.Common.{same_name, Renaming, target, rewritten, At, Source, Declared, Used, Skeleton, IsAim, renaming_of, IsRespelled, map_append}
@@ -27,20 +28,6 @@ listed i xs c = any_from (same_at i) xs i c (same_at_itself i)
 
 pub listed_is_there : (i : At) (xs : List At) → list_any (same_at i) xs ≡ true → Contains xs i
 listed_is_there i xs e = let r = any_to (same_at i) xs e in subst (Contains xs) (sym (at_same i r.0 r.2)) r.1
-
-pub from_flat_map : {X Y : Type 0} (f : X → List Y) (xs : List X) (y : Y) → Contains (flat_map f xs) y → (x : X) × Contains xs x × Contains (f x) y
-from_flat_map f [] y c = absurd (omega (arith, c.1))
-from_flat_map f (x ∷ xs) y c = elim (Contains-append_cases (f x) (flat_map f xs) y c) [
-  | inl h ↦ (x, contains_head x xs, h)
-  | inr h ↦ let r = from_flat_map f xs y h in (r.0, contains_later x r.0 xs r.1, r.2)
-]
-
-pub to_flat_map : {X Y : Type 0} (f : X → List Y) (xs : List X) (x : X) (y : Y) → Contains xs x → Contains (f x) y → Contains (flat_map f xs) y
-to_flat_map f [] x y c h = absurd (omega (arith, c.1))
-to_flat_map f (z ∷ xs) x y c h = elim (contains_cases z x xs c) [
-  | inl e ↦ Contains-append_left (f z) (flat_map f xs) y (subst (λ w. Contains (f w) y) (sym e) h)
-  | inr d ↦ Contains-append_right (f z) (flat_map f xs) y (to_flat_map f xs x y d h)
-]
 
 -- ---- words that stand for the target
 

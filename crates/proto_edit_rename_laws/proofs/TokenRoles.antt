@@ -60,7 +60,7 @@ there part none (r ∷ rs) (suc k) x c = let m = there part none rs k x c in ome
 
 -- ---- places that end with no token
 
-place_of_entry : (x : At) (above : List (Source At)) (i : At) → place_from x (above ++ EntryOf i ∷ []) ≡ i
+pub place_of_entry : (x : At) (above : List (Source At)) (i : At) → place_from x (above ++ EntryOf i ∷ []) ≡ i
 place_of_entry x [] i = refl
 place_of_entry x (Token t ∷ above) i = place_of_entry t above i
 place_of_entry x (EntryOf t ∷ above) i = place_of_entry t above i

@@ -36,7 +36,7 @@ IsFieldOf (statement.MapField f) name number = (f.name ≡ name) × (f.number �
 IsFieldOf _ name number = ⊥
 
 -- A statement right in a message, or in a oneof of one, whose `}` is the
--- token told; at any depth of messages.
+-- given token; at any depth of messages.
 pub data StandsAt (s : Statement) : Option ℕ → Tree → Type 0 where
   InMessage : (h : Heading) (i : ℕ) (within : Tree) (j : ℕ) (rest : Tree)
       → StandsIn s within
@@ -61,9 +61,9 @@ abbrev pub reservation_text : ℕ → List ℕ → List ℕ
 reservation_text number name =
     codes "reserved " ++ (decimal number ++ (codes "; reserved " ++ (quoted name ++ codes ";")))
 
--- Right in a message the reservation comes in the place of the statement. In a
--- oneof, what stands behind the statement comes in its place, through the oneof's
--- `}`, and the reservation behind that.
+-- Right in a message the reservation replaces the statement. In a oneof the rest
+-- of the oneof, through its `}`, moves to where the statement began, and the
+-- reservation follows it.
 abbrev pub deletion : Text → List Token → Statement → Option ℕ → ℕ → Text → Edit
 deletion text tokens s None number name =
     splice text (begins tokens s) (ends tokens s) (reservation_text number name)

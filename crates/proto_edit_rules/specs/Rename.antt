@@ -1,5 +1,5 @@
--- A rename: what it may aim at, the words that it changes, the cases that refuse it, what it changes,
--- and what the descriptors become.
+-- A rename: what it may aim at, the words that it changes, the cases that refuse it, what it
+-- changes, and what the descriptors become.
 use Rattle.std.specs.List.{list_any, Contains}
 use Rattle.std.specs.Option.{option_and_then}
 use Rattle.std.specs.Prelude.{Option, ℕ, Bool, ◌==◌, ◌&&◌, if◌then◌else◌, List, [], ◌∷◌, ◌++◌, flat_map, Some, None, codes, find, false, suc, map, true, ◌≡◌, ◌≢◌, ◌+◌, ◌<◌, length, ◌-◌, not, ◌⊎◌, option_map, is_some}
@@ -60,7 +60,8 @@ same_at a b = (a.file == b.file) && (a.token == b.token)
 -- the words of a reference that stand for the target, where the words before them give the front
 abbrev pub stands : Renaming → (At → Text) → List Text → List At → List At
 stands e text front [] = []
-stands e text front (i ∷ is) = (if is_same_name (front ++ text i ∷ []) (target e) then i ∷ [] else [])
+stands e text front (i ∷ is) =
+    (if is_same_name (front ++ text i ∷ []) (target e) then i ∷ [] else [])
     ++ stands e text (front ++ text i ∷ []) is
 
 -- the name that the words of a reference go on from: the prefix of its

@@ -52,7 +52,7 @@ begins tokens s = offset_at tokens (first_token s)
 abbrev pub ends : List Token → Statement → ℕ
 ends tokens s = end_before tokens (next_token s)
 
--- another text in the place of the text from one offset up to the other
+-- replaces the text from one offset up to another
 abbrev pub splice : Text → ℕ → ℕ → Text → Edit
 splice text from to new = record { at = from; old = bytes_between text from to; new = new }
 

@@ -22,11 +22,7 @@ use Rattle.proto_edit_statement_described.proofs.ImportFaults.{none_or}
 use Rattle.proto_edit_statement_described.proofs.Inserted.{IsInserted, are_moved, import_more, wanted_by}
 use Rattle.proto_edit_statement_described.proofs.ImportedScenes.{moved_files_read}
 use Rattle.proto_edit_statement_laws.proofs.Paths.{paths_are_plain}
-
-got_behind : (xs ys : List Lexeme) (n k : ℕ) → n ≡ length xs + k → slice_get (xs ++ ys) n ≡ slice_get ys k
-got_behind [] ys n k e = ap (slice_get ys) (omega (arith, e))
-got_behind (x ∷ xs) ys zero k e = absurd (omega (arith, e))
-got_behind (x ∷ xs) ys (suc n) k e = got_behind xs ys n k (omega (arith, e))
+use Rattle.proto_edit_statement_laws.proofs.LexemesMoved.{got_behind}
 
 -- what is known of added imports
 pub record Laws : Type 0 where

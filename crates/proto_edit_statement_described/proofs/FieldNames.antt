@@ -9,6 +9,7 @@ use Rattle.proto_names_rules.specs.declared.kind.Kind.TheVariants as kind
 use Rattle.proto_names_rules.proofs.Common.{At, at, all_declared, AreApart, IsLinked, Declared, Source, Token, name_of, shifted_source, spell, symbol_of, file_placed, place, FileAt, declared_to, declares, snoc_parts}
 use Rattle.proto_names_outline.specs.FromTree.{items_in}
 use Rattle.proto_names_imports.specs.Links.{names_in, names_of_files, text_of}
+use Rattle.proto_names_imports.proofs.NumberedFiles.{file_there}
 use Rattle.proto_desc_checks_laws.proofs.Common.{IsDeclared, blocks_are_declared}
 use Rattle.proto_desc.specs.SceneOf.{lexemes_of, scene_of}
 use Rattle.proto_edit_statement_described.specs.Deletions.{FieldNamesDiffer}
@@ -42,13 +43,6 @@ two {X} R (x ∷ xs) h a b ca cb = go (λ c d. two R xs h.1 a b c d) (contains_c
     go on (inr c) (inr d) = on c d
 
 -- ---- names
-
-file_there : (n : ℕ) (rs : List ReadOf) (k : ℕ) → k < length rs → FileAt n (map names_in rs) (n + k) (names_in (read_at rs k))
-file_there n [] k l = absurd (omega (arith, l))
-file_there n (r ∷ rs) zero l = inl (omega arith, refl)
-file_there n (r ∷ rs) (suc k) l =
-    let e : suc n + k ≡ n + suc k = omega arith in
-    inr (subst (λ m. FileAt (suc n) (map names_in rs) m (names_in (read_at rs k))) e (file_there (suc n) rs k (omega (arith, l))))
 
 same_source : (x y : At) → ◌≡◌ {A = Source At} (Token x) (Token y) → x ≡ y
 same_source x y h = cc

@@ -6,6 +6,7 @@ use Rattle.proto_text.specs.Tokens.{Lexeme}
 use Rattle.proto_tree.specs.Tree.{Tree, End}
 use Rattle.proto_files.proofs.Common.{ReadOf, read_at, FileOf, file_at, paths_of}
 use Rattle.proto_edit_statement_laws.specs.OneFile.{with_read, with_text}
+use Rattle.proto_edit_statement_laws.proofs.LexemesMoved.{got_behind as past}
 
 module _ (files : List FileOf) (reads : List ReadOf) (place : ℕ) (result : List ℕ) (after : List Token) (tree : Tree) where
   pub many : length (with_text files place result) ≡ length files
@@ -59,11 +60,6 @@ in_front : (xs ys : List Lexeme) (k : ℕ) → k < length xs → slice_get (xs +
 in_front [] ys k l = absurd (omega (arith, l))
 in_front (x ∷ xs) ys zero l = refl
 in_front (x ∷ xs) ys (suc k) l = in_front xs ys k (omega (arith, l))
-
-past : (xs ys : List Lexeme) (n k : ℕ) → n ≡ length xs + k → slice_get (xs ++ ys) n ≡ slice_get ys k
-past [] ys n k e = ap (slice_get ys) (omega (arith, e))
-past (x ∷ xs) ys zero k e = absurd (omega (arith, e))
-past (x ∷ xs) ys (suc n) k e = past xs ys n k (omega (arith, e))
 
 -- each new token stands behind those before the place
 pub come_in : (front new back : List Lexeme) (p k : ℕ) → length front ≡ p → k < length new → slice_get (front ++ (new ++ back)) (p + k) ≡ slice_get new k

@@ -20,6 +20,8 @@ use Rattle.proto_ast.specs.Parts.{BlockOf, FieldOf, blocks_in, fields_in, statem
 use Rattle.proto_desc_checks.specs.FileFlaws.{is_empty}
 use Rattle.proto_edit_statement_laws.proofs.Common.{StandsAt, InMessage as StandsInMessage, InOneof as StandsInOneof, Deeper as StandsDeeper, PastLeaf as StandsPastLeaf, PastBlock as StandsPastBlock, StandsIn, First, AfterLeaf, AfterBlock, first_token, next_token, own, reservation_place, without, IsExchanged, Here, Later, Inside, Behind, before, MovesBy, reservation, reservation_tokens, around, cut_around, statements_are_exchanged, found, moved_moves_by, moves_in, reservation_fits, before_field, before_it, block_long, closed, close_at, leaf_long, through, through_message}
 use Rattle.proto_edit_statement_laws.proofs.Reversed.{statement_long, tree_long}
+use Rattle.proto_edit_statement_laws.proofs.Deletions.{in_parts}
+use Rattle.proto_edit_statement_laws.proofs.TakenOut.{exchanged_long}
 use Rattle.proto_edit_statement_described.specs.Deletions.{AtField, AtOneof, BehindBlock, BehindLeaf, Deeper, Found, FurtherOn, InMessage, IsAmong, IsDeletedIn, IsDeletedRight, OfMap, PastBlock, PastLeaf, Plain, Reservation, WrittenField, written_name, reserved, statement_of}
 use Rattle.proto_edit_statement_described.specs.Trees.{HasFellows, TreesAreDeleted, reservation_at, to_new, to_old}
 
@@ -67,14 +69,6 @@ may_stand (Plain f) = labeled f.label
     labeled None = refl
     labeled (Some i) = refl
 may_stand (OfMap f) = refl
-
--- as many tokens less as the first items have more than the second
-exchanged_long : (g : Move) (a b : Tree) (c : Context) (t u : Tree) → IsExchanged g a b c t u → length (flat u) + length (flat a) ≡ length (flat t) + length (flat b)
-exchanged_long g a b c t u r =
-    let s = around g a b c t u r in
-    let x = ap (λ (m : List Mark). length m) s.old ∙ length-append s.front (flat a ++ s.back) ∙ ap (λ (n : ℕ). length s.front + n) (length-append (flat a) s.back) in
-    let y = ap (λ (m : List Mark). length m) s.new ∙ length-append (map (shift g) s.front) (flat b ++ map (shift g) s.back) ∙ ap₂ (λ (m n : ℕ). m + n) (length-map s.front (shift g)) (length-append (flat b) (map (shift g) s.back) ∙ ap (λ (n : ℕ). length (flat b) + n) (length-map s.back (shift g))) in
-    omega (arith, x, y)
 
 -- ---- right in a oneof
 
@@ -318,15 +312,6 @@ put_place text tokens t s (Some close) reads h n e =
     let next = fd.next in
     let closes : suc close ≡ through h = close_at t close (through h) (trees_are_numbered t (map (lexeme_at text) tokens) reads.spells) (closed t h).0 in
     omega (arith, e, closes, next)
-
--- all of a list, in two parts and what stands from q on
-in_parts : (f q : ℕ) (all : List Lexeme) → f ≤ q → all ≡ take f all ++ (take (q - f) (drop f all) ++ drop q all)
-in_parts f q all le =
-    let e : (q - f) + f ≡ q = omega (arith, le) in
-    sym (take-append-drop f all) ∙ ap (λ (z : List Lexeme). take f all ++ z) (sym (take-append-drop (q - f) (drop f all)) ∙ ap (λ (z : List Lexeme). take (q - f) (drop f all) ++ z) (drop-drop (q - f) f all ∙ ap (λ (k : ℕ). drop k all) (flip f (q - f) q e)))
-  where
-    flip : (f n q : ℕ) → n + f ≡ q → f + n ≡ q
-    flip f n q e = omega (arith, e)
 
 start_no : context.Start ≡ context.Message → ⊥
 start_no h = cc

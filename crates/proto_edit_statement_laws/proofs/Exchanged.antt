@@ -1,4 +1,4 @@
--- Statements put in the place of others, in a tree that is moved (for the crates above).
+-- Statements put in place of others, in a tree that is moved (for the crates above).
 use Rattle.std.proofs.Common.{◌≡◌, ℕ, ◌+◌, List, [], ◌∷◌, ◌++◌, length, map, inl, inr, refl, sym, ap, subst, ◌∙◌, arith, append_assoc, length-append}
 use Rattle.proto_text.specs.Tokens.{Lexeme}
 use Rattle.proto_tree.specs.declared.class.Class.TheVariants as class

@@ -35,7 +35,7 @@ additions_are_changes law quoted files reads file path are within is short =
       record { added = v.3; changed = changed_by files reads file (splice_of_addition files reads file path) v.0 v.1 v.2 are within v.3.put (v.3.utf8 plain.1) v.3.reads apart short },
     )
   where
-    -- what is added comes in the place of nothing
+    -- what is added replaces nothing
     of_nothing : (text : List ℕ) (n : ℕ) (added : List ℕ) → bytes_between text n n ≡ added → [] ≡ added
     of_nothing text n added e = ap (λ (k : ℕ). take k (drop n text)) (left n) ∙ e
       where

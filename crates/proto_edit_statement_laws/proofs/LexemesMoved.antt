@@ -11,7 +11,7 @@ got_in_front [] ys k lt = absurd (omega (arith, lt))
 got_in_front (x ∷ xs) ys zero lt = refl
 got_in_front (x ∷ xs) ys (suc k) lt = got_in_front xs ys k (omega (arith, lt))
 
-got_behind : (xs ys : List Lexeme) (n k : ℕ) → n ≡ length xs + k → slice_get (xs ++ ys) n ≡ slice_get ys k
+pub got_behind : (xs ys : List Lexeme) (n k : ℕ) → n ≡ length xs + k → slice_get (xs ++ ys) n ≡ slice_get ys k
 got_behind [] ys n k e = ap (slice_get ys) (omega (arith, e))
 got_behind (x ∷ xs) ys zero k e = absurd (omega (arith, e))
 got_behind (x ∷ xs) ys (suc n) k e = got_behind xs ys n k (omega (arith, e))

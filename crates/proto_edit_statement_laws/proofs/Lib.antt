@@ -2,7 +2,7 @@ mod Apart
 pub mod ChangesCommon
 pub mod Common
 mod DeletionChanges
-mod Deletions
+pub mod Deletions
 mod Depth
 pub mod Endings
 mod Examples
@@ -21,7 +21,7 @@ pub mod Kept
 mod LastOf
 pub mod LeadingWalks
 pub mod Less
-mod LexemesMoved
+pub mod LexemesMoved
 pub mod Lists
 pub mod Marks
 pub mod MovedNames
@@ -29,7 +29,6 @@ pub mod NamesCommon
 pub mod NamesOut
 pub mod NewStatements
 pub mod OneFile
-pub mod PathPlaces
 pub mod Paths
 pub mod Places
 pub use Rattle.proto_edit_rename_laws.proofs.Declarations

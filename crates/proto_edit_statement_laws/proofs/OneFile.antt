@@ -8,6 +8,7 @@ use Rattle.proto_files.proofs.Common.{ReadOf, read_at, FileOf, file_at, IsText, 
 use Rattle.proto_edit_entries.proofs.Common.{ChangeOf, HasLengths, IsChange, IsEntry, IsMeasured, EachPuts, IsPut, PutsFile, puts_keep_paths}
 use Rattle.proto_edit_statement_laws.specs.OneFile.{AreFiles, IsChangedBy, with_read, with_text}
 use Rattle.proto_edit_rules.specs.Statements.{IsTooLong, length_with, one_change}
+use Rattle.proto_edit_rename_laws.proofs.ChangesPut.{each_puts, index_get}
 
 -- ---- lengths
 
@@ -74,11 +75,6 @@ entry_of f e result path small fits puts apart =
 
 -- ---- files by their places
 
-index_get : (xs : List FileOf) (d : FileOf) (k : ℕ) → k < length xs → get_or xs k d ≡ file_at xs k
-index_get [] d k l = absurd (omega (arith, l))
-index_get (x ∷ xs) d zero l = refl
-index_get (x ∷ xs) d (suc k) l = index_get xs d k (omega (arith, l))
-
 one_place : (fs : List FileOf) → AllPairs (λ f g. IsBefore f.path g.path) fs → (j k : ℕ) → j < length fs → k < length fs → (file_at fs j).path ≡ (file_at fs k).path → j ≡ k
 one_place fs apart j k lj lk e = elim (cases_order j k) [
   | inl same ↦ same
@@ -96,12 +92,6 @@ path_at : (fs : List FileOf) (i : ℕ) → i < length fs → All (λ (f : FileOf
 path_at [] i l h = absurd (omega (arith, l))
 path_at (f ∷ fs) zero l h = h 0 f l
 path_at (f ∷ fs) (suc i) l h = path_at fs i (omega (arith, l)) (λ j d m. h (suc j) d (omega (arith, m)))
-
-each_puts : (cs : List ChangeOf) (fs gs : List FileOf) → length gs ≡ length fs → ((k : ℕ) → k < length fs → PutsFile cs (file_at fs k) (file_at gs k)) → EachPuts cs fs gs
-each_puts cs [] [] e h = tt
-each_puts cs [] (g ∷ gs) e h = absurd (omega (arith, e))
-each_puts cs (f ∷ fs) [] e h = absurd (omega (arith, e))
-each_puts cs (f ∷ fs) (g ∷ gs) e h = (h 0 (omega arith), each_puts cs fs gs (omega (arith, e)) (λ k l. h (suc k) (omega (arith, l))))
 
 -- ---- the change of one file
 

@@ -1,4 +1,4 @@
--- What is read of a text in which statements come in the place of statements.
+-- What is read of a text in which statements replace statements.
 use Rattle.std.proofs.Common.{◌≡◌, ℕ, suc, ◌+◌, ◌-◌, ◌≤◌, Option, Some, None, List, [], ◌∷◌, ◌++◌, length, take, drop, map, refl, sym, ap, subst, ◌∙◌, arith, true, length-take, length-drop, take-append-drop, drop-drop}
 use Rattle.std.proofs.lemmas.List.{length-map}
 use Rattle.proto_text.proofs.Common.{Lexeme, lexeme_at, RunsAreReplaced}

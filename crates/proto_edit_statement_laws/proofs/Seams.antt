@@ -10,6 +10,7 @@ use Rattle.proto_tree.specs.declared.class.Class.TheVariants as class
 use Rattle.proto_tree.specs.declared.class.Expected.TheVariants as want
 use Rattle.proto_tree.specs.declared.context.Context.TheVariants as context
 use Rattle.proto_tree.proofs.Common.{is_word, fits, Mark, one, Fit, flat, class_by, classes, word_is_word, place_of_word}
+pub use Rattle.proto_tree.proofs.MarkLaws.{fit_length as fit_long}
 use Rattle.proto_edit_statement_laws.specs.Common.{before, PlacesAreSeams}
 use Rattle.proto_edit_statement_laws.proofs.Endings.{is_end, IsApart, apart_then, tree_apart}
 use Rattle.proto_edit_statement_laws.proofs.Exchanged.{around}
@@ -51,12 +52,6 @@ seam_at source ts front back n (inl e) at h = subst (IsSeam ts) (sym (ap (λ (z 
 seam_at source ts front back n (inr k) at h =
     let i : suc (length k.init) ≡ n = omega (arith, at, ap (λ (z : List Mark). length z) k.parts, length-append k.init (one k.last k.at)) in
     subst (IsSeam ts) i (seam_behind source ts 0 k.init k.last k.at back k.is (subst (λ (z : List Mark). Fit z (classes 0 (map (lexeme_at source) ts))) (ap (λ (z : List Mark). z ++ back) k.parts ∙ append_assoc k.init (one k.last k.at) back) h))
-
-pub fit_long : (n : ℕ) (ms : List Mark) (ls : List Lexeme) → Fit ms (classes n ls) → length ms ≡ length ls
-fit_long n [] [] h = refl
-fit_long n [] (l ∷ ls) h = absurd h
-fit_long n (m ∷ ms) [] h = absurd h
-fit_long n (m ∷ ms) (l ∷ ls) h = ap suc (fit_long (suc n) ms ls h.2)
 
 pub places_are_seams : PlacesAreSeams
 places_are_seams source ts g a b t u r reads =

@@ -47,7 +47,7 @@ block_long k i within j rest =
 pub leaf_long : (s : Statement) → length (flat (Leaf s End)) ≡ length (flat_statement s)
 leaf_long s = ap (λ (x : List Mark). length x) (nothing_behind (flat_statement s))
 
-exchanged_long : (g : Move) (a b : Tree) (c : Context) (t u : Tree) → IsExchanged g a b c t u → length (flat u) + length (flat a) ≡ length (flat t) + length (flat b)
+pub exchanged_long : (g : Move) (a b : Tree) (c : Context) (t u : Tree) → IsExchanged g a b c t u → length (flat u) + length (flat a) ≡ length (flat t) + length (flat b)
 exchanged_long g a b c t u r =
     let s = around g a b c t u r in
     let x = ap (λ (m : List Mark). length m) s.old ∙ length-append s.front (flat a ++ s.back) ∙ ap (λ (n : ℕ). length s.front + n) (length-append (flat a) s.back) in
@@ -71,7 +71,7 @@ pub record IsTakenOut (g k : Move) (s : Statement) (b : Tree) (c d : Context) (t
   pub put_at : before put + length (flat_statement s) ≡ p
 
 module _ (g k : Move) (s : Statement) where
-  -- among items of a context that none of them changes, with b in the place of the statement
+  -- among items of a context that none of them changes, with b in place of the statement
   among : (b : Tree) (c d : Context) (t : Tree) → d ≡ c → allows c kind.Close ≡ true → IsWellFormed c b → last_of c b ≡ c → (h : StandsIn s t) → IsTakenOut g k s b c d t (before_it h) (before_it h + length (flat_statement s))
   among b c d _ e inner fine stays (First rest) = record {
     middle = move_tree g rest;

@@ -1,4 +1,4 @@
--- A tree with other items in the place of some, and all its indices moved by one map.
+-- A tree with other items in place of some, and all its indices moved by one map.
 use Rattle.std.specs.Prelude.{◌≡◌, ◌⊎◌, ℕ, ◌+◌, ◌<◌, ◌≤◌, List, ◌++◌, length, slice_get, take, drop}
 use Rattle.proto_text.specs.Segments.{moved}
 use Rattle.proto_text.specs.Tokens.{Lexeme}
@@ -12,7 +12,7 @@ use Rattle.proto_tree.specs.Moved.{Move, move_header, move_statement, move_tree}
 use Rattle.proto_tree.specs.Tree.{Tree, End, Leaf, Block, flat, statement_kind, header_kind, after, inside, IsWellFormed, last_of, joined_trees, Spells}
 use Rattle.proto_tree.specs.Words.{classes}
 
--- The second tree is the first, moved, with the items of b in the place of those of a: at one
+-- The second tree is the first, moved, with the items of b in place of those of a: at one
 -- place, where b may stand, and behind which stands what followed, if it could follow on a.
 pub data IsExchanged (g : Move) (a b : Tree) : Context → Tree → Tree → Type 0 where
   Here : (c : Context) (rest : Tree)
@@ -44,7 +44,7 @@ pub record MovesBy (g : Move) (front old new : ℕ) : Type 0 where
   pub stays : (k : ℕ) → k < front → g k ≡ k
   pub goes : (k : ℕ) → g (front + old + k) ≡ front + new + k
 
--- Where the tokens of b come in the place of those of a, the second tree spells what comes out.
+-- Where the tokens of b replace those of a, the second tree spells what comes out.
 abbrev pub StatementsAreExchanged : Type 0
 StatementsAreExchanged =
     (g : Move) (a b t u : Tree) (r : IsExchanged g a b context.Start t u)
@@ -62,7 +62,7 @@ LexemesAreMoved = (ls ns : List Lexeme) (i j k : ℕ) → i ≤ j → j ≤ leng
     → slice_get (take i ls ++ (ns ++ drop j ls)) (moved i j (length ns) k) ≡ slice_get ls k
 
 -- Read backwards: the first tree is the second, moved by the map that leads back, with the
--- items of a in the place of those of b.
+-- items of a in place of those of b.
 abbrev pub ExchangesAreReversed : Type 0
 ExchangesAreReversed =
     (g back : Move) (a b t u : Tree) (r : IsExchanged g a b context.Start t u)

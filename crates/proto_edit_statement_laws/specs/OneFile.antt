@@ -18,7 +18,7 @@ pub record AreFiles (files : List FileOf) (reads : List ReadOf) : Type 0 where
   pub texts : (k : ℕ) → k < length files → IsText (file_at files k).bytes
   pub read : AreRead files reads
 
--- the files with another text in the place of that of one
+-- the files with another text in place of that of one
 abbrev pub with_text : List FileOf → ℕ → Text → List FileOf
 with_text files file text =
     slice_set files file (record { path = (file_at files file).path; bytes = text })

@@ -1,4 +1,4 @@
--- What is read of a text in which statements come in the place of statements.
+-- What is read of a text in which statements replace statements.
 use Rattle.std.specs.Prelude.{◌≡◌, ℕ, ◌+◌, ◌≤◌, false, List, [], ◌∷◌, ◌++◌, length}
 use Rattle.proto_base.specs.Texts.{Text}
 use Rattle.proto_text.specs.declared.lexer.Token.{Token}
@@ -19,7 +19,7 @@ abbrev pub HaveNoBrace : List Lexeme → Type 0
 HaveNoBrace [] = Unit {0}
 HaveNoBrace (l ∷ ls) = (is_brace (class_by l.kind l.text) ≡ false) × HaveNoBrace ls
 
--- Where tokens without a brace come in the place of tokens without a brace, no more than 32
+-- Where tokens without a brace replace tokens without a brace, no more than 32
 -- braces are open at once, as before.
 abbrev pub DepthIsKept : Type 0
 DepthIsKept = (front old new back : List Lexeme)

@@ -16,7 +16,7 @@ ghost use Rattle.proto_edit_statement_laws.specs.Trees.{ImportsMoveNames, TreesM
 use proto_names_rules::edits::{adds_import, adds_no_cycle, drops_import};
 use proto_text::laws::{runs_are_replaced, segments_are_made};
 
-/// Where items come in the place of items, the new tree and its tokens are the old ones, all moved
+/// Where items replace items, the new tree and its tokens are the old ones, all moved
 /// by one map; and so are the old ones, read backwards.
 pub fn statements_are_exchanged()
     ensures tree { StatementsAreExchanged }
@@ -29,7 +29,7 @@ pub fn places_are_seams()
     ensures { PlacesAreSeams }
 {}
 
-/// Where statements come in the place of statements in a text, the tree with them is read,
+/// Where statements replace statements in a text, the tree with them is read,
 /// and no more braces are open at once.
 pub fn statements_are_read()
     ensures read { StatementsAreRead }

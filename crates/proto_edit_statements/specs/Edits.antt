@@ -29,7 +29,7 @@ SomeReading files P = (reads : List ReadOf) × AreRead files reads × P reads
 abbrev pub IsDeletionCase : List FileOf → Text → ℕ → Type 0
 IsDeletionCase files name n = SomeReading files (λ reads. RefusesDeletion files reads name n)
 
--- the least case; memory may come in the place of any
+-- the least case; out of memory may be answered instead
 abbrev pub IsDeletionRefusal : List FileOf → Text → Refusal → Type 0
 IsDeletionRefusal files name refusal.NoMemory = Unit {0}
 IsDeletionRefusal files name (refusal.Captured path offset) = ⊥

@@ -62,6 +62,6 @@ text_if text tokens semicolon (Some close) reserved =
     bytes_between text (end_before tokens (suc semicolon)) (end_before tokens (suc close))
     ++ (codes " " ++ reserved)
 
--- what comes in the place of a field that stands here, with this reservation
+-- what replaces a field that stands here, with this reservation
 abbrev pub text_by : Text → List Token → FieldPlace → Text → Text
 text_by text tokens p reserved = text_if text tokens p.semicolon p.oneof reserved

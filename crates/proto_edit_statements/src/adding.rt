@@ -25,7 +25,7 @@ use proto_base::NoMemory;
 use proto_edit_captures::{captured_refusal, first_overtaken};
 use proto_edit_entries::{Change, Refusal};
 use proto_edit_statement_laws::laws::additions_are_read;
-use proto_files::{Files, are_read, file_named};
+use proto_files::{Files, are_read};
 use proto_names::Link;
 use proto_names_imports::import::FileImport;
 use proto_text::Span;
@@ -171,10 +171,10 @@ pub fn add_import(
     // The paths of a workspace are apart.
     files.len();
     let paths = Paths { file, path };
-    let Some(from) = file_named(files, 0, file) else {
+    let Some(from) = files.place_of_path(file) else {
         return Err(Refusal::UnknownFile);
     };
-    let Some(to) = file_named(files, 0, path) else {
+    let Some(to) = files.place_of_path(path) else {
         return Err(Refusal::UnknownFile);
     };
     let imports = linked_imports(alloc, files)?;

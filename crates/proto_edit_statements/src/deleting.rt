@@ -94,7 +94,7 @@ fn text_between<'a>(files: &'a Files, file: u32, after: u32, last: u32) -> &'a s
     files.source(file).text(span)
 }
 
-/// What comes in the place of the statement: the reservation, for a
+/// What replaces the statement: the reservation, for a
 /// oneof behind what stands after it.
 fn text_of(
     alloc: Global,

@@ -19,7 +19,7 @@ use crate::paths::Paths;
 use crate::splicing::splice_change;
 use proto_base::NoMemory;
 use proto_edit_entries::{Change, Refusal};
-use proto_files::{Files, are_read, file_named, offset_of};
+use proto_files::{Files, are_read, offset_of};
 use proto_names::{Link, RefId};
 use proto_text::Span;
 use proto_tree::Import;
@@ -113,14 +113,14 @@ pub fn drop_import(
     // The paths of a workspace are apart.
     files.len();
     let paths = Paths { file, path };
-    let Some(from) = file_named(files, 0, file) else {
+    let Some(from) = files.place_of_path(file) else {
         return Err(Refusal::UnknownFile);
     };
     let Some(import) = import_named(files, from, path) else {
         return Err(Refusal::NotImported);
     };
     // A path that is imported is that of a file.
-    let Some(to) = file_named(files, 0, path) else {
+    let Some(to) = files.place_of_path(path) else {
         unreachable!();
     };
     check_needed(alloc, files, link, paths, from, to)?;

@@ -9,34 +9,9 @@ ghost use Rattle.proto_names_rules.specs.Names.{Workspace};
 
 use proto_base::NoMemory;
 use proto_names_imports::import::{FileImport, targets};
+use proto_names_imports::sight::all_public;
 use proto_names_imports::walk::reached_files;
 use std::alloc::Global;
-
-/// The files that the public ones of these imports name.
-fn public_targets(alloc: Global, imports: &[FileImport]) -> Result<Vec<u32>, NoMemory>
-    ensures { IfOk result (λ files. files.items
-        ≡ map (λ i. i.to) (filter (λ i. i.is_public) imports.now)) }
-{
-    let mut files = Vec::new(alloc);
-    for import in imports {
-        if import.is_public {
-            files.push(import.to)?;
-        }
-    }
-    Ok(files)
-}
-
-/// For each file, the files that it imports publicly.
-fn all_public(alloc: Global, imports: &[Vec<FileImport>]) -> Result<Vec<Vec<u32>>, NoMemory>
-    ensures { IfOk result (λ next. map (λ v. v.items) next.items
-        ≡ map (λ v. map (λ i. i.to) (filter (λ i. i.is_public) v.items)) imports.now) }
-{
-    let mut next = Vec::new(alloc);
-    for own in imports {
-        next.push(public_targets(alloc, own)?)?;
-    }
-    Ok(next)
-}
 
 /// The marks of the files that one file sees, with an import more, not a public one: a walk along
 /// all of its own imports and the public ones of the others.

@@ -12,7 +12,7 @@ use proto_files::Files;
 use proto_text::Span;
 use std::alloc::Global;
 
-/// The change that puts a text in the place of what stands at the span of a file; none where the
+/// The change that puts a text in place of what stands at the span of a file; none where the
 /// file would have more than 1,048,576 bytes.
 pub fn splice_change(
     alloc: Global,

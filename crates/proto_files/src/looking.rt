@@ -1,7 +1,7 @@
-//! What is looked up among the files of a workspace.
+//! The paths of the files of a workspace.
 
-ghost use Rattle.std.specs.Prelude.{◌≡◌, ◌≢◌, ◌<◌, ◌≤◌, ℕ, length, map, IfOk, IfSome, IfNone};
-ghost use Rattle.proto_files.specs.GivenFiles.{file_at, paths_of};
+ghost use Rattle.std.specs.Prelude.{◌≡◌, map, IfOk};
+ghost use Rattle.proto_files.specs.GivenFiles.{paths_of};
 
 use crate::files::Files;
 use proto_base::NoMemory;
@@ -16,36 +16,4 @@ pub fn all_paths<'a>(alloc: Global, files: &'a Files) -> Result<Vec<&'a str>, No
         paths.push(files.path(file))?;
     }
     Ok(paths)
-}
-
-// The first file with the path among those with places from `start` to `end`.
-fn file_between(files: &Files, start: u32, end: u32, path: &str) -> Option<u32>
-    requires { end ≤ length files.now }
-    ensures within { IfSome result (λ file. file < length files.now) }
-    ensures path { IfSome result (λ file. (file_at files.now file).path ≡ path.now) }
-    ensures none { IfNone result ((file : ℕ)
-        → start ≤ file → file < end → (file_at files.now file).path ≢ path.now) }
-{
-    for file in start..end {
-        if files.path(file) == path {
-            return Some(file);
-        }
-    }
-    None
-}
-
-/// The place of the file at a path, if there is one. The files from the place `start` on are looked
-/// at first: where files are asked for in the order of their paths, the next one is near.
-pub fn file_named(files: &Files, start: u32, path: &str) -> Option<u32>
-    ensures within { IfSome result (λ file. file < length files.now) }
-    ensures path { IfSome result (λ file. (file_at files.now file).path ≡ path.now) }
-    ensures none { IfNone result ((file : ℕ)
-        → file < length files.now → (file_at files.now file).path ≢ path.now) }
-{
-    let count = files.len() as u32;
-    let start = start.min(count);
-    match file_between(files, start, count, path) {
-        Some(file) => Some(file),
-        None => file_between(files, 0, start, path),
-    }
 }

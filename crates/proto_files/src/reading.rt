@@ -2,49 +2,15 @@
 
 ghost use Rattle.std.specs.Prelude.{◌≡◌, All, IfOk, IfErr};
 ghost use Rattle.proto_files.specs.ReadFaults.{IsTextFault, IsGrammarFault};
-ghost use Rattle.proto_files.specs.Reading.{lex_kind, text_error, grammar_error, IsFileError, IsFirstError, IsLexedFile, IsReadFile};
+ghost use Rattle.proto_files.specs.Reading.{IsFileError, IsFirstError, IsLexedFile, IsReadFile};
 ghost use Rattle.proto_files.specs.Stages.{named_file, named_files, lexed_file, lexed_files, read_file, read_files};
 
 use crate::stages::{LexedFile, NamedFile, ReadFile};
-use proto_base::{Fault, FaultKind, SchemaFault};
-use proto_text::{LexFault, Source, TextFault, lex};
-use proto_tree::{ParseFault, parse};
+use crate::text_faults::{grammar_error, text_error};
+use proto_base::SchemaFault;
+use proto_text::{Source, lex};
+use proto_tree::parse;
 use std::alloc::Global;
-
-fn lex_kind(fault: LexFault) -> FaultKind
-    ensures { result ≡ lex_kind fault }
-{
-    match fault {
-        LexFault::BadChar => FaultKind::BadChar,
-        LexFault::OpenComment => FaultKind::OpenComment,
-        LexFault::OpenString => FaultKind::OpenString,
-        LexFault::BadEscape => FaultKind::BadEscape,
-        LexFault::BadNumber => FaultKind::BadNumber,
-    }
-}
-
-fn text_error(path: String, fault: TextFault) -> SchemaFault
-    ensures { result ≡ text_error path fault }
-{
-    let (offset, kind) = match fault {
-        TextFault::TooLarge => (0, FaultKind::TooLarge),
-        TextFault::NotUtf8 => (0, FaultKind::NotUtf8),
-        TextFault::At { offset, fault } => (offset, lex_kind(fault)),
-        TextFault::NoMemory => return SchemaFault::NoMemory,
-    };
-    SchemaFault::Schema(Fault { path, offset, kind })
-}
-
-fn grammar_error(path: String, fault: ParseFault) -> SchemaFault
-    ensures { result ≡ grammar_error path fault }
-{
-    let (offset, kind) = match fault {
-        ParseFault::Syntax { offset } => (offset, FaultKind::Syntax),
-        ParseFault::TooDeep { offset } => (offset, FaultKind::TooDeep),
-        ParseFault::NoMemory => return SchemaFault::NoMemory,
-    };
-    SchemaFault::Schema(Fault { path, offset, kind })
-}
 
 fn lex_file(alloc: Global, file: NamedFile) -> Result<LexedFile, SchemaFault>
     ensures same { IfOk result (λ lexed. lexed_file lexed ≡ named_file file) }

@@ -14,6 +14,7 @@ use Rattle.proto_journal_records.specs.declared.fault.JournalFault.TheVariants a
 use Rattle.proto_journal_records.specs.declared.record.Version.{Version}
 use Rattle.proto_journal_records.specs.declared.record.Version.TheVariants.{Second}
 use Rattle.proto_journal_records.proofs.Common.{journal_limit, IsRecord, is_last_open, done, journal_text, IsReadInOneWay, HasOpenEntry, IsReady, IsUnreadable, IsSettled, Keeps, RecordOf, IsJournalIn}
+use Rattle.proto_journal_records.proofs.Comebacks.{same_ends}
 use Rattle.proto_store.specs.Stores.{Held}
 use Rattle.proto_journal.specs.Common.{CommitOutcome, IsCommitted, IsFull, Stays, CommitsAreOne, IsSameAnswer, IsSameRefusal, UndosAreOne, EndsIn, IsStale, IsUndone, UndoOutcome}
 use Rattle.proto_journal.proofs.Recorded.{last_of}
@@ -104,15 +105,6 @@ head_of x y xs ys e = cc
 
 tail_of : (x y : RecordOf) (xs ys : List RecordOf) → x ∷ xs ≡ y ∷ ys → xs ≡ ys
 tail_of x y xs ys e = cc
-
-same_ends : (rs ss : List RecordOf) (a b : RecordOf) → rs ++ a ∷ [] ≡ ss ++ b ∷ [] → (rs ≡ ss) × (a ≡ b)
-same_ends [] [] a b e = (refl, head_of a b [] [] e)
-same_ends [] (s ∷ ss) a b e = never_none ss b (sym (tail_of a s [] (ss ++ b ∷ []) e))
-same_ends (r ∷ rs) [] a b e = never_none rs a (tail_of r b (rs ++ a ∷ []) [] e)
-same_ends (r ∷ rs) (s ∷ ss) a b e =
-    let more = same_ends rs ss a b (tail_of r s (rs ++ a ∷ []) (ss ++ b ∷ []) e) in
-    let first : r ≡ s = head_of r s (rs ++ a ∷ []) (ss ++ b ∷ []) e in
-    ((λ i. first i ∷ more.0 i), more.1)
 
 both : {P : Type 0} (b : Bool) → b ≡ true → b ≡ false → P
 both b t f = let e : true ≡ false = sym t ∙ f in cc

@@ -7,6 +7,7 @@ use Rattle.proto_journal_records.specs.declared.record.State.TheVariants as stat
 use Rattle.proto_journal_records.specs.declared.record.Version.{Version}
 use Rattle.proto_journal_records.specs.declared.record.Version.TheVariants.{Second}
 use Rattle.proto_journal_records.proofs.Common.{record_text, IsJournal, is_last_open, is_open, done, journal_text, HasOpenEntry, IsReady, IsUnreadable, CountsFault, Over, RecordOf, IsJournalIn, IsReadyWith, unread}
+pub use Rattle.proto_journal_records.proofs.OneRecovery.{last_of}
 use Rattle.proto_store.specs.Stores.{Held, HoldsJournal}
 use Rattle.proto_journal.specs.Common.{IsUnready, LastOutcome, IsReadyText}
 
@@ -15,11 +16,6 @@ use Rattle.proto_journal.specs.Common.{IsUnready, LastOutcome, IsReadyText}
 pub text_more : (v : Version) (records : List RecordOf) (r : RecordOf) → journal_text v (records ++ r ∷ []) ≡ journal_text v records ++ record_text v r
 text_more v [] r = append-nil (record_text v r)
 text_more v (s ∷ rs) r = ap (λ (t : List ℕ). record_text v s ++ t) (text_more v rs r) ∙ sym (append_assoc (record_text v s) (journal_text v rs) (record_text v r))
-
-pub last_of : (records : List RecordOf) (r : RecordOf) → is_last_open (records ++ r ∷ []) ≡ is_open r.state
-last_of [] r = refl
-last_of (s ∷ []) r = refl
-last_of (s ∷ t ∷ rs) r = last_of (t ∷ rs) r
 
 closed_is_done : (s : State) → is_open s ≡ false → s ≡ state.Done
 closed_is_done state.Open e = cc

@@ -1,7 +1,7 @@
 pub mod TornStores
 pub mod UnreadJournals
 mod Apart
-mod Comebacks
+pub mod Comebacks
 mod CompactText
 mod DataTexts
 mod EditData
@@ -10,7 +10,7 @@ mod Lines
 mod Migrations
 mod OldFiles
 mod OldTexts
-mod OneRecovery
+pub mod OneRecovery
 mod Outcomes
 mod PutBack
 mod ReadSteps

@@ -1,4 +1,4 @@
--- The files that are put in the place of those of an entry: what a store has then, with all of them or with the first ones.
+-- The files that are put in place of those of an entry: what a store has then, with all of them or with the first ones.
 use Rattle.std.proofs.Common.{arith, ◌≡◌, ◌≢◌, ◌⊎◌, inl, inr, ℕ, zero, suc, ◌+◌, ◌<◌, false, List, [], ◌∷◌, ◌++◌, length, take, get_or, Option, Some, None, refl, sym, ap, ◌∙◌, subst, Result, Ok, Err, IsSome, OnErr, String, is_some, option_map, Global, string_bytes, take_all, Contains, bytes_eq}
 use Rattle.proto_base.proofs.Common.{Vec, map_more, take-map, cases_Bool, bytes_eq-Decides, contains_cases, contains_head, contains_later, contains_map}
 use Rattle.proto_files.proofs.Common.{FileOf, file_of, files_of, IsBefore, never_before_itself}

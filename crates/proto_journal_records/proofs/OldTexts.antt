@@ -102,7 +102,7 @@ back_at changes backs i x y e lt is there =
     ∙ get_or-map turned_round (map change_of changes) i (change_of x) (change_of x) within
     ∙ ap turned_round (get_or-map change_of changes i x (change_of x) lt ∙ ap change_of (sym is))
 
--- what is put in the place of a file, as a list
+-- what is put in place of a file, as a list
 abbrev pub listed : Option FileOf → List FileOf
 listed None = []
 listed (Some f) = f ∷ []

@@ -59,19 +59,19 @@ pub record GoesBackTo (c : ChangeOf) (files : List FileOf) (f : FileOf) : Type 0
   pub after : IsAsAfter c text
   pub puts : Puts 0 text (turned_round c).splices f.bytes
 
--- what is put in the place of the file of a change, if anything
+-- what is put in place of the file of a change, if anything
 abbrev pub IsOldFile : ChangeOf → List FileOf → Option FileOf → Type 0
 IsOldFile c files None = StaysAt c files
 IsOldFile c files (Some f) = GoesBackTo c files f
 
--- what is put in the place of the files of changes, in their order
+-- what is put in place of the files of changes, in their order
 abbrev pub AreOldFiles : List ChangeOf → List FileOf → List FileOf → Type 0
 AreOldFiles [] files olds = olds ≡ []
 AreOldFiles (c ∷ cs) files olds = (StaysAt c files × AreOldFiles cs files olds)
     ⊎ ((f : FileOf) × (rest : List FileOf) × (olds ≡ f ∷ rest)
     × GoesBackTo c files f × AreOldFiles cs files rest)
 
--- behind these files come those that are put in the place of the files of changes
+-- behind these files come those that are put in place of the files of changes
 abbrev pub AddsOldFiles : List ChangeOf → Option Held → List FileOf → List FileOf → Type 0
 AddsOldFiles cs held before after = (olds : List FileOf) × (after ≡ before ++ olds)
     × Over held (λ h. AreOldFiles cs h.files olds)

@@ -1,4 +1,4 @@
-//! Putting files and journal in the place of those of a store.
+//! Putting files and journal in place of those of a store.
 
 ghost use Rattle.std.specs.Prelude.{◌≡◌, ◌⊎◌, ◌-◌, ◌^◌, ◌<◌, OnErr, OnOk, option_map};
 ghost use Rattle.proto_files.specs.GivenFiles.{files_of};

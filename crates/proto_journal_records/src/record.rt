@@ -81,6 +81,7 @@ impl Record {
         self.state
     }
 
+    /// What the edit changed.
     pub fn entry(&self) -> &Entry
         ensures { result.now ≡ self.now.entry }
     {

@@ -14,30 +14,9 @@ ghost use Rattle.proto_journal_records.specs.Torn.{IsEitherWay};
 use crate::fault::JournalFault;
 use indexmap::IndexSet;
 use proto_base::NoMemory;
-use proto_edit_entries::{Change, Entry, Refusal, all_turned_round};
+use proto_edit_entries::{Change, Entry, Refusal, all_turned_round, changed_text};
 use proto_store::{Store, StoreFault};
-use proto_text::{SpliceFault, apply_splices};
 use std::alloc::Global;
-
-// What a change makes of a text. None where the text is not as before it.
-fn text_with_change(
-    alloc: Global,
-    change: &Change,
-    text: &[u8],
-) -> Result<Option<Vec<u8>>, NoMemory>
-    ensures { IfOk result (λ found. IsChangedText text.now (change_of change.now) found) }
-{
-    if text.len() != change.before as usize {
-        return Ok(None);
-    }
-    match apply_splices(alloc, text, &change.splices) {
-        Ok(bytes) => Ok(Some(bytes)),
-        Err(SpliceFault::NoMemory) => Err(NoMemory),
-        Err(SpliceFault::Stale) => Ok(None),
-        Err(SpliceFault::TooLarge) => Ok(None),
-        Err(SpliceFault::Disorder) => unreachable!(),
-    }
-}
 
 // The text before a change, where this one is as after it;
 // none where it is as before it. The other change leads back.
@@ -52,10 +31,10 @@ fn old_text(
     ensures ok { IfOk result (IsOldText (change_of change.now) text.now) }
     ensures err { IfErr result (IsNeither (change_of change.now) text.now) }
 {
-    if text_with_change(alloc, change, text)?.is_some() {
+    if changed_text(alloc, text, change)?.is_some() {
         return Ok(None);
     }
-    match text_with_change(alloc, back, text)? {
+    match changed_text(alloc, text, back)? {
         Some(old) => Ok(Some(old)),
         None => Err(JournalFault::Refused(Refusal::Stale)),
     }
@@ -74,7 +53,7 @@ fn asked_for<'a>(alloc: Global, paths: &'a [String]) -> Result<IndexSet<&'a str>
     Ok(known)
 }
 
-// What is put in the place of a file, if anything; the known paths are those of the store.
+// What is put in place of a file, if anything; the known paths are those of the store.
 fn old_file<S: Store>(
     alloc: Global,
     store: &mut S,
@@ -108,7 +87,7 @@ fn old_file<S: Store>(
     }
 }
 
-// Adds what is put in the place of each file of an entry; the known paths are those of the store,
+// Adds what is put in place of each file of an entry; the known paths are those of the store,
 // and the other changes lead back. The list is the caller's, so no exit drops a file.
 fn add_each<S: Store>(
     alloc: Global,
@@ -138,7 +117,7 @@ fn add_each<S: Store>(
     Ok(())
 }
 
-// Adds what is put in the place of the files of an entry.
+// Adds what is put in place of the files of an entry.
 fn add_old_files<S: Store>(
     alloc: Global,
     store: &mut S,
@@ -162,7 +141,7 @@ fn add_old_files<S: Store>(
     add_each(alloc, store, &known, entry, back.as_slice(), files)
 }
 
-// What is put in the place of the files of an entry.
+// What is put in place of the files of an entry.
 pub(crate) fn old_files<S: Store>(
     alloc: Global,
     store: &mut S,

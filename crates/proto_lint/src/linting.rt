@@ -47,7 +47,7 @@ impl<'a> Linter<'a> {
         are_read(files);
         let messages = messages_of(alloc, files, link)?;
         let imports = Imports::new(alloc, files)?;
-        // The heads come last: they are the dearest to let go.
+        // The heads come last: they are the dearest to drop.
         let heads = Heads::new(alloc, files)?;
         Ok(Linter {
             files,

@@ -8,7 +8,7 @@ use Rattle.proto_names_outline.proofs.Common.{items_in, package_first, same_decl
 use Rattle.proto_names_rules.proofs.Common.{ArePlain, At, FileAt, FileNames, Placed, Symbol, all_declared, at, declared_to, declares, file_placed, front, joined, joined_apart, name_of, names_apart, shifted_source, symbol_of}
 use Rattle.proto_names_rules.proofs.Files.{declared_from}
 use Rattle.proto_names.specs.Common.{AreNamesOf, declared_names}
-use Rattle.proto_names_update.proofs.Differing.{file_there, numbered}
+use Rattle.proto_names_imports.proofs.NumberedFiles.{file_there, numbered}
 use Rattle.proto_names_table.proofs.Common.{IsTable, aboves_of, look, names_of, pick}
 use Rattle.proto_names_table.specs.declared.table.Row.{Row}
 use Rattle.proto_names_table.specs.declared.table.Table.{Table}

@@ -8,16 +8,10 @@ use Rattle.proto_names_table.proofs.Common.{named_as, tree_named, Named, named_i
 use Rattle.proto_files.specs.FilesRead.{Each, ReadOf, read_at}
 use Rattle.proto_names_imports.specs.declared.import.WrittenImport.{WrittenImport}
 use Rattle.proto_names_table.specs.declared.spelled.Spelled.{Spelled}
+pub use Rattle.proto_names_update.proofs.FileLists.{same_at}
 
 pub all_pushed : {A : Type 0} (P : A → Type 0) (xs after : List A) (x : A) → after ≡ xs ++ x ∷ [] → All P xs → P x → All P after
 all_pushed P xs after x a h p = subst (All P) (sym a) (All-append P xs (x ∷ []) h (All-cons P x [] p (All-nil P)))
-
--- lists with the same images agree at each place
-pub same_at : {X Y Z : Type 0} (f : X → Z) (g : Y → Z) (xs : List X) (ys : List Y) → map f xs ≡ map g ys → (k : ℕ) (d : X) (e : Y) → k < length xs → (k < length ys) × (f (get_or xs k d) ≡ g (get_or ys k e))
-same_at {Z = Z} f g xs ys h k d e l =
-    let n : length xs ≡ length ys = sym (length-map xs f) ∙ ap length h ∙ length-map ys g in
-    let m : k < length ys = omega (arith, l, n) in
-    (m, sym (get_or-map f xs k d (f d) l) ∙ ap (λ (zs : List Z). get_or zs k (f d)) h ∙ get_or-map g ys k e (f d) m)
 
 -- ---- lists that stand file after file
 

@@ -7,17 +7,17 @@ use Rattle.proto_names_imports.proofs.Common.{IsLinkError, link_skeleton, names_
 use Rattle.proto_names.specs.LinkOfFiles.{HasNoImportFault}
 use Rattle.proto_names_table.proofs.Common.{tree_named, ClashFault, Named, clashes_are_faults}
 use Rattle.proto_base.specs.declared.fault.SchemaFault.{SchemaFault}
-use Rattle.proto_names.proofs.TableNames.{are_spans}
+use Rattle.proto_names_update.proofs.FilesDeclare.{spans}
 
 module _ (files : List FileOf) (reads : List ReadOf) (are : AreRead files reads) (ds : List Named) (same : ds ≡ tree_named (text_of files reads) 0 (map names_in reads)) where
   abbrev Faults : Fault → Type 0
   Faults = NameFault (text_of files reads) (link_skeleton files reads).declared
 
   to_fault : (f : Fault) → ClashFault ds f → Faults f
-  to_fault f c = (clashes_are_faults (text_of files reads) (map names_in reads) (are_spans files reads are) f).0 (subst (λ (xs : List Named). ClashFault xs f) same c)
+  to_fault f c = (clashes_are_faults (text_of files reads) (map names_in reads) (spans files reads are) f).0 (subst (λ (xs : List Named). ClashFault xs f) same c)
 
   from_fault : (f : Fault) → Faults f → ClashFault ds f
-  from_fault f n = subst (λ (xs : List Named). ClashFault xs f) (sym same) ((clashes_are_faults (text_of files reads) (map names_in reads) (are_spans files reads are) f).1 n)
+  from_fault f n = subst (λ (xs : List Named). ClashFault xs f) (sym same) ((clashes_are_faults (text_of files reads) (map names_in reads) (spans files reads are) f).1 n)
 
   pub no_name_fault : ((f : Fault) → ClashFault ds f → ⊥) → (f : Fault) → Faults f → ⊥
   no_name_fault none f n = none f (from_fault f n)

@@ -19,7 +19,7 @@ use Rattle.proto_names_table.specs.declared.table.Table.{Table}
 -- ---- a link
 
 module _ (files : List FileOf) (reads : List ReadOf) (are : AreRead files reads) (l : LinkOf) (t : Table) (rows : List (Vec ℕ)) (of : IsTableOf files reads l t rows) where
-  -- where nothing is edited, nothing has to be looked at again
+  -- where nothing is edited, nothing has to be re-resolved
   as_they_were : AreEdited [] files reads files reads
   as_they_were = record {
     same = record { paths = refl; others = λ file lf none. refl };

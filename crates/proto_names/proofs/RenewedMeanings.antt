@@ -1,4 +1,4 @@
--- Of files that are edited at some places, what the references of a file mean that has not to be looked at again.
+-- Of files that are edited at some places, what the references of a file mean that need not be re-resolved.
 use Rattle.std.proofs.Common.{◌≡◌, ℕ, suc, ◌+◌, ◌<◌, false, List, [], ◌∷◌, length, get_or, map, option_map, Some, refl, sym, ◌∙◌, ap, ap₂, subst, arith, Bool, All, Contains}
 use Rattle.proto_base.proofs.Common.{All-map, Contains-get_or, both_ways, contains_head, contains_later, contains_map, from_map}
 use Rattle.proto_case.specs.Camel.{entry_name}

@@ -157,7 +157,7 @@ module _ (files : List FileOf) (places : List ℕ) (old : Table) (imports : List
       came = came;
     }
 
-    -- ---- which files have to be looked at again
+    -- ---- which files have to be re-resolved
 
     module _ (table : IsTable t) (others : List ℕ) (seen_now : List (Vec Bool)) (sight_is : (reads : List ReadOf) → AreRead files reads → IsSightOf files reads (map (λ v. v.items) seen_now))
         (kept : StayBut others (map (λ v. v.items) seen) (map (λ v. v.items) seen_now)) (others_marked : All (IsSightMarked marks t (map (λ v. v.items) now) (map (λ v. v.items) meant) (map (λ v. v.items) seen) (map (λ v. v.items) seen_now)) others) where

@@ -12,6 +12,7 @@ use Rattle.proto_names_rules.specs.declared.kind.Kind.TheVariants.{Package}
 use Rattle.proto_names_outline.specs.declared.listing.Listing.{Listing}
 use Rattle.proto_names_table.specs.declared.spelled.Spelled.{Spelled}
 use Rattle.proto_names_table.specs.declared.table.Table.{Table}
+use Rattle.proto_names_update.proofs.FilesDeclare.{spans}
 use Rattle.proto_names_table.proofs.Held.{index_same}
 use Rattle.proto_names_table.proofs.Naming.{named_length, named_plain}
 
@@ -65,19 +66,11 @@ module _ (files : List FileOf) (reads : List ReadOf) (are : AreRead files reads)
   abbrev text : At → List ℕ
   text = text_of files reads
 
-  pub are_spans : AreSpans (map names_in reads)
-  are_spans k d l =
-      let m : k < length reads = omega (arith, l, length-map reads names_in) in
-      let r : ReadOf = record { tokens = []; tree = End } in
-      let in_files : k < length files = omega (arith, m, are.same) in
-      subst (λ (f : FileNames). (low high : ℕ) × ItemsSpan low high f.items) (sym (get_or-map names_in reads k r d m))
-      (tree_span (file_at files k).bytes (read_at reads k).tokens (read_at reads k).tree (are.trees k in_files))
-
   pub index_of : (t : Table) (ds : List Named) → ds ≡ tree_named text 0 (map names_in reads) → IsIndexOf t (map symbol_named ds) → IsIndexOf t (names_of_files files reads).symbols
   index_of t ds e index =
       let fs = map names_in reads in
       index_same t (map symbol_named (tree_named text 0 fs)) (names_of_files files reads).symbols
-      (λ s. (same_symbols text fs are_spans s).0) (λ s. (same_symbols text fs are_spans s).1)
+      (λ s. (same_symbols text fs (spans files reads are) s).0) (λ s. (same_symbols text fs (spans files reads are) s).1)
       (subst (λ (xs : List Named). IsIndexOf t (map symbol_named xs)) e index)
 
   module _ (fs : List (List Spelled)) (spelled : AreSpelledOf files fs) where
@@ -119,7 +112,7 @@ module _ (files : List FileOf) (reads : List ReadOf) (are : AreRead files reads)
 
       declared_row : (d : Declared At) → Contains (link_skeleton files reads).declared d → d.kind ≢ Package → RowIsDeclaredIn text t d
       declared_row d c other =
-          let named = declared_is_named text (map names_in reads) are_spans d c in
+          let named = declared_is_named text (map names_in reads) (spans files reads are) d c in
           let here = named_in_file 0 fs (as_named text d) (subst (λ (ds : List Named). Contains ds (as_named text d)) (sym (spelled.names reads are)) named) in
           let zero_more : 0 + here.0 ≡ here.0 = omega arith in
           let is : get_or (named_in here.0 (get_or fs here.0 [])) here.1 (as_named text d) ≡ as_named text d =

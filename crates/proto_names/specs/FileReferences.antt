@@ -10,10 +10,11 @@ use Rattle.proto_names_outline.specs.FromTree.{items_in}
 use Rattle.proto_names_rules.specs.Grown.{At, at}
 use Rattle.proto_files.specs.FilesRead.{ReadOf, read_at}
 pub use Rattle.proto_names_imports.specs.Links.{uses_of}
-use Rattle.proto_names_imports.specs.Links.{text_of, link_skeleton, names_of_files}
+use Rattle.proto_names_imports.specs.Links.{link_skeleton, names_of_files, text_of}
 use Rattle.proto_names_outline.specs.Listing.{package_first, whole}
 use Rattle.proto_names_rules.specs.Names.{Workspace}
 use Rattle.proto_names_table.specs.Naming.{used_named}
+use Rattle.proto_names_update.specs.NamesOfFiles.{declared_names}
 use Rattle.proto_names.specs.Referring.{IsFaultless, IsFlawed, IsReadBy, AreMeant}
 use Rattle.proto_names_rules.specs.Skeleton.{Used, name_of}
 use Rattle.proto_names.specs.declared.references.BadReference.{BadReference}
@@ -29,12 +30,6 @@ abbrev pub flaw_number : ReferenceFlaw → ℕ
 flaw_number Unresolved = 14
 flaw_number WrongKind = 15
 flaw_number MapEntry = 16
-
--- the full names of a file's declarations, its package first
-abbrev pub declared_names : List FileOf → List ReadOf → ℕ → List (List Text)
-declared_names files reads file =
-    map (λ p. name_of (λ i. text_of files reads (at file i)) entry_name (whole p))
-    (package_first (items_in (read_at reads file).tree))
 
 -- the table, these marks and these rows are those of the file
 abbrev pub IsFileLinked : Table → List Bool → List ℕ → List FileOf → List ReadOf → ℕ → Type 0

@@ -10,7 +10,7 @@ use Rattle.proto_names.specs.Referring.{word_key}
 use Rattle.proto_names_update.specs.Edited.{AreSameBut}
 use Rattle.proto_names_update.specs.Relinked.{HasToLook, IsCleanLink}
 
--- the marks tell which of these files have to be looked at again, where they were those before but
+-- the marks tell which of these files have to be re-resolved, where they were those before but
 -- at these places
 pub record HaveToLook (places : List ℕ) (before files : List FileOf) (marks : List Bool)
     : Type 0 where
@@ -19,7 +19,7 @@ pub record HaveToLook (places : List ℕ) (before files : List FileOf) (marks : 
       → HasToLook word_key places before was files reads marks
 
 -- of whatever files this was the link, if these are the same but at these places, the marks tell
--- which of these have to be looked at again
+-- which of these have to be re-resolved
 abbrev pub TellWhatToLook : List ℕ → List FileOf → LinkOf → List Bool → Type 0
 TellWhatToLook places files l marks =
     (before : List FileOf) → IsCleanLink IsLinkOf before l → AreSameBut places before files

@@ -8,7 +8,7 @@ use Rattle.proto_base.specs.Texts.{Text}
 use Rattle.proto_files.specs.GivenFiles.{FileOf, paths_of}
 use Rattle.proto_case.specs.Camel.{entry_name}
 use Rattle.proto_names_rules.specs.Faults.{Fault, ImportFault, NameFault, place_of}
-use Rattle.proto_names.specs.FileReferences.{declared_names, uses_of}
+use Rattle.proto_names.specs.FileReferences.{uses_of}
 use Rattle.proto_names_rules.specs.Forest.{front}
 use Rattle.proto_names_rules.specs.Grown.{At, at}
 use Rattle.proto_names_rules.specs.Joined.{ArePlain, joined}
@@ -25,6 +25,7 @@ use Rattle.proto_names_table.specs.Resolved.{IsIndexOf}
 use Rattle.proto_names_rules.specs.Marks.{MarksSeen}
 use Rattle.proto_names_rules.specs.Skeleton.{Declared, Used, Skeleton, name_of, reference_of, workspace_of}
 use Rattle.proto_names_table.specs.Tables.{names_of}
+use Rattle.proto_names_update.specs.NamesOfFiles.{RowIsDeclaredIn, declared_names}
 use Rattle.proto_names_table.specs.declared.ids.RefId.{RefId}
 use Rattle.proto_names_table.specs.declared.ids.Meant.{Meant}
 use Rattle.proto_names_table.specs.declared.table.Row.{Row}
@@ -139,15 +140,6 @@ abbrev pub HasNoNameFault : List FileOf → Type 0
 HasNoNameFault files =
     (reads : List ReadOf) → AreRead files reads
     → (f : Fault) → NameFault (text_of files reads) (link_skeleton files reads).declared f → ⊥
-
--- the row of a declaration's name was declared where the declaration stands
-pub record RowIsDeclaredIn (text : At → Text) (t : Table) (d : Declared At) : Type 0 where
-  pub row : ℕ
-  pub within : row < length t.rows.items
-  pub name : get_or (names_of t) row [] ≡ joined (name_of text entry_name d.path)
-  pub place : (r : Row)
-      → at (get_or t.rows.items row r).symbol.file (get_or t.rows.items row r).symbol.token
-      ≡ place_of d
 
 -- the table has the names of the files, and these are the rows of each file's declarations
 pub record AreNamesOf (files : List FileOf) (reads : List ReadOf) (t : Table) (rows : List (Vec ℕ))

@@ -54,7 +54,7 @@ pub record AreNamesRenewed (places : List ℕ) (before : List FileOf) (was : Lis
   pub listed : length rows ≡ length files
   pub within : All (λ v. All (λ r. r < length t.rows.items) v.items) rows
 
--- ---- which files have to be looked at again
+-- ---- which files have to be re-resolved
 
 -- among these rows, which are those of each file's declarations, the file has this one, with this
 -- kind, which may hold names or be meant

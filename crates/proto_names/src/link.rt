@@ -8,7 +8,7 @@ ghost use Rattle.proto_text.specs.Tokens.{AreTokens};
 ghost use Rattle.proto_text.specs.declared.lexer.Token.{Token};
 ghost use Rattle.proto_tree.specs.References.{dotted};
 ghost use Rattle.proto_names_rules.specs.Joined.{joined, ArePlain};
-ghost use Rattle.proto_names.specs.FileReferences.{declared_names};
+ghost use Rattle.proto_names_update.specs.NamesOfFiles.{declared_names};
 ghost use Rattle.proto_names.specs.LinkOfFiles.{IsLinkOf};
 ghost use Rattle.proto_names_rules.specs.Linked.{is_package};
 ghost use Rattle.proto_names.specs.Linking.{NameOf, declared_row, name_of_row, name_at, name_text, declaring_file, declaring_token, row_at, meant_at, shows_text, is_visible};
@@ -177,7 +177,7 @@ impl Link {
         }
     }
 
-    /// The name with this text, if there is one that a file declares. Takes no memory.
+    /// The symbol of this full name, if a file declares it. Takes no memory.
     pub fn symbol(&self, name: &str) -> Option<SymbolId>
         ensures some { IfSome result (λ id. name_text self.now id.row ≡ Some name.now) }
         ensures none { IfNone result ((row : ℕ) → name_text self.now row ≢ Some name.now) }
@@ -192,7 +192,8 @@ impl Link {
         }
     }
 
-    /// Its text; none where this link has no such name, or no file declares it any more.
+    /// The full name of a symbol; none where this link has no such symbol, or no file declares it
+    /// any more.
     pub fn name_of(&self, id: SymbolId) -> Option<&str>
         ensures { option_map (λ text. text.now) result ≡ name_text self.now id.row }
     {
@@ -200,7 +201,7 @@ impl Link {
         Some(row.name.as_str())
     }
 
-    /// Its kind; none where `name_of` answers none.
+    /// The kind of a symbol; none where `name_of` answers none.
     pub fn kind_of(&self, id: SymbolId) -> Option<Kind>
         ensures { result ≡ option_map (λ n. n.kind) (name_at self.now id.row) }
     {
@@ -208,7 +209,7 @@ impl Link {
         Some(row.symbol.kind)
     }
 
-    /// The number of the file that declares it; none where `name_of` answers none, and for a
+    /// The number of the file that declares a symbol; none where `name_of` answers none, and for a
     /// package, which many may declare.
     pub fn file_of(&self, id: SymbolId) -> Option<u32>
         ensures exact { result ≡ declaring_file self.now id.row }
@@ -219,7 +220,7 @@ impl Link {
         Some(row.symbol.file)
     }
 
-    /// The index of the token that it is declared at; none where `file_of` answers none.
+    /// The index of the token at which a symbol is declared; none where `file_of` answers none.
     pub fn token_of(&self, id: SymbolId) -> Option<u32>
         ensures { result ≡ declaring_token self.now id.row }
     {
@@ -227,7 +228,8 @@ impl Link {
         Some(row.symbol.token)
     }
 
-    /// The references that mean it, by file and in order; empty where this link has no such name.
+    /// The references that resolve to a symbol, by file and in order; empty where this link has no
+    /// such symbol.
     pub fn references(&self, id: SymbolId) -> &[RefId]
         ensures exact { result.now ≡ get_or self.now.references id.row [] }
         ensures paired { length self.now.references ≡ length self.now.names }
@@ -238,8 +240,8 @@ impl Link {
         }
     }
 
-    /// The names that the file declares, in the order of its text, with its packages in front; none
-    /// where there is no such file. Takes no memory.
+    /// The symbols that a file declares, in the order of its text, packages first; none where there
+    /// is no such file. Takes no memory.
     pub fn declared_in(&self, file: u32) -> DeclaredNames<'_>
         ensures exact { result.rows.now ≡ get_or self.now.rows file [] }
         ensures names { (files : List FileOf) (reads : List ReadOf)
@@ -255,8 +257,8 @@ impl Link {
         }
     }
 
-    /// What the reference means that begins at this token of the file; none where none begins
-    /// there. Takes no memory.
+    /// The symbol to which the reference at this token of the file resolves; none where no reference
+    /// begins there. Takes no memory.
     pub fn meaning(&self, file: u32, token: u32) -> Option<SymbolId>
         ensures { option_map (λ id. id.row) result ≡ meant_at self.now file token }
     {

@@ -224,7 +224,7 @@ fn resolve_again(
     Ok(true)
 }
 
-/// Marks those of the files that see others than before which have to be looked at again for that;
+/// Marks those of the files that see others than before which have to be re-resolved for that;
 /// told what each file saw, where that was put away. Fails only when out of memory.
 fn mark_others(
     alloc: Global,
@@ -269,7 +269,7 @@ fn seen_before<'a>(saw: &'a Option<Vec<Vec<bool>>>, seen: &'a [Vec<bool>]) -> &'
 
 /// Changes the table of a link and the lists that follow it to those of the edited files, as far as
 /// they are other ones, where it is told what each file sees now. Answers the marks of the files
-/// that were looked at again; none where it gives up: where a file declares what calls for a link
+/// that were re-resolved; none where it gives up: where a file declares what calls for a link
 /// made anew, or a reference has a fault. Fails only when out of memory. Where it answers no
 /// marks, some of them may be changed, and the log tells which.
 fn renew_names_and_references(
@@ -352,7 +352,7 @@ fn renew_names_and_references(
 }
 
 /// Changes the parts of a link to those of the edited files, as far as they are other ones. Answers
-/// the marks of the files that were looked at again; none where it gives up: where a file declares
+/// the marks of the files that were re-resolved; none where it gives up: where a file declares
 /// what calls for a link made anew, or an import or a reference has a fault. Fails only when out
 /// of memory. Where it answers no marks, some of the parts may be changed, and the log tells
 /// which.

@@ -1,4 +1,4 @@
--- The files that have to be looked at again, by the rows of what edited files declared and declare.
+-- The files that have to be re-resolved, by the rows of what edited files declared and declare.
 use Rattle.std.specs.Prelude.{◌≡◌, ◌⊎◌, ℕ, ◌<◌, List, [], ◌∷◌, ◌++◌, Bool, false, length, get_or}
 use Rattle.std.specs.List.{All, Contains, filter_map}
 use Rattle.proto_base.specs.Words.{word_key}

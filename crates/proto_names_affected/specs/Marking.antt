@@ -1,4 +1,4 @@
--- Which files are marked, to be looked at again.
+-- Which files are marked, to be re-resolved.
 use Rattle.std.specs.Prelude.{◌≡◌, ℕ, Bool, true, false, List, [], length, get_or}
 use Rattle.std.specs.List.{All, Contains}
 use Rattle.proto_names_table.specs.declared.ids.Meant.{Meant}

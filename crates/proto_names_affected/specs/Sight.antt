@@ -1,4 +1,4 @@
--- Which files have to be looked at again that see others than before.
+-- Which files have to be re-resolved that see others than before.
 use Rattle.std.specs.Prelude.{◌≡◌, ◌≢◌, ◌⊎◌, ℕ, ◌<◌, ◌++◌, Bool, true, false, List, [], ◌∷◌, length, get_or, slice_get, Option, Some, None}
 use Rattle.std.specs.List.{All, Contains}
 use Rattle.proto_base.specs.Words.{word_key}

@@ -1,4 +1,4 @@
-//! The files that have to be looked at again once some are edited.
+//! The files that have to be re-resolved once some are edited.
 
 ghost use Rattle.std.specs.Prelude.{◌≡◌, ◌<◌, List, length, map, IfOk, OnOk};
 ghost use Rattle.std.specs.List.{All};
@@ -43,7 +43,7 @@ pub struct Linked<'a> {
     pub meant: &'a [Vec<Meant>],
 }
 
-/// Marks of the files that have to be looked at again, one for each file: those at these places;
+/// Marks of the files that have to be re-resolved, one for each file: those at these places;
 /// those with a reference to a name that one of these declares no more, or with another kind; and
 /// those in which a reference begins with a word that has the key of the last word of a name that
 /// one of these did not declare, or with another kind, unless the name stands right below a type's:
@@ -79,7 +79,7 @@ pub fn marks_of_changes(
     Ok(marks)
 }
 
-/// Marks the files that have to be looked at again for what one file declared and declares.
+/// Marks the files that have to be re-resolved for what one file declared and declares.
 fn mark_change(
     alloc: Global,
     marks: &mut Vec<bool>,

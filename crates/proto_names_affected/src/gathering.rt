@@ -8,6 +8,7 @@ ghost use Rattle.proto_names_affected.specs.Gathering.{AreRowsBelow, AreRowsName
 
 use indexmap::IndexSet;
 use proto_base::{Change, NoMemory};
+use proto_names_rules::marks::is_marked;
 use proto_names_table::{Meant, RefId};
 use std::alloc::Global;
 
@@ -149,15 +150,5 @@ impl Gathered {
             self.add_if_marked(alloc, marks, file as u32, &meant[file])?;
         }
         Ok(())
-    }
-}
-
-/// Whether a file is marked; a file past the marks is not.
-fn is_marked(marks: &[bool], file: u32) -> bool
-    ensures { result ≡ get_or marks.now file false }
-{
-    match marks.get(file as usize) {
-        Some(is_marked) => *is_marked,
-        None => false,
     }
 }

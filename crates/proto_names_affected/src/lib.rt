@@ -1,4 +1,4 @@
-//! The files that have to be looked at again once some are edited, and the lists of references to
+//! The files that have to be re-resolved once some are edited, and the lists of references to
 //! each name, renewed.
 #![tactic(auto)]
 

@@ -1,4 +1,4 @@
-//! The files that have to be looked at again, as marks: one for each file.
+//! The files that have to be re-resolved, as marks: one for each file.
 
 ghost use Rattle.std.specs.Prelude.{◌≡◌, ℕ, ◌<◌, ◌==◌, List, [], length, get_or, map};
 ghost use Rattle.std.specs.List.{All, Contains, list_any};

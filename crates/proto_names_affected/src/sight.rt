@@ -1,4 +1,4 @@
-//! The files that have to be looked at again for what they see, once some are edited.
+//! The files that have to be re-resolved for what they see, once some are edited.
 
 ghost use Rattle.std.specs.Prelude.{◌≡◌, ℕ, ◌<◌, ◌==◌, ◌&&◌, false, not, [], length, get_or, map, IfOk, OnOk};
 ghost use Rattle.std.specs.List.{All, list_all, list_any};
@@ -29,7 +29,7 @@ pub struct Sighted<'a> {
     pub sees: &'a [Vec<bool>],
 }
 
-/// Marks those of these files that have to be looked at again for what they see: that see no more
+/// Marks those of these files that have to be re-resolved for what they see: that see no more
 /// what one of their references means; and those in which a reference begins with a word that has
 /// the key of the last word of a name in a file that one of them newly sees, unless the name stands
 /// right below a type's, or the file declares it itself. Fails only when out of memory.
@@ -99,7 +99,7 @@ fn mark_if_new(marks: &mut Vec<bool>, file: usize, before: &[bool], sees: &[bool
     }
 }
 
-/// Marks a file, if it has to be looked at again for what it sees; with the names of all files that
+/// Marks a file, if it has to be re-resolved for what it sees; with the names of all files that
 /// it newly sees. Fails only when out of memory.
 fn mark_one(
     alloc: Global,

@@ -10,6 +10,7 @@ pub mod ImportGraph
 pub mod KeptImports
 pub mod LeastLinkFault
 mod ListedImports
+pub mod NumberedFiles
 mod PathFaults
 pub mod PlainNames
 mod Ranks

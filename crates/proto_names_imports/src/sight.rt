@@ -32,8 +32,8 @@ pub fn all_seen(alloc: Global, imports: &[Vec<FileImport>]) -> Result<Vec<Vec<bo
     Ok(seen)
 }
 
-/// For each file, the files that it imports publicly.
-fn all_public(alloc: Global, imports: &[Vec<FileImport>]) -> Result<Vec<Vec<u32>>, NoMemory>
+/// For each file, the files that it imports publicly. Fails only when out of memory.
+pub fn all_public(alloc: Global, imports: &[Vec<FileImport>]) -> Result<Vec<Vec<u32>>, NoMemory>
     ensures { IfOk result (λ next. map (λ v. v.items) next.items
         ≡ map (λ v. map (λ i. i.to) (filter (λ i. i.is_public) v.items)) imports.now) }
 {

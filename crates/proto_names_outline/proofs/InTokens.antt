@@ -7,6 +7,7 @@ use Rattle.proto_tree.specs.declared.class.Class.TheVariants as class
 use Rattle.proto_tree.specs.declared.class.Expected.{Expected}
 use Rattle.proto_tree.specs.declared.class.Expected.TheVariants as want
 use Rattle.proto_tree.proofs.Common.{Mark, Fit, Numbered, Reads, Tree, flat, classes, trees_are_numbered}
+use Rattle.proto_tree.proofs.MarkLaws.{fit_length}
 use Rattle.proto_names_rules.proofs.Common.{Source, Token, EntryOf, Given, Used, Member, field, map_field, oneof, message, enum, service, extend, Members, no_members, member, Items, no_items, packaged, item, Placed, place, placed, all_placed, prefixes, items_placed, package_of, file_placed, key_word, value_word, place_from, rising_each}
 use Rattle.proto_names_rules.specs.declared.kind.Kind.{Kind}
 use Rattle.proto_names_outline.specs.Common.{Wanted, imports_in, items_in, file_names, whole, last_token, later}
@@ -79,12 +80,6 @@ has_last : (is : Items) (p : Placed) → Contains (file_placed is) p → HasLast
 has_last is p c = All-contains HasLast (file_placed is) p (All-from_recursion HasLast (file_placed is) (items_last (map (λ t. Token t) (package_of is)) is)) c
 
 -- ---- a tree that was read
-
-fit_length : (n : ℕ) (ms : List Mark) (ls : List Lexeme) → Fit ms (classes n ls) → length ms ≡ length ls
-fit_length n [] [] h = refl
-fit_length n [] (l ∷ ls) h = absurd h
-fit_length n (m ∷ ms) [] h = absurd h
-fit_length n (m ∷ ms) (l ∷ ls) h = ap suc (fit_length (suc n) ms ls h.2)
 
 module _ (text : List ℕ) (tokens : List TextToken) (tree : Tree) (reads : Reads text tokens tree) where
   abbrev Here : ℕ → Type 0

@@ -63,7 +63,7 @@ text_only Number w h = absurd cc
 text_only Punctuation w h =
     absurd (differ (sym (no_text_in marks class.Other w (refl, (refl, (refl, (refl, (refl, (refl, (refl, (refl, (refl, (refl, (refl, (refl, (refl, tt))))))))))))) refl) ∙ h))
 
-word_is : (ls : List Lexeme) (i : ℕ) (other : Lexeme) → i < length ls → word_at ls i ≡ (get_or ls i other).text
+pub word_is : (ls : List Lexeme) (i : ℕ) (other : Lexeme) → i < length ls → word_at ls i ≡ (get_or ls i other).text
 word_is [] i other lt = absurd (omega (arith, lt))
 word_is (l ∷ ls) zero other lt = refl
 word_is (l ∷ ls) (suc i) other lt = word_is ls i other (omega (arith, lt))

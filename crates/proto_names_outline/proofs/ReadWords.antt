@@ -16,12 +16,7 @@ use Rattle.proto_names_rules.specs.Tree.{Placed, file_placed}
 use Rattle.proto_names_outline.proofs.MarkedNames.{declared_worded}
 use Rattle.proto_names_outline.proofs.MarkedTokens.{Are, are_from, Known}
 use Rattle.proto_names_outline.proofs.PackageFirst.{same_declared}
-use Rattle.proto_names_outline.proofs.ReadTrees.{tree_span}
-
-word_is : (ls : List Lexeme) (i : ℕ) (other : Lexeme) → i < length ls → word_at ls i ≡ (get_or ls i other).text
-word_is [] i other lt = absurd (omega (arith, lt))
-word_is (l ∷ ls) zero other lt = refl
-word_is (l ∷ ls) (suc i) other lt = word_is ls i other (omega (arith, lt))
+use Rattle.proto_names_outline.proofs.ReadTrees.{tree_span, word_is}
 
 module _ (text : List ℕ) (tokens : List Token) (tree : Tree) (reads : Reads text tokens tree) where
   abbrev W : ℕ → Type 0

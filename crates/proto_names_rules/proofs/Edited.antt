@@ -39,7 +39,7 @@ last_source {X} (c ∷ d ∷ a) [] x y h = absurd (none_here h)
     none_here h = cc
 last_source (c ∷ a) (d ∷ b) x y h = let t : a ++ x ∷ [] ≡ b ++ y ∷ [] = cc in last_source a b x y t
 
-split_source : {X : Type 0} (b : List (Source X)) → b ≢ [] → (a : List (Source X)) × (x : Source X) × (b ≡ a ++ x ∷ [])
+pub split_source : {X : Type 0} (b : List (Source X)) → b ≢ [] → (a : List (Source X)) × (x : Source X) × (b ≡ a ++ x ∷ [])
 split_source [] h = absurd (h refl)
 split_source (p ∷ []) h = ([], p, refl)
 split_source (p ∷ q ∷ b) h = let r = split_source (q ∷ b) (λ z. not_empty z) in (p ∷ r.0, r.1, ap (λ l. p ∷ l) r.2)

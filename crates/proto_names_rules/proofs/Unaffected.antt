@@ -1,6 +1,6 @@
 -- Which references are kept where some files are edited: by their places, by keys of words, and where leaves alone differ.
 use Rattle.std.proofs.Common.{◌≡◌, ℕ, true, false, List, [], ◌∷◌, ◌++◌, take, ◌==◌, refl, sym, ◌∙◌, ap, eq-eqb, subst, inl, inr, ◌⊎◌, arith, Contains, true≢false}
-use Rattle.proto_base.proofs.Common.{both_ways, cases_Bool, cases_eq, contains_cases, contains_head, contains_later, or_left}
+use Rattle.proto_base.proofs.Common.{both_ways, cases_Bool, cases_eq, contains_cases, contains_head, contains_later, or_left, contains_or_not}
 use Rattle.proto_names_rules.proofs.Common.{Symbol, Workspace, fits_at_first, is_outer, sees}
 use Rattle.proto_names_rules.specs.declared.kind.Kind.{Kind}
 use Rattle.proto_names_rules.proofs.Still.{type_is_outer}
@@ -16,21 +16,10 @@ fits_outer (p ∷ q ∷ rest) k h = h
 sees_own : (w : Workspace) (f g : ℕ) → g ≡ f → sees w f g ≡ true
 sees_own w f g e = or_left (f == g) _ (eq-eqb f g (sym e))
 
--- a place is one of these, or it is none
-is_place : (places : List ℕ) (k : ℕ) → Contains places k ⊎ (Contains places k → ⊥)
-is_place [] k = inr (λ c. omega (arith, c.1))
-is_place (x ∷ places) k = elim (cases_eq x k) [
-  | inl same ↦ inl (subst (Contains (x ∷ places)) same (contains_head x places))
-  | inr other ↦ elim (is_place places k) [
-    | inl later ↦ inl (contains_later x k places later)
-    | inr none ↦ inr (λ c. elim (contains_cases x k places c) [ inl e ↦ other e | inr d ↦ none d ])
-  ]
-]
-
 pub unaffected_are_kept : UnaffectedAreKept
 unaffected_are_kept places w v differ r m unaffected = record {
   seen = unaffected.not_hidden;
-  declared = λ s c n ty. elim (is_place places s.file) [
+  declared = λ s c n ty. elim (contains_or_not places s.file) [
     | inl there ↦ unaffected.not_gone s c there n ty
     | inr elsewhere ↦ differ.stay s c elsewhere
   ];
@@ -49,7 +38,7 @@ unaffected_are_kept places w v differ r m unaffected = record {
 }
   where
     was : (s : Symbol) (front back : List (List ℕ)) → Contains v.symbols s → front ++ back ≡ r.scope → s.name ≡ front ++ take 1 r.words → fits_at_first r.words s.kind ≡ true → Contains w.symbols s
-    was s front back c whole n f = elim (is_place places s.file) [
+    was s front back c whole n f = elim (contains_or_not places s.file) [
       | inl there ↦ unaffected.none_came s front back c there whole n f
       | inr elsewhere ↦ differ.none_new s c elsewhere
     ]

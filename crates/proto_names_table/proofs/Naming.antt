@@ -148,7 +148,7 @@ all_split n (f ∷ fs) (suc i) l =
 abbrev pub IsOrdered : Named → Named → Type 0
 IsOrdered x y = x.kind ≢ Package → (x.place.file < y.place.file) ⊎ ((x.place.file ≡ y.place.file) × (x.place.token ≤ y.place.token))
 
-pairs_append : {X : Type 0} (R : X → X → Type 0) (xs ys : List X) → AllPairs R xs → AllPairs R ys → ((x y : X) → Contains xs x → Contains ys y → R x y) → AllPairs R (xs ++ ys)
+pub pairs_append : {X : Type 0} (R : X → X → Type 0) (xs ys : List X) → AllPairs R xs → AllPairs R ys → ((x y : X) → Contains xs x → Contains ys y → R x y) → AllPairs R (xs ++ ys)
 pairs_append R xs ys hx hy hc i j d l lj =
     let size = length-append xs ys in
     elim (cases_lt j (length xs)) [

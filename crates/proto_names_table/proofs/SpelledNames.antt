@@ -59,7 +59,7 @@ named_by_is file text before e s h t =
 abbrev tail_token : Placed → Option ℕ
 tail_token p = last_token (whole p)
 
-read_on-front : (before : List Placed) (es : List Listed) → (rest : List Placed) × (read_on before es ≡ before ++ rest)
+pub read_on-front : (before : List Placed) (es : List Listed) → (rest : List Placed) × (read_on before es ≡ before ++ rest)
 read_on-front before [] = ([], sym (append-nil before))
 read_on-front before (e ∷ es) =
     let p = seen (path_at before e.above) e in

@@ -9,30 +9,8 @@ use Rattle.proto_names_rules.proofs.Common.{At, FileAt, FileNames, Placed, Refer
 use Rattle.proto_names_rules.proofs.Files.{declared_from}
 use Rattle.proto_names_imports.proofs.FileUses.{use_from, use_in}
 use Rattle.proto_names_imports.specs.Links.{names_in, names_of_files, text_of}
+use Rattle.proto_names_imports.proofs.NumberedFiles.{IsNumbered, file_there, numbered}
 use Rattle.proto_names_update.specs.Edited.{AreEdited, EditedFilesDiffer}
-
--- ---- the file with a number
-
-pub file_there : (n : ℕ) (rs : List ReadOf) (k : ℕ) → k < length rs → FileAt n (map names_in rs) (n + k) (names_in (read_at rs k))
-file_there n [] k l = absurd (omega (arith, l))
-file_there n (r ∷ rs) zero l = inl (omega arith, refl)
-file_there n (r ∷ rs) (suc k) l =
-    let e : suc n + k ≡ n + suc k = omega arith in
-    inr (subst (λ m. FileAt (suc n) (map names_in rs) m (names_in (read_at rs k))) e (file_there (suc n) rs k (omega (arith, l))))
-
--- what is known of a file by its number
-pub record IsNumbered (n : ℕ) (rs : List ReadOf) (file : ℕ) (f : FileNames) : Type 0 where
-  pub place : ℕ
-  pub within : place < length rs
-  pub file_is : file ≡ n + place
-  pub names_are : names_in (read_at rs place) ≡ f
-
-pub numbered : (n : ℕ) (rs : List ReadOf) (file : ℕ) (f : FileNames) → FileAt n (map names_in rs) file f → IsNumbered n rs file f
-numbered n [] file f h = absurd h
-numbered n (r ∷ rs) file f (inl h) = record { place = 0; within = omega arith; file_is = omega (arith, h.0); names_are = h.1 }
-numbered n (r ∷ rs) file f (inr h) =
-    let i = numbered (suc n) rs file f h in
-    record { place = suc i.place; within = omega (arith, i.within); file_is = omega (arith, i.file_is); names_are = i.names_are }
 
 -- ---- by the texts of one file
 
@@ -112,7 +90,7 @@ module _ (places : List ℕ) (before : List FileOf) (was : List ReadOf) (files :
       zero_more k = omega arith
 
 -- files before are edited ones of those now, too
-turned : (places : List ℕ) (before : List FileOf) (was : List ReadOf) (files : List FileOf) (reads : List ReadOf) → AreEdited places before was files reads → AreEdited places files reads before was
+pub turned : (places : List ℕ) (before : List FileOf) (was : List ReadOf) (files : List FileOf) (reads : List ReadOf) → AreEdited places before was files reads → AreEdited places files reads before was
 turned places before was files reads is = record {
   same = record {
     paths = sym is.same.paths;

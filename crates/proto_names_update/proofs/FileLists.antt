@@ -18,7 +18,7 @@ use Rattle.proto_names_table.specs.declared.spelled.Spelled.{Spelled}
 use Rattle.proto_names_outline.specs.declared.wanted.Wanted.{Wanted as WantedAt}
 
 -- lists with the same images agree at each place
-same_at : {X Y Z : Type 0} (f : X → Z) (g : Y → Z) (xs : List X) (ys : List Y) → map f xs ≡ map g ys → (k : ℕ) (d : X) (e : Y) → k < length xs → (k < length ys) × (f (get_or xs k d) ≡ g (get_or ys k e))
+pub same_at : {X Y Z : Type 0} (f : X → Z) (g : Y → Z) (xs : List X) (ys : List Y) → map f xs ≡ map g ys → (k : ℕ) (d : X) (e : Y) → k < length xs → (k < length ys) × (f (get_or xs k d) ≡ g (get_or ys k e))
 same_at {Z = Z} f g xs ys h k d e l =
     let n : length xs ≡ length ys = sym (length-map xs f) ∙ ap length h ∙ length-map ys g in
     let m : k < length ys = omega (arith, l, n) in

@@ -9,7 +9,7 @@ use Rattle.proto_names_rules.specs.declared.kind.Kind.TheVariants.{Package}
 use Rattle.proto_names_update.specs.Relinked.{NoNameClashes}
 use Rattle.proto_names_table.proofs.Common.{AreSpans, ClashFault, IsIndexOf, Named, clashes_are_faults, named_as, same_symbols, symbol_named, tree_named}
 use Rattle.proto_names_table.proofs.Held.{index_same}
-use Rattle.proto_names_table.proofs.Naming.{contains_at}
+use Rattle.proto_names_table.proofs.Naming.{contains_at, pairs_append}
 use Rattle.proto_names_table.specs.Filling.{AreNamesApart}
 use Rattle.proto_names_table.specs.Spelled.{earlier, of_package}
 use Rattle.proto_names_table.specs.declared.table.Table.{Table}
@@ -28,22 +28,6 @@ pairs_right R xs ys h i j d l lj =
     let size = length-append xs ys in
     subst (λ z. R z (get_or ys j d)) (get_or-append-add xs ys i d)
     (subst (λ z. R (get_or (xs ++ ys) (length xs + i) d) z) (get_or-append-add xs ys j d) (h (length xs + i) (length xs + j) d (omega (arith, l)) (omega (arith, lj, size))))
-
-pairs_append : {X : Type 0} (R : X → X → Type 0) (xs ys : List X) → AllPairs R xs → AllPairs R ys → ((x y : X) → Contains xs x → Contains ys y → R x y) → AllPairs R (xs ++ ys)
-pairs_append R xs ys hx hy hc i j d l lj =
-    let size = length-append xs ys in
-    elim (cases_lt j (length xs)) [
-      | inl a ↦
-          let ia : i < length xs = omega (arith, a, l) in
-          subst (λ z. R z (get_or (xs ++ ys) j d)) (sym (get_front xs ys i d ia)) (subst (R (get_or xs i d)) (sym (get_front xs ys j d a)) (hx i j d l a))
-      | inr b ↦
-          let lb : j - length xs < length ys = omega (arith, b, lj, size) in
-          let right = sym (get_or-append_right xs ys (length xs) j d refl b) in
-          elim (cases_lt i (length xs)) [
-            | inl a ↦ subst (λ z. R z (get_or (xs ++ ys) j d)) (sym (get_front xs ys i d a)) (subst (R (get_or xs i d)) right (hc (get_or xs i d) (get_or ys (j - length xs) d) (contains_at xs i d a) (contains_at ys (j - length xs) d lb)))
-            | inr c ↦ subst (λ z. R z (get_or (xs ++ ys) j d)) (sym (get_or-append_right xs ys (length xs) i d refl c)) (subst (R (get_or ys (i - length xs) d)) right (hy (i - length xs) (j - length xs) d (omega (arith, l, b, c)) lb))
-          ]
-    ]
 
 -- ---- names that are apart, and clashes
 

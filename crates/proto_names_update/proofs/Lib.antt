@@ -3,7 +3,7 @@ pub mod Clean
 pub mod Differing
 pub mod EditedImports
 pub mod FileLists
-mod FilesDeclare
+pub mod FilesDeclare
 mod ImportsByFile
 mod Leaving
 mod OwnScopes

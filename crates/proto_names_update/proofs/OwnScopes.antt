@@ -9,7 +9,7 @@ use Rattle.proto_names_rules.proofs.Common.{FileAt, IsGrown, Reference, Used, al
 use Rattle.proto_names_imports.proofs.FileUses.{use_from}
 use Rattle.proto_names_imports.specs.Links.{names_in, names_of_files, text_of}
 use Rattle.proto_names_rules.specs.Marked.{IsScopeOf, ScopesAreOwn}
-use Rattle.proto_names_update.proofs.Differing.{file_there}
+use Rattle.proto_names_imports.proofs.NumberedFiles.{file_there}
 
 module _ (files : List FileOf) (reads : List ReadOf) (are : AreRead files reads) where
   -- a reference in the file with this number

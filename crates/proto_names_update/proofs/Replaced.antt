@@ -5,6 +5,7 @@ use Rattle.proto_case.specs.Camel.{entry_name}
 use Rattle.proto_base.proofs.Common.{Contains-append_cases, Contains-append_left, Contains-append_right, cases_Bool, contains_filter, contains_map, from_filter, from_map, get_or-map, get_or_default, length-map, list_any, both_ways, not-true, not_from_false, or_cases, or_parts, or_right}
 use Rattle.proto_files.proofs.Common.{AreRead, FileOf, ReadOf, file_at, one_reading, read_at}
 use Rattle.proto_names_imports.specs.Links.{link_skeleton, names_in, text_of}
+use Rattle.proto_names_imports.proofs.NumberedFiles.{IsNumbered, file_there, numbered}
 use Rattle.proto_names_outline.proofs.Common.{items_in, package_first, whole}
 use Rattle.proto_names_rules.proofs.Common.{ArePlain, At, Declared, EntryOf, FileAt, FileNames, Given, Placed, Source, Symbol, Token, at, declared_to, declares, file_placed, front, is_package, joined, joined_apart, map_map, name_of, names_apart, package_from, place_from, place_of, shifted_source}
 use Rattle.proto_names_rules.proofs.Files.{declared_from}
@@ -26,7 +27,7 @@ use Rattle.proto_names_update.specs.RenewedNames.{AreFilesAgain, AreRenewed, Are
 use Rattle.proto_names_update.proofs.FilesDeclare.{AreBothPackages, all, apart_from_clean, clean_from_apart, every_apart, from_every, index_from_files, index_to_files, one_or_packages, own, own_apart, own_file, pairs_right, spans, to_every}
 use Rattle.proto_names_update.proofs.Leaving.{index_left, name_same, row_same}
 use Rattle.proto_names_update.proofs.Places.{contains_or_not, from_listed, is_listed, not_listed}
-use Rattle.proto_names_update.proofs.RowsPut.{flat_pairs, from_flat, rows_else, rows_put, to_flat}
+use Rattle.proto_names_update.proofs.RowsPut.{flat_pairs, from_flat_map, rows_else, rows_put, to_flat_map}
 
 -- ---- paths in one file
 
@@ -41,29 +42,6 @@ same_name text now file same [] = refl
 same_name text now file same (Token i ∷ path) = ap₂ (λ (w : List ℕ) (n : List (List ℕ)). w ∷ n) (same i) (same_name text now file same path)
 same_name text now file same (EntryOf i ∷ path) = ap₂ (λ (w : List ℕ) (n : List (List ℕ)). entry_name w ∷ n) (same i) (same_name text now file same path)
 same_name text now file same (Given w ∷ path) = ap (λ (n : List (List ℕ)). w ∷ n) (same_name text now file same path)
-
--- ---- the file with a number
-
-file_there : (n : ℕ) (rs : List ReadOf) (k : ℕ) → k < length rs → FileAt n (map names_in rs) (n + k) (names_in (read_at rs k))
-file_there n [] k l = absurd (omega (arith, l))
-file_there n (r ∷ rs) zero l = inl (omega arith, refl)
-file_there n (r ∷ rs) (suc k) l =
-    let e : suc n + k ≡ n + suc k = omega arith in
-    inr (subst (λ m. FileAt (suc n) (map names_in rs) m (names_in (read_at rs k))) e (file_there (suc n) rs k (omega (arith, l))))
-
--- what is known of a file by its number
-record IsNumbered (n : ℕ) (rs : List ReadOf) (file : ℕ) (f : FileNames) : Type 0 where
-  place : ℕ
-  within : place < length rs
-  file_is : file ≡ n + place
-  names_are : names_in (read_at rs place) ≡ f
-
-numbered : (n : ℕ) (rs : List ReadOf) (file : ℕ) (f : FileNames) → FileAt n (map names_in rs) file f → IsNumbered n rs file f
-numbered n [] file f h = absurd h
-numbered n (r ∷ rs) file f (inl h) = record { place = 0; within = omega arith; file_is = omega (arith, h.0); names_are = h.1 }
-numbered n (r ∷ rs) file f (inr h) =
-    let i = numbered (suc n) rs file f h in
-    record { place = suc i.place; within = omega (arith, i.within); file_is = omega (arith, i.file_is); names_are = i.names_are }
 
 -- ---- what a file declares, and that files which are not edited declare the same
 
@@ -194,12 +172,12 @@ module _ (before : List FileOf) (was : List ReadOf) (were : AreRead before was) 
     gone = rows_at rows places
 
     gone_within : (row : ℕ) → Contains gone row → row < length t.rows.items
-    gone_within row c = let w = from_flat (λ p. get_or rows p []) places row c in inside w.0 row w.2
+    gone_within row c = let w = from_flat_map (λ p. get_or rows p []) places row c in inside w.0 row w.2
 
     -- what goes is of a file at one of the places
     going : (x : Named) → Contains olds x → (row : ℕ) → Goes gone t row → get_or (names_of t) row [] ≡ joined x.name → Contains places x.place.file × (x.kind ≢ Package)
     going x c row g e =
-        let w = from_flat (λ p. get_or rows p []) places row g.listed in
+        let w = from_flat_map (λ p. get_or rows p []) places row g.listed in
         let l = inside w.0 row w.2 in
         let d = pick t.rows.items row l in
         let o = declaration_at w.0 row (placed w.0 w.1) w.2 in
@@ -258,7 +236,7 @@ module _ (before : List FileOf) (was : List ReadOf) (were : AreRead before was) 
                 let l = inside a.0 r.0 r.1 in
                 absurd (w.1 r.0
                 (record {
-                  listed = to_flat (λ p. get_or rows p []) places a.0 r.0 (subst (Contains places) a.3 q.1) r.1;
+                  listed = to_flat_map (λ p. get_or rows p []) places a.0 r.0 (subst (Contains places) a.3 q.1) r.1;
                   other = λ d e. q.0 (sym (kind_of x.0 x.1 r.0 l r.2 d) ∙ e);
                 })
                 (ap (λ (z : Symbol). joined z.name) (sym x.2) ∙ sym r.2))
@@ -326,7 +304,7 @@ module _ (before : List FileOf) (was : List ReadOf) (were : AreRead before was) 
         in_final x c =
             let a = from_all files reads are x c in
             elim (contains_or_not places a.0) [
-              | inl here ↦ Contains-append_right lefts put x (to_flat (declared_by files reads) places a.0 x here a.2)
+              | inl here ↦ Contains-append_right lefts put x (to_flat_map (declared_by files reads) places a.0 x here a.2)
               | inr out ↦
                   let was_it = to_all before was were a.0 x (omega (arith, a.1, as_many)) (subst (λ ds. Contains ds x) (sym (elsewhere a.0 a.1 out)) a.2) in
                   Contains-append_left lefts put x (contains_filter stays olds x was_it (stays_elsewhere x (λ q. out (subst (Contains places) a.3 q))))
@@ -405,7 +383,7 @@ module _ (before : List FileOf) (was : List ReadOf) (were : AreRead before was) 
                         contains_map symbol_named news x.0 (to_all files reads are a.0 x.0 lp (subst (λ ds. Contains ds x.0) (elsewhere a.0 lp (λ q. out (subst (Contains places) (sym a.3) q))) a.2))
                   ]
               | inr h ↦
-                  let w = from_flat (declared_by files reads) places x.0 h in
+                  let w = from_flat_map (declared_by files reads) places x.0 h in
                   contains_map symbol_named news x.0 (to_all files reads are w.0 x.0 (let q = placed w.0 w.1 in omega (arith, q, as_many)) w.2)
             ])
 

@@ -2,25 +2,12 @@
 use Rattle.std.proofs.Common.{◌≡◌, ℕ, zero, suc, ◌<◌, List, [], ◌∷◌, length, get_or, refl, sym, ◌∙◌, ap, inl, inr, arith, slice_set, subst, flat_map, map, All, AllPairs, Contains}
 use Rattle.std.proofs.lemmas.List.{get_or-set_other, get_or-set_same, length-set}
 use Rattle.proto_base.proofs.Common.{All-contains, Contains-append_cases, Contains-append_left, Contains-append_right, contains_cases, contains_head, contains_later}
+pub use Rattle.proto_base.proofs.Common.{from_flat_map, to_flat_map}
 use Rattle.proto_names_update.specs.RenewedNames.{rows_with}
 use Rattle.proto_names_update.proofs.FilesDeclare.{pairs_left, pairs_right}
 use Rattle.proto_names_update.proofs.Places.{contains_or_not}
 
 -- ---- lists one behind the other
-
-pub from_flat : {X Y : Type 0} (f : X → List Y) (xs : List X) (y : Y) → Contains (flat_map f xs) y → (x : X) × Contains xs x × Contains (f x) y
-from_flat f [] y c = absurd (omega (arith, c.1))
-from_flat f (x ∷ xs) y c = elim (Contains-append_cases (f x) (flat_map f xs) y c) [
-  | inl h ↦ (x, contains_head x xs, h)
-  | inr h ↦ let r = from_flat f xs y h in (r.0, contains_later x r.0 xs r.1, r.2)
-]
-
-pub to_flat : {X Y : Type 0} (f : X → List Y) (xs : List X) (x : X) (y : Y) → Contains xs x → Contains (f x) y → Contains (flat_map f xs) y
-to_flat f [] x y c h = absurd (omega (arith, c.1))
-to_flat f (z ∷ xs) x y c h = elim (contains_cases z x xs c) [
-  | inl e ↦ Contains-append_left (f z) (flat_map f xs) y (subst (λ w. Contains (f w) y) (sym e) h)
-  | inr d ↦ Contains-append_right (f z) (flat_map f xs) y (to_flat f xs x y d h)
-]
 
 pub flat_pairs : {X Y : Type 0} (R : Y → Y → Type 0) (f : X → List Y) (xs : List X) (x : X) → AllPairs R (flat_map f xs) → Contains xs x → AllPairs R (f x)
 flat_pairs R f [] x h c = absurd (omega (arith, c.1))

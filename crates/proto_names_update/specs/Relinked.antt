@@ -29,7 +29,7 @@ abbrev pub WasLink : {L : Type 0}
 WasLink IsLink files places l =
     (before : List FileOf) × IsCleanLink IsLink before l × AreSameBut places before files
 
--- ---- which files have to be looked at again
+-- ---- which files have to be re-resolved
 
 -- the marks are of the edited files, of those with a reference to a type that went, or that their
 -- file sees no more, and of those with one whose first word has the key of the last word of a name

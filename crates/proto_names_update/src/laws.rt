@@ -9,7 +9,7 @@ pub fn edited_files_differ()
 {}
 
 /// Where files without faults of imports, names and references are edited, and the files that have
-/// to be looked at again are marked: what a reference of another file means stays (`unmarked`), and
+/// to be re-resolved are marked: what a reference of another file means stays (`unmarked`), and
 /// none of these faults comes in, if imports and names have none, and no reference of a marked file
 /// (`clean`).
 pub fn relinked_are_clean()

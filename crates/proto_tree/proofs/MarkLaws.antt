@@ -55,7 +55,7 @@ marks_fit t ls m l h c =
     let fit = subst (λ (x : Mark). fits x.want (class_by (get_or ls c.0 l).kind (get_or ls c.0 l).text) ≡ true) c.2 r.1 in
     (omega (arith, r.0, at), subst (λ (i : ℕ). fits m.want (class_by (get_or ls i l).kind (get_or ls i l).text) ≡ true) at fit)
 
-fit_length : (n : ℕ) (ms : List Mark) (ls : List Lexeme) → Fit ms (classes n ls) → length ms ≡ length ls
+pub fit_length : (n : ℕ) (ms : List Mark) (ls : List Lexeme) → Fit ms (classes n ls) → length ms ≡ length ls
 fit_length n [] [] h = refl
 fit_length n [] (l ∷ ls) h = absurd h
 fit_length n (m ∷ ms) [] h = absurd h

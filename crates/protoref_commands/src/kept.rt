@@ -5,8 +5,8 @@ ghost use Rattle.std.specs.Prelude.{◌≡◌, None};
 use proto_desc::{CheckedSchema, DescribedSchema};
 use std::mem;
 
-/// What a run still holds when it has ended. Who goes on lets it go by `release`; a program that ends
-/// can spare that.
+/// What a run still holds when it has ended. A caller that goes on drops it by `release`; a program
+/// that ends need not.
 #[derive(Drop)]
 pub struct Retained {
     described: Option<DescribedSchema>,
@@ -40,12 +40,12 @@ impl Retained {
         }
     }
 
-    /// Keeps schemas with their descriptors, in the place of any kept before.
+    /// Keeps schemas with their descriptors, in place of any kept before.
     pub(crate) fn keep(&mut self, schema: DescribedSchema) {
         let_go(mem::replace(&mut self.described, Some(schema)));
     }
 
-    /// Keeps schemas without descriptors, in the place of any kept before.
+    /// Keeps schemas without descriptors, in place of any kept before.
     pub(crate) fn keep_checked(&mut self, schema: CheckedSchema) {
         let_checked_go(mem::replace(&mut self.checked, Some(schema)));
     }

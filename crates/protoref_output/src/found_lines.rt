@@ -10,7 +10,7 @@ ghost use Rattle.proto_text.specs.Lines.{column_at, line_at};
 
 use crate::place::{Cursor, Place};
 use proto_base::NoMemory;
-use proto_files::{Files, file_named};
+use proto_files::Files;
 use proto_lint_names::Finding;
 use std::alloc::Global;
 
@@ -90,7 +90,7 @@ impl Spot {
         }
     }
 
-    // At an offset of the text of the file at a path. Files behind this one are looked at first.
+    // At an offset of the text of the file at a path.
     fn moved_to(self, files: &Files, path: &str, offset: u32) -> Spot
         requires { IsCursorIn (file_at files.now self.file).bytes self.cursor }
         ensures there { IsCursorIn (file_at files.now result.file).bytes result.cursor }
@@ -98,7 +98,7 @@ impl Spot {
         ensures column { result.cursor.place.column
             ≡ column_at (text_of_path path.now files.now) offset }
     {
-        let file = number_of(files, self.file, path);
+        let file = number_of(files, path);
         self.in_file(files, file, offset)
     }
 }
@@ -118,16 +118,15 @@ fn text_of(files: &Files, file: u32) -> &[u8]
 pub(crate) fn text_named<'a>(files: &'a Files, path: &str) -> &'a [u8]
     ensures { result.now ≡ text_of_path path.now files.now }
 {
-    text_of(files, number_of(files, 0, path))
+    text_of(files, number_of(files, path))
 }
 
-// The number of the file at a path, which is looked for from a number on and then before it; the
-// count of the files where there is none.
-fn number_of(files: &Files, start: u32, path: &str) -> u32
+// The number of the file at a path; the count of the files where there is none.
+fn number_of(files: &Files, path: &str) -> u32
     ensures { (file_at files.now result).bytes ≡ text_of_path path.now files.now }
 {
     let count = files.len() as u32;
-    match file_named(files, start, path) {
+    match files.place_of_path(path) {
         Some(file) => file,
         None => count,
     }

@@ -1,15 +1,15 @@
+use Rattle.std.proofs.Common.{◌∙◌, sym}
 use Rattle.proto_edit_statements.proofs.Drops.{free_13, no_file, refused_13}
 use Rattle.proto_edit_statements.proofs.NoImportFault.{none_missing}
-use Rattle.proto_edit_statement_laws.proofs.PathPlaces.{no_place_of, place_of_path}
 use Rattle.proto_edit_statements.proofs.dropping.drop_import.Goals as goal
 
 pub returns-in_default-clause-err : goal.returns-in_default-clause-err
-returns-in_default-clause-err c = no_file c.args.files.now c.are_read.ensures.0 c.are_read.ensures.1 c.args.file.now c.args.path.now (no_place_of c.args.files.now c.args.file.now c.in_default.ensures.none)
+returns-in_default-clause-err c = no_file c.args.files.now c.are_read.ensures.0 c.are_read.ensures.1 c.args.file.now c.args.path.now (sym c.place_of_path.ensures ∙ c.in_default.is)
 
 pub returns-in_default-import_named-clause-err : goal.returns-in_default-import_named-clause-err
 returns-in_default-import_named-clause-err c =
     refused_13 c.args.files.now c.are_read.ensures.0 c.are_read.ensures.1 c.args.file.now c.args.path.now c.in-Some.from
-    (place_of_path c.args.files.now c.len.ensures.workspace c.in-Some.from c.in-Some.ensures.within c.args.file.now c.in-Some.ensures.path)
+    (sym c.place_of_path.ensures ∙ c.in-Some.is)
     (c.in_default-import_named.ensures c.are_read.ensures.0 c.are_read.ensures.1)
 
 pub unreachable-requires : goal.unreachable-requires
@@ -17,19 +17,19 @@ unreachable-requires c =
     let files = c.args.files.now in
     let reads = c.are_read.ensures.0 in
     let are = c.are_read.ensures.1 in
-    none_missing files reads are c.requires.linked c.in-Some.from c.args.path.now (c.in-Some-import_named.ensures reads are).0 (no_place_of files c.args.path.now c.in_default-file_named.ensures.none)
+    none_missing files reads are c.requires.linked c.in-Some.from c.args.path.now (c.in-Some-import_named.ensures reads are).0 (sym c.place_of_path-in-Some.ensures ∙ c.in_default-place_of_path.is)
 
 pub check_needed-requires-clause-file : goal.check_needed-requires-clause-file
-check_needed-requires-clause-file c = place_of_path c.args.files.now c.len.ensures.workspace c.in-Some.from c.in-Some.ensures.within c.args.file.now c.in-Some.ensures.path
+check_needed-requires-clause-file c = sym c.place_of_path.ensures ∙ c.in-Some.is
 
 pub check_needed-requires-clause-to : goal.check_needed-requires-clause-to
-check_needed-requires-clause-to c = place_of_path c.args.files.now c.len.ensures.workspace c.in-Some-file_named.to c.in-Some-file_named.ensures.within c.args.path.now c.in-Some-file_named.ensures.path
+check_needed-requires-clause-to c = sym c.place_of_path-in-Some.ensures ∙ c.in-Some-place_of_path.is
 
 pub check_needed-requires-clause-before : goal.check_needed-requires-clause-before
 check_needed-requires-clause-before c =
     free_13 c.args.files.now c.are_read.ensures.0 c.are_read.ensures.1 c.args.file.now c.args.path.now c.in-Some.from
-    (place_of_path c.args.files.now c.len.ensures.workspace c.in-Some.from c.in-Some.ensures.within c.args.file.now c.in-Some.ensures.path)
+    (sym c.place_of_path.ensures ∙ c.in-Some.is)
     (c.in-Some-import_named.ensures c.are_read.ensures.0 c.are_read.ensures.1).0
 
 pub changes_of_drop-requires-clause-file : goal.changes_of_drop-requires-clause-file
-changes_of_drop-requires-clause-file c = place_of_path c.args.files.now c.len.ensures.workspace c.in-Some.from c.in-Some.ensures.within c.args.file.now c.in-Some.ensures.path
+changes_of_drop-requires-clause-file c = sym c.place_of_path.ensures ∙ c.in-Some.is

@@ -2,7 +2,7 @@ use Rattle.std.proofs.Common.{◌≡◌, List, map, refl, sym, ◌∙◌, ap, su
 use Rattle.std.proofs.lemmas.Result.{IfOk-weaker, IfErr-weaker}
 use Rattle.proto_text.proofs.Common.{one_token_list, word_at, Lexeme, lexeme_at}
 use Rattle.proto_files.specs.GivenFiles.{file_at}
-use Rattle.proto_names.specs.FileReferences.{declared_names}
+use Rattle.proto_names_update.specs.NamesOfFiles.{declared_names}
 use Rattle.proto_tree.specs.References.{dotted}
 use Rattle.proto_names_rules.specs.Joined.{ArePlain}
 use Rattle.proto_names_imports.specs.Links.{names_of_files}
