@@ -3,8 +3,7 @@
 use crate::expect::{expect, owned_text, repeated_text};
 use proto_base::{FaultKind, SchemaFault};
 use proto_files::{
-    Files, Paths, Words, all_paths, are_read, fault_at_token, is_workspace_path,
-    offset_of,
+    Files, Paths, Words, all_paths, are_read, fault_at_token, is_workspace_path, offset_of,
 };
 use proto_text::{Span, Token, TokenKind};
 use std::process::Abort;
