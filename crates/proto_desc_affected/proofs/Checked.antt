@@ -44,8 +44,6 @@ kind_of o = is_message_kind (option_map (λ (x : Declared At). x.kind) o)
 
 -- ---- files
 
-}
-
 module _ (places : List ℕ) (before : List FileOf) (was : List ReadOf) (files : List FileOf) (reads : List ReadOf) (are : AreSoundlyEdited places before was files reads) where
   -- what stands in a file that is not edited stood there
   stood_there : (name : List (List ℕ)) (d : Declared At) → IsNamed files reads name d → (Contains places (place_of d).file → ⊥) → declared_as before was name ≡ Some d
