@@ -17,13 +17,13 @@ unreachable-requires c =
     let files = c.args.files.now in
     let reads = c.are_read.ensures.0 in
     let are = c.are_read.ensures.1 in
-    none_missing files reads are c.requires.linked c.in-Some.from c.args.path.now (c.in-Some-import_named.ensures reads are).0 (sym c.place_of_path-in-Some.ensures ∙ c.in_default-place_of_path.is)
+    none_missing files reads are c.requires.linked c.in-Some.from c.args.path.now (c.in-Some-import_named.ensures reads are).0 (sym c.place_of_path-2.ensures ∙ c.in_default-place_of_path.is)
 
 pub check_needed-requires-clause-file : goal.check_needed-requires-clause-file
 check_needed-requires-clause-file c = sym c.place_of_path.ensures ∙ c.in-Some.is
 
 pub check_needed-requires-clause-to : goal.check_needed-requires-clause-to
-check_needed-requires-clause-to c = sym c.place_of_path-in-Some.ensures ∙ c.in-Some-place_of_path.is
+check_needed-requires-clause-to c = sym c.place_of_path-2.ensures ∙ c.in-Some-place_of_path.is
 
 pub check_needed-requires-clause-before : goal.check_needed-requires-clause-before
 check_needed-requires-clause-before c =
