@@ -1,7 +1,7 @@
 //! A workspace that is edited and led back. A call that memory refused changed nothing, and is made
 //! again. One function owns a workspace, all else borrows it.
 
-ghost use Rattle.std.specs.Prelude.{◌≡◌, ◌≢◌, ◌++◌, [], ◌∷◌, IfErr, IfOk, OnOk, map};
+ghost use Rattle.std.specs.Prelude.{◌≡◌, ◌≢◌, ◌++◌, [], ◌∷◌, IfErr, IfOk, IsTrue, OnOk, map};
 ghost use Rattle.proto_edit.specs.Compiled.{AreCompiled};
 ghost use Rattle.proto_edit.specs.Workspaces.{IsMappedStep, IsRefusal, Run, accepted};
 ghost use Rattle.protoref_test_cases.specs.RowsHold.{AreLed, IsLed, RowHolds, ShowsPart, StepsHold, UndoneSo, UndosHold, UndosLead, row_files, written_row, written_step, undo_of};
@@ -9,6 +9,7 @@ ghost use Rattle.protoref_test_cases.specs.Told.{told_of};
 ghost use Rattle.proto_desc.specs.Whole.{IsSortedOf};
 
 use crate::calls::{are_texts, edit_of, is_said, open};
+use crate::file_texts::{text_of_files, text_of_row};
 use crate::row::{Row, Undo};
 use crate::step::Step;
 use crate::told::expect_told;
@@ -51,17 +52,38 @@ fn add_files(state: &mut Vec<u8>, files: &Files) -> Result<(), NoMemory> {
     Ok(())
 }
 
+fn words_of(state: &[u8]) -> &str {
+    str::from_utf8(state).unwrap_or("a state that is no text")
+}
+
 fn expect_state(alloc: Global, workspace: &Workspace, wanted: &[u8]) -> Result<(), Unlike> {
     let state = state(alloc, workspace)?;
     let holds = state.as_slice() == wanted;
-    expect(alloc, holds, "another state", "that before")
+    expect(alloc, holds, words_of(state.as_slice()), words_of(wanted))
 }
 
 fn expect_files(alloc: Global, workspace: &Workspace, files: &[(&str, &str)]) -> Result<(), Unlike>
     ensures { OnOk result (workspace.now ≡ row_files files.now) }
 {
     let holds = are_texts(workspace, files);
-    expect(alloc, holds, "other files", "those of the row")
+    expect_texts(alloc, holds, workspace.files(), files)
+}
+
+// What the files are in place of those of the row, unless it holds.
+fn expect_texts(
+    alloc: Global,
+    holds: bool,
+    files: &Files,
+    wanted: &[(&str, &str)],
+) -> Result<(), Unlike>
+    ensures { OnOk result (IsTrue holds) }
+{
+    if holds {
+        return Ok(());
+    }
+    let told = text_of_files(alloc, files)?;
+    let wanted = text_of_row(alloc, wanted)?;
+    expect(alloc, holds, told.as_str(), wanted.as_str())
 }
 
 // The files are these, and this stands in the descriptors.
@@ -222,6 +244,14 @@ fn undo_one_by_one(
     Ok(())
 }
 
+// The name of a refusal, or `done`.
+fn name_of(answer: &Result<(), Refusal>) -> &'static str {
+    match answer {
+        Ok(()) => "done",
+        Err(refusal) => refusal.name(),
+    }
+}
+
 // One undo is answered so, and leaves these files.
 fn expect_undo(
     alloc: Global,
@@ -239,8 +269,10 @@ fn expect_undo(
         }));
     };
     let (_, name) = said;
-    let holds = is_said(workspace.undo(alloc, entry), said);
-    expect(alloc, holds, "another answer of an undo", name)?;
+    let answer = workspace.undo(alloc, entry);
+    let told = name_of(&answer);
+    let holds = is_said(answer, said);
+    expect(alloc, holds, told, name)?;
     expect_files(alloc, workspace, files)
 }
 

@@ -1,9 +1,11 @@
-//! Rows of edits, and whether the workspace does as they say. Tests stand on it.
+//! Rows of edits, and whether the workspace does as they say. Tests and a program that tries rows
+//! stand on it.
 #![tactic(auto)]
 
 mod calls;
 mod differences;
 mod edited;
+mod file_texts;
 mod row;
 mod step;
 mod told;

@@ -38,6 +38,14 @@ pub(crate) const WIDE: Room = (4096, 65536, false);
 /// How a run ends, and how many bytes of a text it has then printed.
 pub(crate) type End<'a> = (Result<Status, RunFault>, &'a str, usize);
 
+fn name_of(ended: &Result<Status, RunFault>) -> &'static str {
+    match ended {
+        Ok(Status::Done) => "done",
+        Ok(Status::Problem) => "a problem",
+        Err(fault) => fault.name(),
+    }
+}
+
 /// The command ends so over a store, of which so many calls have failed then.
 pub(crate) fn expect_end<S: Store, R: AllocGlobal + Abort>(
     rt: &R,
@@ -56,14 +64,21 @@ pub(crate) fn expect_end<S: Store, R: AllocGlobal + Abort>(
     assert!(rt; store.failures() < u64::MAX);
     let ended = run(rt.alloc(), command, store, &mut writer);
     let printed = writer.taken.as_slice();
-    assert!(rt; ended == end, "how it ends, for {text}");
+    let came = str::from_utf8(printed).unwrap_or("no text");
+    assert!(rt;
+        ended == end,
+        "{}, not {}: {came}, for {text}",
+        name_of(&ended),
+        name_of(&end)
+    );
     assert!(rt;
         printed.len() == count && text.as_bytes().starts_with(printed),
-        "what is printed, for {text}"
+        "{came}, not {count} bytes of {text}"
     );
     assert!(rt;
         store.failures() == failures,
-        "how often the store fails, for {text}"
+        "{} failures of the store, not {failures}, for {text}",
+        store.failures()
     );
 }
 

@@ -1,6 +1,5 @@
 //! Which command the words of the command line ask for.
 
-use crate::linting::rules_named;
 use protoref_arguments::{Request, UsageError, parse_arguments};
 use protoref_commands::{Rule, RuleSet};
 use std::process::Abort;
@@ -11,6 +10,21 @@ type Row = (&'static str, &'static str);
 
 /// What a bad line asks for.
 const REFUSAL: &str = "refusal";
+
+// The rules of these names, with spaces between them, or `all`.
+fn rules_named<R: Abort>(rt: &R, names: &str) -> RuleSet {
+    if names == "all" {
+        return RuleSet::all();
+    }
+    let mut rules = RuleSet::none();
+    for name in names.split(' ') {
+        match Rule::from_name(name) {
+            Some(rule) => rules.insert(rule),
+            None => assert!(rt; names.is_empty(), "no rule {name}"),
+        }
+    }
+    rules
+}
 
 fn expect_rows<R: AllocGlobal + Abort>(rt: &R, rows: &[Row]) {
     for (line, wanted) in rows {

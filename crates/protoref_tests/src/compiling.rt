@@ -1,4 +1,4 @@
-//! What `compile` prints, and where a run stops.
+//! Where a run of `compile` stops, and what its output takes. What it prints are rows of `protoref_rows`.
 
 use crate::calls::{WIDE, expect, expect_end, given_files};
 use protoref_commands::{Command, MemoryStore, RunFault, Status, StoreFault, fault_line};
@@ -11,81 +11,6 @@ pub(crate) const ROW_JSON: &str =
 const RANGE: &str = "a.proto syntax = \"proto3\"; message A { string b = 19000; }";
 
 const RANGE_LINE: &str = "a.proto:1:43: 17 NumberRange\n";
-
-/// Files, and what is printed of them where they compile.
-const COMPILED: &[(&str, &str)] = &[
-    ("", "{}\n"),
-    (ROW, ROW_JSON),
-    (
-        "a.proto syntax = \"proto3\"; message A { B b = 1; } message B {}",
-        "{\"file\":[{\"messageType\":[{\"field\":[{\"jsonName\":\"b\",\"label\":\"LABEL_OPTIONAL\",\"name\":\"b\",\"number\":1,\"type\":\"TYPE_MESSAGE\",\"typeName\":\".B\"}],\"name\":\"A\"},{\"name\":\"B\"}],\"name\":\"a.proto\",\"syntax\":\"proto3\"}]}\n",
-    ),
-    ("a.proto ", "{\"file\":[{\"name\":\"a.proto\"}]}\n"),
-];
-
-/// Files, and the line of their fault.
-const FAULTS: &[(&str, &str)] = &[
-    ("a.proto /*", "a.proto:1:1: 4 OpenComment\n"),
-    ("a.proto /*/", "a.proto:1:1: 4 OpenComment\n"),
-    ("a.proto \n /*", "a.proto:2:2: 4 OpenComment\n"),
-    ("a.proto \"abc", "a.proto:1:1: 5 OpenString\n"),
-    ("a.proto syntax = \"", "a.proto:1:10: 5 OpenString\n"),
-    ("a.proto \"\\q\"", "a.proto:1:1: 6 BadEscape\n"),
-    ("a.proto \"\\400\"", "a.proto:1:1: 6 BadEscape\n"),
-    ("a.proto 1x", "a.proto:1:1: 7 BadNumber\n"),
-    ("a.proto message {", "a.proto:1:1: 8 Syntax\n"),
-    (
-        "b.proto syntax = \"proto3\"; message A { string b_c = 1; } | a.proto syntax = \"proto3\"; message A { string b_c = 1; }",
-        "b.proto:1:28: 13 DuplicateName\n",
-    ),
-    (
-        "a.proto syntax = \"proto3\"; package a; import \"b.proto\"; message A { message b {} b.X f = 1; } | b.proto syntax = \"proto3\"; package b; message X {} | c.proto syntax = \"proto3\"; package a.b;",
-        "a.proto:1:74: 14 Unresolved\n",
-    ),
-    (RANGE, RANGE_LINE),
-    (
-        "a.proto syntax = \"proto3\"; message A { string b_c = 0; }",
-        "a.proto:1:45: 17 NumberRange\n",
-    ),
-    (
-        "a.proto syntax = \"proto3\"; message A { string b_c = 536870912; }",
-        "a.proto:1:45: 17 NumberRange\n",
-    ),
-    (
-        "a.proto syntax = \"proto3\"; message A { string b_c = 19000; }",
-        "a.proto:1:45: 17 NumberRange\n",
-    ),
-    (
-        "a.proto enum E { V = 2147483648; }",
-        "a.proto:1:14: 17 NumberRange\n",
-    ),
-    (
-        "p/b.proto syntax = \"proto3\";\nmessage A {\n  string b = 19000;\n}\n",
-        "p/b.proto:3:14: 17 NumberRange\n",
-    ),
-    (
-        "a.proto message M { reserved 1 to 3, 3; }",
-        "a.proto:1:30: 21 RangeOverlap\n",
-    ),
-    (
-        "a.proto message M { optional int32 a = 1 [default = 2147483648]; }",
-        "a.proto:1:35: 28 BadDefault\n",
-    ),
-    (
-        "a b.proto syntax = \"proto3\"; message A { string b_c = 1; }",
-        "a b.proto:1:1: 33 BadPath\n",
-    ),
-];
-
-#[test]
-fn prints_descriptors_and_faults(rt: HostRuntime) {
-    for (rows, status) in &[(COMPILED, Status::Done), (FAULTS, Status::Problem)] {
-        for (files, text) in *rows {
-            let end = (Ok(*status), *text, text.len());
-            expect(&rt, given_files(&rt, files), Command::Compile, WIDE, end);
-        }
-    }
-}
 
 /// Files, the call of the store that fails, and what is printed of the files where none does.
 const FAILED: &[(&str, u64, &str, Status)] = &[

@@ -17,27 +17,17 @@ mod full;
 #[cfg(test)]
 mod journals;
 #[cfg(test)]
-mod lint_rows;
-#[cfg(test)]
-mod linting;
-#[cfg(test)]
-mod mended;
-#[cfg(test)]
 mod migrations;
 #[cfg(test)]
 mod pipe;
 #[cfg(test)]
 mod recoveries;
 #[cfg(test)]
-mod renames;
-#[cfg(test)]
 mod roots;
 #[cfg(test)]
 mod sample;
 #[cfg(test)]
 mod shop;
-#[cfg(test)]
-mod statements;
 #[cfg(test)]
 mod stops;
 #[cfg(test)]

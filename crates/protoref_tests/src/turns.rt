@@ -95,7 +95,8 @@ fn expect_holds<R: AllocGlobal + Abort>(
 ) {
     assert!(rt; store.failures() < u64::MAX);
     let bytes = store.read_journal().expect(rt, "a journal");
-    assert!(rt; bytes.as_slice() == journal.as_bytes(), "not {journal}");
+    let came = str::from_utf8(bytes.as_slice()).unwrap_or("no text");
+    assert!(rt; came == journal, "{came}, not {journal}");
     assert!(rt; store.failures() < u64::MAX);
     let held = all_files(rt.alloc(), store).expect(rt, "files");
     assert!(rt; held == given_files(rt, files), "not {files}");

@@ -1,6 +1,6 @@
 """Renames with their answers, counted by hand. A row has files, the renames asked one after another, and for each what is
 printed, with the splices `path at old new` of an accepted one, and a piece of the descriptors after it. More rows, of all
-edits, are read in the tests.
+edits, are data of crates/protoref_rows.
 """
 
 import re
@@ -34,52 +34,40 @@ def done(*splices, json=""):
 
 
 COMMANDS = {"rename": "rename", "delete": "delete-field", "add": "add-import", "drop": "drop-import"}
-# A row that has a name, or a table of rows, of which some may be named.
-TABLE = re.compile(r"^(?:pub\(crate\) )?const (\w+): (?:&\[)?(Flat|Deletion|Place)(\])? = &?(.*?\];)$", re.S | re.M)
 TEXT = re.compile(r'"(?:[^"\\]|\\.)*"|[\[\],]|\b[A-Z_]+\b')
-COMMENT = re.compile(r"^\s*//.*$", re.M)
-EMPTY = {"b.proto": "", "c.proto": ""}
+ESCAPE = re.compile(r"\\(.)")
+PLAIN = {"n": "\n", "r": "\r", "t": "\t", "\\": "\\"}
 
 
-def rows_of_tests(source):
-    """The rows that a source of tests has: texts by path, the edits with their answers, the texts afterwards, a piece of the
-    descriptors."""
-    named = {}
-    for name, kind, is_table, table in TABLE.findall(COMMENT.sub("", source)):
-        named[name] = values_of_table(table, named)
-        for row in named[name] if is_table else []:
-            files, steps, after, json = parts_of_row(kind, row)
+def rows_of_data(source):
+    """The rows that a table of edits has, without those of filled files: texts by path, the edits with their answers, the texts
+    afterwards, a piece of the descriptors."""
+    for block in source.split("\n\n"):
+        lines = [line.partition(":") for line in block.splitlines() if line and not line.startswith("#")]
+        parts = [(key, ESCAPE.sub(lambda it: PLAIN[it[1]], text[1:])) for key, _, text in lines]
+        one = dict(parts)
+        if parts and "bytes" not in one:
+            steps = [step_of(text) for key, text in parts if key == "edit"]
             words = [(COMMANDS[step[0]], *step[1 : 2 if step[0] == "delete" else 3], step[3]) for step in steps]
-            yield files, words, after, json
+            yield texts_of(one["files"]), words, texts_of(one.get("after", "")), one.get("json", "")
 
 
-def values_of_table(table, named):
-    return eval("".join(TEXT.findall(table)), {"__builtins__": {}}, named)
+def values_of_table(table):
+    return eval("".join(TEXT.findall(table)), {"__builtins__": {}})
 
 
 def rows_of_faults(source):
     """The rows that a source of tests has of faults of extensions: texts by path, and the number, the path and the offset."""
     for table in re.findall(r"^const \w+: &\[\(&str, &str\)\] = (.*?\];)$", source, re.S | re.M):
-        reported = values_of_table("[" + ",".join(one for one in TEXT.findall(table) if one[0] == '"') + "]", {})
+        reported = values_of_table("[" + ",".join(one for one in TEXT.findall(table) if one[0] == '"') + "]")
         for given, said in zip(reported[::2], reported[1::2]):
             fault = re.fullmatch(r"(\S+):(\d+): (\d+) \w+", said)
             if fault and int(fault[3]) in OF_EXTENSIONS:
-                yield texts_of(given), int(fault[3]), fault[1], int(fault[2])
+                yield texts_of(given, "|"), int(fault[3]), fault[1], int(fault[2])
 
 
-def parts_of_row(kind, row):
-    if kind == "Deletion":
-        text, name, reported, after, json = row
-        return {"a.proto": text}, [("delete", name, "", reported)], {"a.proto": after}, json
-    if kind == "Place":
-        text, reported, after, json = row
-        return {"a.proto": text, **EMPTY}, [("add", "a.proto", "b.proto", reported)], {"a.proto": after, **EMPTY}, json
-    given, asked, after, json = row
-    return texts_of(given), [step_of(written) for written in asked.split("|")], texts_of(after), json
-
-
-def texts_of(written):
-    return {path: text for path, _, text in (file.partition(" ") for file in written.split("|")) if path}
+def texts_of(written, between=" | "):
+    return {path: text for path, _, text in (file.partition(" ") for file in written.split(between)) if path}
 
 
 def step_of(written):

@@ -1,7 +1,7 @@
 //! Rows that are written as texts, and how they are asserted.
 
 use proto_base::NoMemory;
-use protoref_test_cases::{Row, Step, Undo, difference};
+use protoref_test_cases::{Row, Step, difference};
 use std::alloc::Global;
 use std::process::Abort;
 
@@ -25,7 +25,7 @@ pub(crate) fn texts(
 }
 
 /// The edit that is written as one text, with its answer.
-pub(crate) fn step(written: &'static str) -> Step {
+pub(crate) fn step(written: &'static str) -> Step<'static> {
     let (asked, answer) = written.split_once(" > ").unwrap_or((written, "no answer"));
     let mut words = asked.split(' ');
     let kind = words.next().unwrap_or("");
@@ -34,7 +34,7 @@ pub(crate) fn step(written: &'static str) -> Step {
     (kind, of, to, answer)
 }
 
-fn steps(alloc: Global, written: &'static str) -> Result<Vec<Step>, NoMemory> {
+fn steps(alloc: Global, written: &'static str) -> Result<Vec<Step<'static>>, NoMemory> {
     let mut steps = Vec::new(alloc);
     for one in written.split('|') {
         steps.push(step(one))?;
@@ -42,12 +42,8 @@ fn steps(alloc: Global, written: &'static str) -> Result<Vec<Step>, NoMemory> {
     Ok(steps)
 }
 
-/// What is otherwise than a row says that is led back by these undos, or by its entries, if there are none.
-pub(crate) fn difference_of(
-    alloc: Global,
-    flat: &Flat,
-    undos: &[Undo],
-) -> Result<String, NoMemory> {
+/// What is otherwise than a row says, which is led back by its entries.
+pub(crate) fn difference_of(alloc: Global, flat: &Flat) -> Result<String, NoMemory> {
     let [given, asked, left, json] = *flat;
     let files = texts(alloc, given)?;
     let steps = steps(alloc, asked)?;
@@ -58,18 +54,11 @@ pub(crate) fn difference_of(
         after: after.as_slice(),
         json,
     };
-    difference(alloc, &row, undos)
+    difference(alloc, &row, &[])
 }
 
 /// Ends the test with what is told, if there is anything.
 pub(crate) fn expect_none<R: Abort>(rt: &R, told: Result<String, NoMemory>) {
     let told = told.expect(rt, "memory");
     assert!(rt; told.is_empty(), "{told}");
-}
-
-/// The rows hold.
-pub(crate) fn expect_rows<R: AllocGlobal + Abort>(rt: &R, rows: &[Flat]) {
-    for row in rows {
-        expect_none(rt, difference_of(rt.alloc(), row, &[]));
-    }
 }

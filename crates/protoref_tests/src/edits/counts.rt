@@ -1,7 +1,7 @@
 //! How many files an edit, its undo and a refusal parse. Places are counted in the texts.
 
 use super::calls::{Flat, step, texts};
-use super::rows::{MEMBERS, WIDE};
+use super::rows::{FIELD, VALUE, WIDE};
 use proto_edit::{Entry, Refusal, Steps, Workspace, to_json};
 use protoref_test_cases::{are_texts, edit_of, is_said, open};
 use std::process::Abort;
@@ -59,8 +59,8 @@ fn expect_counted<R: AllocGlobal + Abort>(rt: &R, row: &'static Flat, count: u64
 fn are_of_changed_files(rt: HostRuntime) {
     // A message that two other files use, a field, and a value that is a default.
     expect_counted(&rt, &WIDE, 3);
-    expect_counted(&rt, &MEMBERS[0], 1);
-    expect_counted(&rt, &MEMBERS[3], 1);
+    expect_counted(&rt, &FIELD, 1);
+    expect_counted(&rt, &VALUE, 1);
 }
 
 /// Edits that are refused, with their number and name.

@@ -55,9 +55,9 @@ fn have_rules(rt: HostRuntime) {
 
 // ---- a workspace beside its edit
 
-const STEP: Step = ("rename", "A.b_c", "d_e", "");
+const STEP: Step<'static> = ("rename", "A.b_c", "d_e", "");
 
-const STALE: Said = (17, "Stale");
+const STALE: Said<'static> = (17, "Stale");
 
 // The entry leads from the edited workspace back to the first one, which it does not fit.
 #[test]
@@ -89,9 +89,9 @@ fn leave_a_workspace_beside_its_edit(rt: HostRuntime) {
 // ---- the way back
 
 /// Files as texts, of how many the entry from `M` to `N` speaks, what its undoing answers, and other files afterwards.
-type Back = (&'static str, usize, Said, &'static str);
+type Back = (&'static str, usize, Said<'static>, &'static str);
 
-const UNDONE: Said = (0, "done");
+const UNDONE: Said<'static> = (0, "done");
 
 // One file more stays as it is; where one is absent or not as it was left, or `M` would be there twice or not be found, nothing
 // changes.

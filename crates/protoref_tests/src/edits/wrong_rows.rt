@@ -21,7 +21,7 @@ const WRONG: &[Flat] = &[
 ];
 
 fn is_told<R: AllocGlobal + Abort>(rt: &R, row: &Flat) -> bool {
-    let told = difference_of(rt.alloc(), row, &[]).expect(rt, "memory");
+    let told = difference_of(rt.alloc(), row).expect(rt, "memory");
     !told.is_empty()
 }
 
