@@ -1,6 +1,6 @@
 """Descriptors of a model's schemas as docs/descriptors.md has them, and their text."""
 
-from schemas import Block, Extend, Field, Method, Oneof, Option, Reserved, Value, entry_name, number_value, text_value
+from grammar import Block, Extend, Field, Method, Oneof, Option, Reserved, Value, entry_name, number_value, text_value
 
 MAX_NUMBER = 536870911
 MAX_VALUE = 2147483647
@@ -148,7 +148,7 @@ class Scene:
         def part(name, number, typed):
             return {"name": name, "jsonName": name, "number": number, "label": "LABEL_OPTIONAL", **typed}
 
-        fields = [part("key", 1, {"type": "TYPE_" + field.key.upper()}), part("value", 2, self.typed(field))]
+        fields = [part("key", 1, {"type": "TYPE_" + field.key.text.upper()}), part("value", 2, self.typed(field))]
         return {"name": entry_name(field.name.text), "field": fields, "options": {"mapEntry": True}}
 
     def enum(self, block):

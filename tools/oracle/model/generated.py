@@ -4,8 +4,10 @@ Names come from small pools, so that new names often collide, capture, clash or 
 that resolves to their names. A workspace compiles by how it is made; the model is asked for its faults nevertheless.
 """
 
+from faults import faults_of
+from grammar import LISTED, SCALARS, Reference, Token, Value, derived_json, entry_name
 from renames import KINDS
-from schemas import LISTED, SCALARS, Reference, Token, Use, Value, Workspace, derived_json, entry_name
+from schemas import Use, Workspace
 
 PATHS = "a b c d Z p/a p/q/x-1 p/b a.b _u v1/m".split()
 PACKAGES = ["", "p", "p.q", "q", "p.q.r", "a", "a.b", "b", "x.M", "p.M"]
@@ -114,7 +116,7 @@ class Maker:
         for place, package in enumerate(packages):
             files.append(self.file(place, paths, tuple(package.split(".")) if package else ()))
         self.fill(files, paths)
-        return {path + ".proto": self.spelled(tokens) for path, (_, tokens) in zip(paths, files)}
+        return {path + ".proto": spelled(self.chance, self.flat(tokens)) for path, (_, tokens) in zip(paths, files)}
 
     # ---- what is declared
 
@@ -390,28 +392,29 @@ class Maker:
                 yield from self.flat(token.tokens)
 
     def plain(self, tokens):
-        return " ".join(self.flat(tokens))
+        return " ".join(self.flat(tokens)).encode().decode("latin-1")
 
-    def spelled(self, tokens):
-        """A text of these tokens, as bytes read as Latin-1."""
-        text, share = "", self.chance.choice([0, 0.03, 0.3])
-        before = ""
-        for token in self.flat(tokens):
-            if self.rolls(share):
-                text += self.chance.choice(TRIVIA)
-            elif before and is_letter(before[-1]) and (is_letter(token[0]) or token[0] == "-"):
-                text += " "
-            elif before and token not in tuple(";,.)>]") and before not in tuple(".(<["):
-                text += " "
-            elif before and before[-1] in "\"'" and token[0] in "\"'":
-                text += " "
-            text += token
-            before = token
-        if self.rolls(0.1):
-            text += self.chance.choice([" // the end", "\n", " /* x */", "   "])
-        if self.rolls(0.02):
-            text += " " * (1_048_576 - self.chance.choice([0, 0, 1, 2, 5, 16, 20, 30]) - len(text.encode()))
-        return text.encode().decode("latin-1")
+
+def spelled(chance, tokens):
+    """A text of these tokens, as bytes read as Latin-1."""
+    text, share = "", chance.choice([0, 0.03, 0.3])
+    before = ""
+    for token in tokens:
+        if chance.random() < share:
+            text += chance.choice(TRIVIA)
+        elif before and is_letter(before[-1]) and (is_letter(token[0]) or token[0] == "-"):
+            text += " "
+        elif before and token not in tuple(";,.)>]") and before not in tuple(".(<["):
+            text += " "
+        elif before and before[-1] in "\"'" and token[0] in "\"'":
+            text += " "
+        text += token
+        before = token
+    if chance.random() < 0.1:
+        text += chance.choice([" // the end", "\n", " /* x */", "   "])
+    if chance.random() < 0.02:
+        text += " " * (1_048_576 - chance.choice([0, 0, 1, 2, 5, 16, 20, 30]) - len(text.encode()))
+    return text.encode().decode("latin-1")
 
 
 def is_letter(character):
@@ -427,7 +430,7 @@ def workspace_by_chance(chance, counts=(1, 1, 1, 2, 2, 3, 3, 4, 5, 6, 7, 8)):
     """The texts of a workspace that compiles, of as many files as one of these counts says."""
     while True:
         texts = Maker(chance, counts).workspace()
-        if not Workspace(texts).faults():
+        if not faults_of(Workspace(texts)):
             return texts
 
 

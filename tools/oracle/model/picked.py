@@ -3,7 +3,7 @@ picked by what the model answers to them."""
 
 from edits import answer
 from generated import FIELDS, PATHS, Renamer
-from schemas import Oneof
+from grammar import Oneof
 
 NEARLY_FULL = 1_048_500
 

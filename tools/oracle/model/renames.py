@@ -4,9 +4,9 @@ docs/edits.md has them. Everything is read in the workspace as it is before the 
 
 import copy
 
-from schemas import LISTED, WORD, derived_json, entry_name, fits
+from grammar import LISTED, MAX_BYTES, WORD, derived_json, entry_name
+from schemas import fits
 
-MAX_BYTES = 1_048_576
 KINDS = ("message", "enum", "service", "field", "extension", "value", "method")
 
 

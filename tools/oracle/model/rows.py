@@ -1,13 +1,11 @@
-"""Renames with their answers, counted by hand. A row has files, the renames asked one after another, and for each what is
-printed, with the splices `path at old new` of an accepted one, and a piece of the descriptors after it. More rows, of all
-edits, are data of crates/protoref_rows.
+"""Renames with their answers and workspaces with their faults, counted by hand. A row of renames has files, the renames asked one
+after another, and for each what is printed, with the splices `path at old new` of an accepted one, and a piece of the descriptors
+after it. More rows, of all edits, are data of crates/protoref_rows.
 """
 
 import re
 
 P3 = 'syntax = "proto3"; '
-# The faults that the model reports, with their places.
-OF_EXTENSIONS = (25, 27, 31, 36, 37, 38)
 ONE = P3 + "message A { string b_c = 1; }"
 ENUMS = (
     "message M { enum E { V = 0; } optional E e = 1 [default = V]; }"
@@ -57,17 +55,25 @@ def values_of_table(table):
 
 
 def rows_of_faults(source):
-    """The rows that a source of tests has of faults of extensions: texts by path, and the number, the path and the offset."""
+    """The rows that a source of tests has of faults: texts by path, and the least one as `path:offset: number name`."""
     for table in re.findall(r"^const \w+: &\[\(&str, &str\)\] = (.*?\];)$", source, re.S | re.M):
         reported = values_of_table("[" + ",".join(one for one in TEXT.findall(table) if one[0] == '"') + "]")
         for given, said in zip(reported[::2], reported[1::2]):
-            fault = re.fullmatch(r"(\S+):(\d+): (\d+) \w+", said)
-            if fault and int(fault[3]) in OF_EXTENSIONS:
-                yield texts_of(given, "|"), int(fault[3]), fault[1], int(fault[2])
+            if re.fullmatch(r"\S+:\d+: \d+ \w+", said):
+                yield texts_of(given, "|"), said
+
+
+def rows_of_problems(source):
+    """The rows that a table has of what `compile` prints of a fault: texts by path, and the line."""
+    for block in source.split("\n\n"):
+        one = {key: ESCAPE.sub(lambda it: PLAIN[it[1]], text[1:]) for key, _, text in (line.partition(":") for line in block.splitlines())}
+        if "problem" in one and "files" in one:
+            yield texts_of(one["files"]), one["problem"].removeprefix("compile > ").rstrip("\n")
 
 
 def texts_of(written, between=" | "):
-    return {path: text for path, _, text in (file.partition(" ") for file in written.split(between)) if path}
+    """Texts by path; a path ends with `.proto`."""
+    return dict(re.fullmatch(r"(.*?\.proto) ?(.*)", file, re.S).groups() for file in written.split(between) if file)
 
 
 def step_of(written):
@@ -155,18 +161,96 @@ ROWS = [
 ]
 ONE_EXTENSION = "message M { extensions 100 to 199; } extend M { optional int32 x = %s; }"
 OF_TWO = {"a.proto": "message M { extensions 1; }", "b.proto": 'import "a.proto"; extend M { optional int32 x = 1; }'}
-# Files, and the least fault of extensions as it is printed.
+# Files, and all faults of the first faulty phase as they are printed, without what is behind the number.
 FAULTS = [
-    (ONE_EXTENSION % "100", ""),
-    (ONE_EXTENSION % "99", "a.proto:1:68: 36 NotExtendable"),
-    (ONE_EXTENSION % "200", "a.proto:1:68: 36 NotExtendable"),
-    ("extend M { optional int32 x = 5; } message M { extensions 9 to 1; }", "a.proto:1:31: 36 NotExtendable"),
-    ("message M { reserved 1; extensions 2; } extend M { optional int32 x = 1; }", "a.proto:1:71: 36 NotExtendable"),
-    ("message M { extensions 1; } extend M { optional int32 x = 0x1; repeated M y = 01; }", "a.proto:1:79: 37 DuplicateExtension"),
-    ({**OF_TWO, "c.proto": 'import "a.proto"; package c; extend M { optional int32 x = 1; }'}, "c.proto:1:60: 37 DuplicateExtension"),
-    ("message M { extensions 1; } extend M { required int32 x = 1; }", "a.proto:1:40: 38 RequiredExtension"),
-    ("message M { extensions 1; } extend M { int32 x = 1; }", "a.proto:1:40: 25 Label"),
-    ('message M { extensions 1; } extend M { optional int32 x = 1 [json_name = "q"]; }', "a.proto:1:62: 27 BadOption"),
-    ('message M { extensions 1; } extend M { optional int32 x = 1 [json_name = "x"]; }', "a.proto:1:62: 27 BadOption"),
-    (P3 + "message M {} extend M { required int32 x = 1; }", "a.proto:1:33: 31 NotInProto3"),
+    (ONE_EXTENSION % "100", []),
+    (ONE_EXTENSION % "99", ["a.proto:1:68: 36"]),
+    (ONE_EXTENSION % "200", ["a.proto:1:68: 36"]),
+    ("extend M { optional int32 x = 5; } message M { extensions 9 to 1; }", ["a.proto:1:31: 36", "a.proto:1:59: 17"]),
+    ("message M { reserved 1; extensions 2; } extend M { optional int32 x = 1; }", ["a.proto:1:71: 36"]),
+    ("message M { extensions 1; } extend M { optional int32 x = 0x1; repeated M y = 01; }", ["a.proto:1:79: 37"]),
+    ({**OF_TWO, "c.proto": 'import "a.proto"; package c; extend M { optional int32 x = 1; }'}, ["c.proto:1:60: 37"]),
+    ("message M { extensions 1; } extend M { required int32 x = 1; }", ["a.proto:1:40: 38"]),
+    ("message M { extensions 1; } extend M { int32 x = 1; }", ["a.proto:1:40: 25"]),
+    ('message M { extensions 1; } extend M { optional int32 x = 1 [json_name = "q"]; }', ["a.proto:1:62: 27"]),
+    ('message M { extensions 1; } extend M { optional int32 x = 1 [json_name = "x"]; }', ["a.proto:1:62: 27"]),
+    (
+        P3 + "message M {} extend M { required int32 x = 1; }",
+        ["a.proto:1:33: 31", "a.proto:1:44: 31", "a.proto:1:44: 38", "a.proto:1:63: 36"],
+    ),
+    # Paths, by their bytes; a file too many is found where the paths are in order.
+    ([("b c.proto", ""), ("B.txt", "#"), ("a.proto", "#")], ["B.txt:1:1: 33", "b c.proto:1:1: 33"]),
+    ([("a.proto", ""), ("b.proto", ""), ("a.proto", "")], ["a.proto:1:1: 34"]),
+    ([("a/../b.proto", ""), ("a/../b.proto", "")], ["a/../b.proto:1:1: 33", "a/../b.proto:1:1: 34"]),
+    ([(f"{number}.proto", "") for number in range(10000, 14098)], ["14096.proto:1:1: 35"]),
+    # One fault of the text a file; the grammar is not looked at.
+    (
+        {"a.proto": "message", "b.proto": "a\n #", "c.proto": "08 #", "d.proto": '"\xff"'},
+        ["b.proto:2:2: 3", "c.proto:1:1: 7", "d.proto:1:1: 2"],
+    ),
+    ({"a.proto": '"\\q" /*', "b.proto": "'\\'", "c.proto": "/* /*/"}, ["a.proto:1:1: 6", "b.proto:1:1: 5"]),
+    # One of the grammar a file.
+    (
+        {"a.proto": "message M { reserved 1, ; }", "b.proto": 'import "x";', "c.proto": "message M {"},
+        ["a.proto:1:13: 8", "c.proto:1:12: 8"],
+    ),
+    ({"a.proto": "enum E { A = 0 } }", "b.proto": "; " + "{" * 40}, ["a.proto:1:10: 8", "b.proto:1:35: 9"]),
+    # Imports: a path that is not there is named twice, and one that leads back.
+    (
+        {"a.proto": 'import "x"; import "b.proto"; import "x";', "b.proto": 'import "a.proto"; import public "a.proto";'},
+        [
+            "a.proto:1:8: 10",
+            "a.proto:1:20: 12",
+            "a.proto:1:38: 10",
+            "a.proto:1:38: 11",
+            "b.proto:1:8: 12",
+            "b.proto:1:33: 11",
+            "b.proto:1:33: 12",
+        ],
+    ),
+    # Names: a map field with its entry, its key and its value counts once; a prefix of a package comes before all files.
+    (
+        "message M { message FooEntry { optional M key = 1; } map<int32,M> foo = 1; optional N foo = 2; }",
+        ["a.proto:1:67: 13", "a.proto:1:87: 13"],
+    ),
+    ({"a.proto": "message p {} enum q { r = 0; }", "b.proto": "package p.s; enum q { r = 0; s = 1; }"}, ["a.proto:1:9: 13"]),
+    ({"a.proto": "enum q { r = 0; }", "b.proto": "enum p { r = 0; q = 1; }"}, ["b.proto:1:10: 13", "b.proto:1:17: 13"]),
+    # References: the fields' numbers are not looked at.
+    (
+        "enum E { V = 0; } message M { map<string,X> foo = 0; optional FooEntry y = 0; } service S { rpc R (E) returns (.E); } extend E {}",
+        ["a.proto:1:42: 14", "a.proto:1:63: 16", "a.proto:1:100: 15", "a.proto:1:112: 15", "a.proto:1:126: 15"],
+    ),
+    # Numbers and ranges.
+    (
+        "message M { optional int32 a = 0; optional int32 a2 = 0; }",
+        ["a.proto:1:32: 17", "a.proto:1:55: 17", "a.proto:1:55: 18"],
+    ),
+    (
+        "message M { reserved 2, 1 to max, 9 to 8; extensions 0 to 1; optional M b = 1; }",
+        ["a.proto:1:25: 21", "a.proto:1:35: 17", "a.proto:1:54: 17", "a.proto:1:54: 21", "a.proto:1:77: 19"],
+    ),
+    (
+        "enum E { reserved -3 to -5, -4; A = -4; B = 0; C = 0; D = -2147483649; reserved 'B', 'x', \"\\102\"; }",
+        ["a.proto:1:19: 17", "a.proto:1:37: 19", "a.proto:1:41: 20", "a.proto:1:52: 32", "a.proto:1:59: 17", "a.proto:1:91: 20"],
+    ),
+    # Options: one that is wrong in two ways counts once, of two defaults the first has to fit.
+    (
+        "message M { optional bytes a = 1 [default = 'x', default = 0, packed = 1, packed = true, json_name = 'x']; }",
+        ["a.proto:1:35: 28", "a.proto:1:50: 27", "a.proto:1:63: 27", "a.proto:1:75: 27"],
+    ),
+    # Labels, and what proto3 does not have.
+    (
+        P3 + "message M { required M a_b = 1 [default = 1]; M aB = 2; oneof o {} extensions 9; map<bytes,E> c = 3; } enum E { X = 1; }",
+        [
+            "a.proto:1:32: 31",
+            "a.proto:1:52: 31",
+            "a.proto:1:68: 30",
+            "a.proto:1:82: 29",
+            "a.proto:1:87: 31",
+            "a.proto:1:105: 26",
+            "a.proto:1:111: 23",
+            "a.proto:1:136: 23",
+        ],
+    ),
+    ({"a.proto": "enum E {}", "b.proto": P3 + 'import "a.proto"; message M { E e = 1; }'}, ["a.proto:1:6: 22", "b.proto:1:50: 24"]),
 ]

@@ -4,8 +4,9 @@ and what becomes of the descriptors, as docs/edits.md has them. Everything is re
 
 import copy
 
-from renames import MAX_BYTES, is_below
-from schemas import Oneof, Reserved, entry_name, fits
+from grammar import MAX_BYTES, Oneof, Reserved, entry_name
+from renames import is_below
+from schemas import fits
 
 
 class Statement:
