@@ -1,0 +1,4 @@
+pub mod Lines
+pub mod Names
+pub mod Headers
+pub mod Grammar

@@ -1,0 +1,6 @@
+pub mod Boundaries
+pub mod Lines
+pub mod Orders
+pub mod Puts
+pub mod Utf16Units
+pub mod Walks

@@ -1,0 +1,4 @@
+pub mod Lines
+pub mod Positions
+pub mod TextEdits
+pub mod EditViews

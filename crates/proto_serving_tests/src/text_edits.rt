@@ -1,0 +1,84 @@
+//! Splices as text edits, written as `LINE:COLUMN-LINE:COLUMN=NEW`.
+
+use proto_base::MAX_LEN;
+use proto_positions::{Encoding, RangeEdit, have_positions, text_edits};
+use proto_text::{Splice, Splices};
+use std::process::Abort;
+
+/// a is byte 0, é 1 and 2, 😀 3 to 6, b 7, CR LF 8 and 9, c 10, a lone CR 11, d 12, LF 13.
+const TEXT: &str = "aé😀b\r\nc\rd\n";
+
+/// The offset, the old and the new text of each splice.
+type Rows = &'static [(u32, &'static str, &'static str)];
+
+/// Splices, and their text edits in UTF-16 and in UTF-8.
+const EDITS: &[(Rows, &str, &str)] = &[
+    (&[], "", ""),
+    (&[(0, "a", "b")], "0:0-0:1=b;", "0:0-0:1=b;"),
+    (
+        &[(1, "é", "e"), (3, "😀", ""), (7, "b\r\n", "x")],
+        "0:1-0:2=e;0:2-0:4=;0:4-1:0=x;",
+        "0:1-0:3=e;0:3-0:7=;0:7-1:0=x;",
+    ),
+    // Two that stand at one offset keep their order.
+    (
+        &[(10, "", "x"), (10, "", "y"), (11, "\rd", "é")],
+        "1:0-1:0=x;1:0-1:0=y;1:1-2:1=é;",
+        "1:0-1:0=x;1:0-1:0=y;1:1-2:1=é;",
+    ),
+    (&[(14, "", "e")], "3:0-3:0=e;", "3:0-3:0=e;"),
+    // An end within a line end, or past the text.
+    (&[(8, "\r", "")], "none", "none"),
+    (&[(9, "\n", "")], "none", "none"),
+    (&[(14, "a", "")], "none", "none"),
+];
+
+fn put_splices<R: AllocGlobal + Abort>(rt: &R, rows: Rows) -> Vec<Splice> {
+    let mut splices = Vec::new(rt.alloc());
+    for (at, old, new) in rows {
+        let splice = Splice {
+            at: *at,
+            old: String::from_str(rt.alloc(), old).expect(rt, "memory"),
+            new: String::from_str(rt.alloc(), new).expect(rt, "memory"),
+        };
+        splices.push(splice).expect(rt, "memory");
+    }
+    splices
+}
+
+fn put_edit<R: AllocGlobal + Abort>(rt: &R, out: &mut String, edit: &RangeEdit) {
+    let (start, end) = (edit.start, edit.end);
+    write!(out, "{}:{}-", start.line, start.character).expect(rt, "memory");
+    write!(out, "{}:{}=", end.line, end.character).expect(rt, "memory");
+    write!(out, "{};", edit.new).expect(rt, "memory");
+}
+
+// The text edits of the splices, or that they have none.
+fn shown<R: AllocGlobal + Abort>(rt: &R, encoding: Encoding, splices: &Splices) -> String {
+    let mut out = String::new(rt.alloc());
+    let text = TEXT.as_bytes();
+    if text.len() > MAX_LEN || !have_positions(text, splices) {
+        out.push_str("none").expect(rt, "memory");
+        return out;
+    }
+    let edits = text_edits(rt.alloc(), text, encoding, splices).expect(rt, "memory");
+    for edit in &edits {
+        put_edit(rt, &mut out, edit);
+    }
+    out
+}
+
+fn is_shown<R: AllocGlobal + Abort>(rt: &R, encoding: Encoding, rows: Rows, said: &str) -> bool {
+    match Splices::new(put_splices(rt, rows)) {
+        Ok(splices) => shown(rt, encoding, &splices).as_str() == said,
+        Err(_) => false,
+    }
+}
+
+#[test]
+fn splices_are_text_edits(rt: HostRuntime) {
+    for (rows, wide, bytes) in EDITS {
+        assert!(rt; is_shown(&rt, Encoding::Utf16, rows, wide), "{wide}");
+        assert!(rt; is_shown(&rt, Encoding::Utf8, rows, bytes), "{bytes}");
+    }
+}
