@@ -9,7 +9,6 @@ use Rattle.proto_names_imports.proofs.Common.{names_are_plain, use_in}
 use Rattle.proto_names_imports.specs.Links.{LinkFaults, names_in, names_of_files, text_of, used_named, uses_of}
 use Rattle.proto_names.specs.LinkOfFiles.{IsLinkRead, meant_by_link, meant_by_use}
 use Rattle.proto_names.specs.Linking.{LinkOf, Meant, NameOf, name_at}
-use Rattle.proto_names_update.specs.Edited.{AreEdited}
 use Rattle.proto_names_update.proofs.Clean.{no_reference}
 use Rattle.proto_names_update.proofs.Differing.{turned}
 use Rattle.proto_resolved.specs.SceneOf.{declared_as, enum_named, is_proto3_file, meaning_of}

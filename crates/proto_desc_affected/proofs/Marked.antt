@@ -1,6 +1,6 @@
 -- What is kept of a file that need not be re-checked tells that the file is unaffected.
-use Rattle.std.proofs.Common.{◌≡◌, ℕ, suc, ◌+◌, ◌<◌, Bool, false, List, [], ◌∷◌, length, get_or, map, Option, Some, None, option_map, refl, sym, ◌∙◌, ap, subst, inl, inr, ◌⊎◌, arith, All, Contains}
-use Rattle.proto_base.proofs.Common.{cases_eq, contains_cases, contains_head, contains_later, contains_map, false≢true, from_map, same_Some, contains_or_not}
+use Rattle.std.proofs.Common.{◌≡◌, ℕ, suc, ◌+◌, ◌<◌, Bool, false, List, [], ◌∷◌, length, get_or, map, Option, Some, None, option_map, refl, sym, ◌∙◌, ap, subst, inl, inr, arith, All, Contains}
+use Rattle.proto_base.proofs.Common.{contains_head, contains_later, contains_map, false≢true, from_map, same_Some, contains_or_not}
 use Rattle.proto_case.specs.Camel.{entry_name}
 use Rattle.proto_files.proofs.Common.{FileOf, HasNoFault, ReadOf}
 use Rattle.proto_names_rules.specs.declared.kind.Kind.{Kind}

@@ -1,5 +1,5 @@
 -- What a scene says of its references without the names of values.
-use Rattle.std.proofs.Common.{◌≡◌, ◌==◌, Bool, true, false, List, [], ◌∷◌, map, find, Option, Some, None, option_map, is_some, cond, option_and_then, refl, ap, ◌∙◌}
+use Rattle.std.proofs.Common.{◌≡◌, ◌==◌, Option, Some, None, option_map, is_some, option_and_then, refl, ap, ◌∙◌}
 use Rattle.proto_tree.specs.declared.tree.Reference.{Reference}
 use Rattle.proto_tree.specs.References.{first_of}
 use Rattle.proto_ast.proofs.Common.{EnumOf, MeantOf, Scene, enum_meant, meant_by}

@@ -1,5 +1,5 @@
 -- The flaws of a file's extensions as they are told are those of the definition: names are told apart by their texts.
-use Rattle.std.proofs.Common.{◌≡◌, ℕ, zero, suc, Bool, true, false, not, ◌&&◌, ◌||◌, List, [], ◌∷◌, ◌++◌, map, flat_map, Option, Some, None, option_and_then, refl, sym, ap, subst, ◌∙◌, bytes_eq, int_eq, find, ◌==◌}
+use Rattle.std.proofs.Common.{◌≡◌, ℕ, zero, suc, Bool, not, ◌&&◌, ◌||◌, List, [], ◌∷◌, ◌++◌, map, flat_map, Option, Some, None, option_and_then, refl, sym, ap, subst, ◌∙◌, bytes_eq, int_eq, find, ◌==◌}
 use Rattle.proto_base.proofs.Common.{AllByRecursion, bytes_eq-Decides, list_any, map-append}
 use Rattle.proto_base.specs.declared.fault.FaultKind.TheVariants as kind
 use Rattle.proto_tree.specs.References.{first_of}

@@ -1,6 +1,6 @@
 -- The extensions of a file as they are written, whatever cap their numbers have: each stands in an `extend` block of the file.
-use Rattle.std.proofs.Common.{◌≡◌, ℕ, zero, suc, ℤ, not, List, [], ◌∷◌, ◌++◌, map, flat_map, Option, Some, None, option_and_then, refl, sym, ◌∙◌, ap, subst, inl, inr, arith, Contains, false}
-use Rattle.proto_base.proofs.Common.{Contains-append_cases, Contains-append_left, Contains-append_right, contains_head, contains_later, from_map, map-append}
+use Rattle.std.proofs.Common.{◌≡◌, ℕ, zero, suc, ℤ, not, List, [], ◌∷◌, ◌++◌, map, flat_map, Option, Some, None, option_and_then, refl, sym, ◌∙◌, ap, subst, arith, Contains, false}
+use Rattle.proto_base.proofs.Common.{Contains-append_left, Contains-append_right, from_map, map-append}
 use Rattle.proto_base.specs.declared.fault.FaultKind.TheVariants as kind
 pub use Rattle.proto_base.proofs.Common.{from_flat_map}
 use Rattle.proto_tree.specs.declared.piece.Header.{Header}

@@ -1,11 +1,8 @@
 -- Files that compile are read, and compile when they are given again (for the crates above).
-use Rattle.std.proofs.Common.{◌≡◌, ℕ, suc, List, [], ◌∷◌, length, refl, subst, inl, inr, arith, AllPairs}
-use Rattle.proto_base.proofs.Common.{IsPermutation-sym, All-permutation, cases_lt, length_permutation, from_map, text_limit}
-use Rattle.proto_text.proofs.OneEdit.{length_map}
-use Rattle.proto_base.specs.declared.fault.FaultKind.{FaultKind}
-use Rattle.proto_base.specs.declared.fault.FaultKind.TheVariants.{BadPath, DoublePath, TooLarge, TooManyFiles}
-use Rattle.proto_files.proofs.Common.{FaultAt, IsLeastFault, FileOf, paths_of, AreWorkspaceFiles, IsPathFault, IsWorkspacePath, IsBefore, one_order, PathsRise, count_once}
-use Rattle.proto_files.proofs.Members.{Contains-from_member}
+use Rattle.std.proofs.Common.{◌≡◌, List, [], length, refl, subst, inl, inr, arith}
+use Rattle.proto_base.proofs.Common.{IsPermutation-sym, All-permutation, cases_lt, length_permutation, text_limit}
+use Rattle.proto_base.specs.declared.fault.FaultKind.TheVariants.{TooLarge}
+use Rattle.proto_files.proofs.Common.{FaultAt, IsLeastFault, FileOf, AreWorkspaceFiles, IsWorkspacePath, one_order}
 use Rattle.proto_edit_entries.specs.Putting.{AreShortFiles}
 use Rattle.proto_desc.specs.Whole.{IsSortedOf, FileFaults, WorkspaceFaults, of_path, of_files, of_read}
 use Rattle.proto_desc.proofs.GivenInOrder.{no_fault_of_path}

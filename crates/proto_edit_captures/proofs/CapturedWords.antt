@@ -1,5 +1,5 @@
 -- The answer by texts for one reference is that of the definition by names.
-use Rattle.std.proofs.Common.{◌≡◌, ◌≢◌, ℕ, zero, suc, ◌-◌, ◌<◌, ◌≤◌, Bool, true, false, ◌&&◌, if◌then◌else◌, List, [], ◌∷◌, ◌++◌, length, take, drop, Option, Some, None, refl, sym, ap, subst, ◌∙◌, inl, inr, arith, ◌==◌, nat_eq, bytes_eq, eq-eqb, eqb-true, length-take-le, take-append-drop, take_at}
+use Rattle.std.proofs.Common.{◌≡◌, ◌≢◌, ℕ, ◌-◌, ◌<◌, ◌≤◌, Bool, true, false, ◌&&◌, if◌then◌else◌, List, [], ◌∷◌, ◌++◌, length, take, drop, Option, Some, None, refl, sym, ap, subst, ◌∙◌, inl, inr, arith, ◌==◌, nat_eq, bytes_eq, eq-eqb, eqb-true, length-take-le, take-append-drop, take_at}
 use Rattle.proto_base.proofs.Common.{starts_with, and_from, and_parts, both_ways, cond-false, or_cases, or_left, or_right, none-some, same_from_word, word_from_same}
 use Rattle.proto_names_rules.proofs.Common.{Renaming, Collides, IsCaptured, ren, rewritten, shows_mapped, target, ArePlain, IsPlain, joined, IsLinked, IsRenaming, Reference, Workspace, fits_at_first, front_at, hit, meaning, meaning_at, same_name, shows, typed, name_from_same, same_from_name, joined_apart, hit_relative}
 use Rattle.proto_names_imports.proofs.PlainNames.{plain_join}

@@ -1,5 +1,5 @@
 -- A declaration of a list stands right below the path that its entry says.
-use Rattle.std.proofs.Common.{◌≡◌, ℕ, zero, suc, ◌+◌, ◌<◌, ◌≤◌, List, [], ◌∷◌, ◌++◌, length, get_or, map, refl, sym, ◌∙◌, ap, arith, append_assoc, length-append, reverse, append-nil}
+use Rattle.std.proofs.Common.{◌≡◌, ℕ, zero, suc, ◌+◌, ◌<◌, ◌≤◌, List, [], ◌∷◌, ◌++◌, length, get_or, map, refl, sym, ◌∙◌, ap, arith, append_assoc, length-append, reverse}
 use Rattle.std.proofs.lemmas.List.{map-append, length-map, get_or_append_left, get_or_at, reverse-append}
 use Rattle.proto_names_outline.specs.Listing.{needs, path_at, path_of, read, read_on, seen, source_of, whole}
 use Rattle.proto_names_outline.specs.declared.listing.Above.{Above}

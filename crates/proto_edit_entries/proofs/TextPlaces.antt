@@ -1,6 +1,6 @@
 -- Texts of changed files at their places: they are what is put, where the changes rise by their paths. (Public for the crates above.)
-use Rattle.std.proofs.Common.{◌≡◌, ◌≢◌, ℕ, zero, suc, ◌+◌, ◌<◌, ◌≤◌, true, cond, nat_lt, List, [], ◌∷◌, ◌++◌, length, get_or, map, take, take_all, slice_set, Option, Some, None, position, bytes_eq, refl, sym, ap, subst, ◌∙◌, arith, inl, inr, Contains}
-use Rattle.proto_base.proofs.Common.{Contains-get_or, Vec, cases_lt, cond-true, contains_cases, contains_head, contains_later, contains_map, get_or_default, get_or-map, length-map, map_more, map_push, nat_tests, none-some, position-Some, position_or_len, same_from_word, word_from_same, AllPairs-cons, Text}
+use Rattle.std.proofs.Common.{◌≡◌, ◌≢◌, ℕ, zero, suc, ◌+◌, ◌<◌, ◌≤◌, true, nat_lt, List, [], ◌∷◌, ◌++◌, length, get_or, map, take, take_all, slice_set, Some, None, position, bytes_eq, refl, sym, ap, subst, ◌∙◌, arith, inl, inr, Contains}
+use Rattle.proto_base.proofs.Common.{Contains-get_or, Vec, cases_lt, cond-true, contains_cases, contains_head, contains_later, contains_map, get_or_default, get_or-map, length-map, map_more, map_push, nat_tests, none-some, position-Some, position_or_len, same_from_word, word_from_same, Text}
 use Rattle.std.proofs.lemmas.List.Sums.{fails_before_first}
 use Rattle.proto_files.proofs.Common.{FileOf, file_at, paths_of, IsBefore, never_before_itself, before_trans}
 use Rattle.proto_edit_entries.specs.declared.entry.Change.{Change}

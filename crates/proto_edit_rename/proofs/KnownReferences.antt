@@ -1,6 +1,6 @@
 -- What a reference means knows of it: it is among the references to that name, which its file declares.
 use Rattle.std.proofs.Common.{◌≡◌, ◌≢◌, ℕ, ◌+◌, ◌<◌, Bool, true, filter, is_some, List, [], ◌∷◌, ◌++◌, length, get_or, map, option_map, Option, Some, None, refl, sym, ap, subst, ◌∙◌, inl, inr, arith, length-append, Contains, append-nil, true≢false}
-use Rattle.proto_base.proofs.Common.{none-some, same_Some, from_map, contains_map, same_from_word}
+use Rattle.proto_base.proofs.Common.{from_map, contains_map, same_from_word}
 use Rattle.proto_base.proofs.Lists.{contains_filter}
 use Rattle.proto_case.specs.Camel.{entry_name}
 use Rattle.proto_files.proofs.Common.{HasNoFault, FileOf, file_at, ReadOf, AreRead, read_at}
@@ -9,7 +9,7 @@ use Rattle.proto_names_rules.proofs.Common.{Renaming, target, At, at, used_in, A
 use Rattle.proto_names_rules.specs.declared.kind.Kind.{Kind}
 use Rattle.proto_names_rules.specs.declared.kind.Kind.TheVariants.{Package, Entry, EntryField}
 use Rattle.proto_names_imports.proofs.Common.{LinkFaults, link_skeleton, names_of_files, text_of, used_named, uses_of, name_in, names_are_plain}
-use Rattle.proto_names.proofs.Common.{use_there, IsLinkRead, TextMeant, meant_by_link, meant_by_use, LinkOf, NameOf, name_at, name_text}
+use Rattle.proto_names.proofs.Common.{use_there, IsLinkRead, TextMeant, meant_by_link, meant_by_use, LinkOf, name_text}
 use Rattle.proto_names.specs.Common.{declared_names}
 use Rattle.proto_names.specs.LinkOfFiles.{has_text, reference_id}
 use Rattle.proto_names.specs.Linking.{RefId}

@@ -1,5 +1,5 @@
 -- An added import that no case refuses leaves files without a fault, and one descriptor with an import more.
-use Rattle.std.proofs.Common.{◌≡◌, ℕ, zero, suc, ◌+◌, List, [], ◌∷◌, ◌++◌, length, map, take, drop, Some, None, refl, sym, ◌∙◌, ap, subst, arith, length-take, slice_get, append-nil}
+use Rattle.std.proofs.Common.{◌≡◌, ℕ, ◌+◌, List, [], ◌∷◌, ◌++◌, map, take, drop, Some, None, refl, sym, ◌∙◌, ap, subst, arith, length-take, slice_get, append-nil}
 use Rattle.proto_text.specs.declared.kind.TokenKind.TheVariants.{Text}
 use Rattle.proto_text.proofs.Common.{QuotedStandsForItself, moved, quoted, Lexeme, lexeme_at, value_of, value_again}
 use Rattle.proto_tree.specs.declared.tree.Import.{Import}

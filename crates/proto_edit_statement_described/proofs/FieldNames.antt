@@ -1,5 +1,5 @@
 -- In linked files, fields of a message that stand at different tokens have different names.
-use Rattle.std.proofs.Common.{◌≡◌, ◌≢◌, ℕ, zero, suc, ◌+◌, ◌<◌, ◌⊎◌, None, List, [], ◌∷◌, ◌++◌, length, map, refl, sym, ap, subst, ◌∙◌, inl, inr, arith, AllPairs, Contains}
+use Rattle.std.proofs.Common.{◌≡◌, ◌≢◌, ℕ, suc, ◌+◌, ◌<◌, ◌⊎◌, None, List, [], ◌∷◌, ◌++◌, length, map, sym, ap, subst, ◌∙◌, inl, inr, arith, AllPairs, Contains}
 use Rattle.proto_base.proofs.Common.{map-append, contains_cases, contains_map}
 use Rattle.proto_case.specs.Camel.{entry_name}
 use Rattle.proto_tree.specs.declared.piece.Header.TheVariants as header

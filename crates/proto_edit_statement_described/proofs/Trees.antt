@@ -1,5 +1,5 @@
 -- One tree without the field and without the reservation, and from it both others.
-use Rattle.std.proofs.Common.{◌≡◌, ◌⊎◌, inl, inr, ℕ, suc, ◌+◌, ◌-◌, ◌≤◌, true, false, Option, Some, None, List, [], ◌∷◌, ◌++◌, length, take, drop, map, refl, sym, ap, ap₂, subst, ◌∙◌, arith, length-append, length-take, length-drop, drop-drop, take-append-drop}
+use Rattle.std.proofs.Common.{◌≡◌, ◌⊎◌, inl, inr, ℕ, suc, ◌+◌, ◌-◌, true, false, Option, Some, None, List, [], ◌∷◌, ◌++◌, length, take, drop, map, refl, sym, ap, ap₂, subst, ◌∙◌, arith, length-take, length-drop, take-append-drop}
 use Rattle.proto_base.proofs.Common.{length-map, Contains-append_left, Contains-append_right, contains_head, contains_later}
 use Rattle.proto_text.specs.declared.lexer.Token.{Token}
 use Rattle.proto_text.proofs.Common.{moved, Lexeme, lexeme_at}
@@ -15,7 +15,7 @@ use Rattle.proto_tree.specs.declared.piece.Statement.{Statement}
 use Rattle.proto_tree.specs.declared.piece.Statement.TheVariants as statement
 use Rattle.proto_tree.specs.declared.tree.Field.{Field}
 use Rattle.proto_tree.specs.declared.tree.MapField.{MapField}
-use Rattle.proto_tree.proofs.Common.{Fit, Mark, one, flat_header, flat_statement, Move, move_header, move_heading, move_statement, move_tree, shift, Reads, Tree, End, Leaf, Block, flat, statement_kind, header_kind, allows, after, IsWellFormed, joined_trees, Spells, classes, one_tree, trees_are_numbered, header_kind_moved, kind_moved}
+use Rattle.proto_tree.proofs.Common.{Fit, one, flat_header, flat_statement, Move, move_header, move_heading, move_statement, move_tree, Reads, Tree, End, Leaf, Block, flat, statement_kind, header_kind, allows, after, IsWellFormed, joined_trees, Spells, classes, one_tree, trees_are_numbered, header_kind_moved, kind_moved}
 use Rattle.proto_ast.specs.Parts.{BlockOf, FieldOf, blocks_in, fields_in, statements}
 use Rattle.proto_desc_checks.specs.FileFlaws.{is_empty}
 use Rattle.proto_edit_statement_laws.proofs.Common.{StandsAt, InMessage as StandsInMessage, InOneof as StandsInOneof, Deeper as StandsDeeper, PastLeaf as StandsPastLeaf, PastBlock as StandsPastBlock, StandsIn, First, AfterLeaf, AfterBlock, first_token, next_token, own, reservation_place, without, IsExchanged, Here, Later, Inside, Behind, before, MovesBy, reservation, reservation_tokens, around, cut_around, statements_are_exchanged, found, moved_moves_by, moves_in, reservation_fits, before_field, before_it, block_long, closed, close_at, leaf_long, through, through_message}

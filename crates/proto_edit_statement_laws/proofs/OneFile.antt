@@ -5,7 +5,7 @@ use Rattle.proto_text.specs.declared.lexer.Token.{Token}
 use Rattle.proto_text.specs.Edits.{Edit, Puts}
 use Rattle.proto_tree.proofs.Common.{Reads, Tree, End}
 use Rattle.proto_files.proofs.Common.{ReadOf, read_at, FileOf, file_at, IsText, IsBefore, IsWorkspacePath, never_before_itself}
-use Rattle.proto_edit_entries.proofs.Common.{ChangeOf, HasLengths, IsChange, IsEntry, IsMeasured, EachPuts, IsPut, PutsFile, puts_keep_paths}
+use Rattle.proto_edit_entries.proofs.Common.{ChangeOf, HasLengths, IsChange, IsEntry, IsMeasured, IsPut, PutsFile, puts_keep_paths}
 use Rattle.proto_edit_statement_laws.specs.OneFile.{AreFiles, IsChangedBy, with_read, with_text}
 use Rattle.proto_edit_rules.specs.Statements.{IsTooLong, length_with, one_change}
 use Rattle.proto_edit_rename_laws.proofs.ChangesPut.{each_puts, index_get}

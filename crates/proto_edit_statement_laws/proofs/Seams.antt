@@ -4,7 +4,7 @@ use Rattle.std.proofs.lemmas.List.{length-map}
 use Rattle.proto_text.specs.declared.kind.TokenKind.{TokenKind}
 use Rattle.proto_text.specs.declared.kind.TokenKind.TheVariants.{Word, Number, Text, Punctuation}
 use Rattle.proto_text.specs.declared.lexer.Token.{Token}
-use Rattle.proto_text.proofs.Common.{EndsByItself, IsSeam, Lexeme, lexeme_at}
+use Rattle.proto_text.proofs.Common.{EndsByItself, IsSeam, lexeme_at}
 use Rattle.proto_tree.specs.declared.class.Class.{Class}
 use Rattle.proto_tree.specs.declared.class.Class.TheVariants as class
 use Rattle.proto_tree.specs.declared.class.Expected.TheVariants as want

@@ -1,6 +1,6 @@
 -- What is said of each file, and of one file more.
 use Rattle.std.proofs.Common.{◌≡◌, ℕ, suc, ◌+◌, ◌<◌, List, [], ◌∷◌, ◌++◌, length, get_or, map, refl, sym, ◌∙◌, ap, subst, arith, All}
-use Rattle.proto_base.proofs.Common.{length-map, get_or-map, All-append, All-cons, All-nil}
+use Rattle.proto_base.proofs.Common.{All-append, All-cons, All-nil}
 use Rattle.proto_names_rules.proofs.Common.{AskedImport, At, at}
 use Rattle.proto_names_outline.proofs.Common.{imports_in, items_in, package_first}
 use Rattle.proto_names_imports.proofs.Common.{asked_by, all_asked, asked_as, all_wanted, names_in}

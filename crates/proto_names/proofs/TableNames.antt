@@ -1,12 +1,11 @@
 -- The table of the names of files, and the rows of their declarations.
 use Rattle.std.proofs.Common.{◌≡◌, ◌≢◌, ℕ, suc, ◌+◌, ◌<◌, List, [], ◌∷◌, length, get_or, map, sym, ◌∙◌, ap, subst, inl, inr, arith, All, Contains}
 use Rattle.proto_base.proofs.Common.{Vec, length-map, get_or-map, Contains-append_cases}
-use Rattle.proto_files.proofs.Common.{FileOf, file_at, Each, AreRead, ReadOf, read_at}
-use Rattle.proto_tree.specs.Tree.{End}
+use Rattle.proto_files.proofs.Common.{FileOf, Each, AreRead, ReadOf, read_at}
 use Rattle.proto_names.specs.Common.{declared_names, AreNamesOf, RowIsDeclaredIn}
-use Rattle.proto_names_table.proofs.Common.{AreRows, IsRowAt, named_as, AreSpans, tree_named, IsIndexOf, AreSpelled, Named, all_named, named_in, symbol_named, names_of, as_named, declared_is_named, same_symbols, pick}
-use Rattle.proto_names_rules.proofs.Common.{front, At, at, FileNames, ArePlain, joined, Declared, ItemsSpan, map_map}
-use Rattle.proto_names_outline.proofs.Common.{items_in, package_first, length-read, tree_span}
+use Rattle.proto_names_table.proofs.Common.{AreRows, IsRowAt, named_as, tree_named, IsIndexOf, AreSpelled, Named, all_named, named_in, symbol_named, names_of, as_named, declared_is_named, same_symbols, pick}
+use Rattle.proto_names_rules.proofs.Common.{front, At, at, ArePlain, joined, Declared, map_map}
+use Rattle.proto_names_outline.proofs.Common.{items_in, package_first, length-read}
 use Rattle.proto_names_imports.specs.Links.{AreListings, link_skeleton, names_in, names_of_files, text_of}
 use Rattle.proto_names_rules.specs.declared.kind.Kind.TheVariants.{Package}
 use Rattle.proto_names_outline.specs.declared.listing.Listing.{Listing}

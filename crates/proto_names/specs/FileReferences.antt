@@ -4,19 +4,16 @@ use Rattle.std.specs.Global.{Vec}
 use Rattle.std.specs.List.{All}
 use Rattle.proto_base.specs.Texts.{Text}
 use Rattle.proto_files.specs.GivenFiles.{FileOf}
-use Rattle.proto_case.specs.Camel.{entry_name}
 use Rattle.proto_names_rules.specs.Faults.{fault, IsLeast, ReferenceFault}
-use Rattle.proto_names_outline.specs.FromTree.{items_in}
 use Rattle.proto_names_rules.specs.Grown.{At, at}
-use Rattle.proto_files.specs.FilesRead.{ReadOf, read_at}
+use Rattle.proto_files.specs.FilesRead.{ReadOf}
 pub use Rattle.proto_names_imports.specs.Links.{uses_of}
 use Rattle.proto_names_imports.specs.Links.{link_skeleton, names_of_files, text_of}
-use Rattle.proto_names_outline.specs.Listing.{package_first, whole}
 use Rattle.proto_names_rules.specs.Names.{Workspace}
 use Rattle.proto_names_table.specs.Naming.{used_named}
 use Rattle.proto_names_update.specs.NamesOfFiles.{declared_names}
 use Rattle.proto_names.specs.Referring.{IsFaultless, IsFlawed, IsReadBy, AreMeant}
-use Rattle.proto_names_rules.specs.Skeleton.{Used, name_of}
+use Rattle.proto_names_rules.specs.Skeleton.{Used}
 use Rattle.proto_names.specs.declared.references.BadReference.{BadReference}
 use Rattle.proto_names_table.specs.declared.ids.Meant.{Meant}
 use Rattle.proto_base.specs.declared.or_no_memory.OrNoMemory.{OrNoMemory}

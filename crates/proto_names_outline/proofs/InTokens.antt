@@ -2,11 +2,11 @@
 use Rattle.std.proofs.Common.{◌≡◌, ℕ, suc, ◌+◌, ◌<◌, ◌≤◌, List, [], ◌∷◌, ◌++◌, length, map, Option, Some, None, refl, ap, subst, ◌∙◌, arith, Contains}
 use Rattle.proto_base.proofs.Common.{AllByRecursion, All-contains, All-from_recursion}
 use Rattle.proto_text.specs.declared.lexer.Token.{Token as TextToken}
-use Rattle.proto_text.proofs.Common.{Lexeme, lexeme_at, length_map}
+use Rattle.proto_text.proofs.Common.{lexeme_at, length_map}
 use Rattle.proto_tree.specs.declared.class.Class.TheVariants as class
 use Rattle.proto_tree.specs.declared.class.Expected.{Expected}
 use Rattle.proto_tree.specs.declared.class.Expected.TheVariants as want
-use Rattle.proto_tree.proofs.Common.{Mark, Fit, Numbered, Reads, Tree, flat, classes, trees_are_numbered}
+use Rattle.proto_tree.proofs.Common.{Mark, Numbered, Reads, Tree, flat, trees_are_numbered}
 use Rattle.proto_tree.proofs.MarkLaws.{fit_length}
 use Rattle.proto_names_rules.proofs.Common.{Source, Token, EntryOf, Given, Used, Member, field, map_field, oneof, message, enum, service, extend, Members, no_members, member, Items, no_items, packaged, item, Placed, place, placed, all_placed, prefixes, items_placed, package_of, file_placed, key_word, value_word, place_from, rising_each}
 use Rattle.proto_names_rules.specs.declared.kind.Kind.{Kind}

@@ -1,12 +1,12 @@
 -- The names that a tree declares are words (for the crates above).
-use Rattle.std.proofs.Common.{◌≡◌, ℕ, zero, suc, ◌<◌, true, List, [], ◌∷◌, length, get_or, map, Some, refl, sym, subst, arith}
+use Rattle.std.proofs.Common.{◌≡◌, ℕ, ◌<◌, true, List, [], length, get_or, map, Some, refl, sym, subst}
 use Rattle.std.specs.List.{Contains}
 use Rattle.proto_text.specs.declared.class.Class.TheVariants.{Letter}
 use Rattle.proto_text.specs.declared.kind.PieceKind.TheVariants.{Solid}
 use Rattle.proto_text.specs.declared.kind.TokenKind.{TokenKind}
 use Rattle.proto_text.specs.declared.kind.TokenKind.TheVariants.{Word}
 use Rattle.proto_text.specs.declared.lexer.Token.{Token}
-use Rattle.proto_text.proofs.Common.{IsRun, IsLexeme, word_at, words, Lexeme, lexeme_at, tokens_are_lexemes}
+use Rattle.proto_text.proofs.Common.{IsRun, IsLexeme, words, Lexeme, lexeme_at, tokens_are_lexemes}
 use Rattle.proto_tree.specs.declared.class.Class.TheVariants as class
 use Rattle.proto_tree.specs.declared.class.Expected.{Expected}
 use Rattle.proto_tree.specs.declared.class.Expected.TheVariants as want

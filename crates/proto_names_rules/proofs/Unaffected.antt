@@ -1,6 +1,6 @@
 -- Which references are kept where some files are edited: by their places, by keys of words, and where leaves alone differ.
-use Rattle.std.proofs.Common.{◌≡◌, ℕ, true, false, List, [], ◌∷◌, ◌++◌, take, ◌==◌, refl, sym, ◌∙◌, ap, eq-eqb, subst, inl, inr, ◌⊎◌, arith, Contains, true≢false}
-use Rattle.proto_base.proofs.Common.{both_ways, cases_Bool, cases_eq, contains_cases, contains_head, contains_later, or_left, contains_or_not}
+use Rattle.std.proofs.Common.{◌≡◌, ℕ, true, false, List, [], ◌∷◌, ◌++◌, take, ◌==◌, refl, sym, ◌∙◌, ap, eq-eqb, subst, inl, inr, Contains, true≢false}
+use Rattle.proto_base.proofs.Common.{both_ways, cases_Bool, or_left, contains_or_not}
 use Rattle.proto_names_rules.proofs.Common.{Symbol, Workspace, fits_at_first, is_outer, sees}
 use Rattle.proto_names_rules.specs.declared.kind.Kind.{Kind}
 use Rattle.proto_names_rules.proofs.Still.{type_is_outer}

@@ -1,5 +1,5 @@
 -- What files that are not edited declare and refer to is the same (for the crates above).
-use Rattle.std.proofs.Common.{◌≡◌, ℕ, zero, suc, ◌+◌, ◌<◌, List, [], ◌∷◌, ◌++◌, length, map, refl, sym, ◌∙◌, ap, ap₂, subst, inl, inr, arith, Contains}
+use Rattle.std.proofs.Common.{◌≡◌, ℕ, ◌+◌, ◌<◌, List, [], ◌∷◌, ◌++◌, length, map, refl, sym, ◌∙◌, ap, ap₂, subst, arith, Contains}
 use Rattle.proto_base.proofs.Common.{contains_map, from_map, length-map}
 use Rattle.proto_case.specs.Camel.{entry_name}
 use Rattle.proto_text.specs.Texts.{words}
@@ -9,7 +9,7 @@ use Rattle.proto_names_rules.proofs.Common.{At, FileAt, FileNames, Placed, Refer
 use Rattle.proto_names_rules.proofs.Files.{declared_from}
 use Rattle.proto_names_imports.proofs.FileUses.{use_from, use_in}
 use Rattle.proto_names_imports.specs.Links.{names_in, names_of_files, text_of}
-use Rattle.proto_names_imports.proofs.NumberedFiles.{IsNumbered, file_there, numbered}
+use Rattle.proto_names_imports.proofs.NumberedFiles.{file_there, numbered}
 use Rattle.proto_names_update.specs.Edited.{AreEdited, EditedFilesDiffer}
 
 -- ---- by the texts of one file

@@ -1,6 +1,6 @@
 -- What files declare, file by file and all together, and when none of it clashes.
 use Rattle.std.proofs.Common.{◌≡◌, ◌⊎◌, ℕ, zero, suc, ◌+◌, ◌-◌, ◌<◌, List, [], ◌∷◌, ◌++◌, length, get_or, map, refl, sym, ◌∙◌, ap, subst, inl, inr, arith, AllPairs, Contains, get_or-append-add, length-append}
-use Rattle.proto_base.proofs.Common.{Contains-append_cases, Contains-append_left, Contains-append_right, cases_eq, cases_lt, from_map, get_or-append_right, get_or-map, get_or_default, length-map}
+use Rattle.proto_base.proofs.Common.{Contains-append_cases, Contains-append_left, Contains-append_right, cases_eq, cases_lt, from_map, get_or-map, get_or_default, length-map}
 use Rattle.proto_files.proofs.Common.{AreRead, FileOf, ReadOf, file_at, read_at}
 use Rattle.proto_names_imports.specs.Links.{names_in, names_of_files, text_of}
 use Rattle.proto_names_outline.proofs.Common.{items_in, package_first, tree_span}

@@ -1,7 +1,7 @@
 -- Rows of files, of which some are others, and what stands in one of some lists.
 use Rattle.std.proofs.Common.{◌≡◌, ℕ, zero, suc, ◌<◌, List, [], ◌∷◌, length, get_or, refl, sym, ◌∙◌, ap, inl, inr, arith, slice_set, subst, flat_map, map, All, AllPairs, Contains}
 use Rattle.std.proofs.lemmas.List.{get_or-set_other, get_or-set_same, length-set}
-use Rattle.proto_base.proofs.Common.{All-contains, Contains-append_cases, Contains-append_left, Contains-append_right, contains_cases, contains_head, contains_later}
+use Rattle.proto_base.proofs.Common.{All-contains, contains_cases, contains_head, contains_later}
 pub use Rattle.proto_base.proofs.Common.{from_flat_map, to_flat_map}
 use Rattle.proto_names_update.specs.RenewedNames.{rows_with}
 use Rattle.proto_names_update.proofs.FilesDeclare.{pairs_left, pairs_right}

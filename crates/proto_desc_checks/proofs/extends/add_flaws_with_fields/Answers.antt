@@ -2,7 +2,6 @@ use Rattle.std.proofs.Common.{Bool, List, ◌++◌, map, flat_map, ap, ◌∙◌
 use Rattle.proto_base.proofs.Common.{on_ok_weaker, then_added}
 use Rattle.proto_base.specs.declared.fault.FaultKind.TheVariants as kind
 use Rattle.proto_ast.proofs.Common.{FieldOf, field_of}
-use Rattle.proto_desc_numbers.specs.declared.flaw.Flaw.{Flaw}
 use Rattle.proto_desc_numbers.proofs.Common.{flaw_if, is_field_number, number_of_field, outside}
 use Rattle.proto_desc_checks.specs.FieldFlaws.{flaws_of_extension}
 use Rattle.proto_desc_checks.proofs.extends.add_flaws_with_fields.Goals as goal

@@ -1,4 +1,4 @@
-use Rattle.std.proofs.Common.{◌≡◌, ◌∙◌, ℕ, List, ap, sym, subst, Some, None, position, bytes_eq}
+use Rattle.std.proofs.Common.{◌∙◌, ℕ, List, ap, sym, position, bytes_eq}
 use Rattle.proto_files.proofs.Common.{paths_of}
 use Rattle.proto_edit_entries.specs.Entries.{change_of}
 use Rattle.proto_edit_entries.proofs.TextPlaces.{file_changed, no_file_there, no_text_there}
