@@ -1,4 +1,4 @@
--- One change more in a log, one taken back, and elements that were added since.
+-- One change more in a log, one rolled back, and elements that were added since.
 use Rattle.std.proofs.Common.{◌≡◌, ℕ, zero, suc, ◌<◌, List, [], ◌∷◌, ◌++◌, length, get_or, slice_set, take, refl, sym, ◌∙◌, ap, subst, inl, inr, arith}
 use Rattle.std.proofs.lemmas.List.{set-get_or, set-set, take-set-le}
 use Rattle.std.proofs.Math.Seq.{take-set-lt}

@@ -3,7 +3,7 @@ use Rattle.std.specs.Prelude.{◌≡◌, ℕ, ◌<◌, ◌≤◌, List, [], ◌�
 use Rattle.std.specs.List.{All}
 use Rattle.proto_base.specs.declared.changes.Change.{Change}
 
--- the list as it was before the changes of the log, the last of which is taken back first
+-- the list as it was before the changes of the log, the last of which is rolled back first
 abbrev pub undone : {T : Type 0} → List (Change T) → List T → List T
 undone [] items = items
 undone (c ∷ log) items = slice_set (undone log items) c.place c.was

@@ -1,5 +1,5 @@
 //! What stands below all else: the table of faults, a fault at a place, out of memory, and lists
-//! with a log of their changes, which are taken back without memory.
+//! with a log of their changes, which are rolled back without memory.
 #![tactic(auto)]
 
 mod changes;

@@ -50,8 +50,9 @@ impl Model for Files {
 }
 
 impl Files {
-    /// Reads the files. Where a text or the grammar of a file has a fault, the least fault is
-    /// answered: all texts come before all trees.
+    /// Lexes and parses the files. Where a text or the grammar of a file has a fault, the least fault
+    /// is answered: those of all texts come before those of all trees. Otherwise it fails only when
+    /// out of memory.
     pub fn read(alloc: Global, paths: Paths) -> Result<Files, SchemaFault>
         ensures clean { IfOk result (λ _. HasNoFault (ReadFaults paths)) }
         ensures same { IfOk result (λ files. files ≡ paths) }

@@ -96,7 +96,8 @@ fn first_fault(files: &[NamedFile], limit: usize) -> Option<(usize, FaultKind)>
 
 impl Paths {
     /// The files in the order of their paths. Where a path is no workspace path, is given twice, or
-    /// there are more than `MAX_FILES` files, the least such fault is answered.
+    /// there are more than `MAX_FILES` files, the least such fault is answered. Otherwise it fails
+    /// only when out of memory.
     pub fn new(alloc: Global, files: Vec<(String, Vec<u8>)>) -> Result<Paths, SchemaFault>
         ensures clean { IfOk result (λ _. HasNoFault
             (PathFaults MAX_FILES (paths_of (files_of files.items)))) }

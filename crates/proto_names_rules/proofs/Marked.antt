@@ -1,4 +1,4 @@
--- Where some files are looked at again, the references of all others mean what they meant (for the crates above).
+-- Where some files are re-resolved, the references of all others mean what they meant (for the crates above).
 use Rattle.std.proofs.Common.{◌≡◌, ℕ, Bool, true, false, List, ◌++◌, length, Some, sym, ◌∙◌, ap, inl, inr, arith, get_or, Contains, AllPairs, append-nil, length-append}
 use Rattle.proto_base.proofs.Common.{both_ways, cases_Bool}
 use Rattle.proto_names_rules.proofs.Common.{AreApart, IsLinked, IsNested, Reference, Workspace, front_or_same, has_meaning, meaning}

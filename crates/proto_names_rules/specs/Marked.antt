@@ -1,4 +1,4 @@
--- Where some files are edited and some are looked at again, which are marked: what is then known of
+-- Where some files are edited and some are re-resolved, which are marked: what is then known of
 -- all others.
 use Rattle.std.specs.Prelude.{◌≡◌, ℕ, ◌<◌, Bool, true, false, List, [], ◌∷◌, ◌++◌, get_or, length, Some}
 use Rattle.std.specs.List.{Contains, AllPairs}

@@ -1,4 +1,4 @@
--- What a table changes where a symbol is declared, and changes that are taken back.
+-- What a table changes where a symbol is declared, and changes that are rolled back.
 use Rattle.std.specs.Prelude.{◌≡◌, ℕ, ◌<◌, Bool, true, false, List, [], ◌∷◌, ◌++◌, length, get_or, slice_set, take}
 use Rattle.proto_names_rules.specs.declared.kind.Kind.TheVariants.{Package}
 use Rattle.proto_names_table.specs.Indexes.{IsFrontOf, keys_in}

@@ -1,4 +1,4 @@
--- The imports of files that are told, and those that files had before some were edited.
+-- The imports of given files, and those that files had before some were edited.
 use Rattle.std.specs.Prelude.{◌≡◌, ℕ, ◌<◌, List, [], length, get_or}
 use Rattle.proto_files.specs.FilesRead.{AreRead, ReadOf}
 use Rattle.proto_files.specs.GivenFiles.{FileOf}

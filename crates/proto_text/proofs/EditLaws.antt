@@ -18,7 +18,7 @@ pub record PutsUpTo (text : List ℕ) (all : List Edit) (from : ℕ) (rest front
   pub forth : (more : List ℕ) → Puts from rest es more → Puts 0 text all (front ++ more)
   pub back : (new : List ℕ) → Puts 0 text all new → (more : List ℕ) × (new ≡ front ++ more) × Puts from rest es more
 
--- the two parts of a text are told by their lengths
+-- the two parts of a text are determined by their lengths
 pub cut : (a x b y : List ℕ) → a ++ x ≡ b ++ y → length a ≡ length b → (a ≡ b) × (x ≡ y)
 cut a x b y e len = (
   sym (take_at a x (length b) len) ∙ ap (take (length b)) e ∙ take_at b y (length b) refl,

@@ -79,7 +79,7 @@ no_piece_at_end x e = cc
 pub end_is_stuck : IsStuck []
 end_is_stuck kind piece more e is ends = no_piece_at_end (kind, length piece) (ap piece_at e ∙ piece_again kind piece more (raw_is kind piece is) ends)
 
--- the body of a string is told by the string
+-- the body of a string is determined by the string
 same_body : (text : List ℕ) (q r : ℕ) (b c : List ℕ) → IsQuoted text q b → IsQuoted text r c → b ≡ c
 same_body text q r b c x y =
     let e : q ∷ (b ++ q ∷ []) ≡ r ∷ (c ++ r ∷ []) = sym x.1 ∙ y.1 in

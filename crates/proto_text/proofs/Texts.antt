@@ -1,4 +1,4 @@
--- Words in the place of words (for the crates above).
+-- Words in place of words (for the crates above).
 use Rattle.std.proofs.Common.{◌≡◌, ℕ, zero, suc, ◌+◌, ◌<◌, true, arith, List, [], ◌∷◌, ◌++◌, ◌⊎◌, inl, inr, length, map, Option, Some, None, refl, sym, ap, subst, ◌∙◌, append-nil, take_at, drop_at, IsUtf8, slice_index}
 use Rattle.std.proofs.lemmas.Str.{IsUtf8-append, IsUtf8-nil, IsUtf8-take, IsUtf8-drop, IsUtf8-from_ascii}
 use Rattle.proto_text.specs.Common.{Class, Space, Digit, Quote, Mark, Slash, Other, class_of, extends_word, is_identifier, EachByte, Letter, PieceKind, Blank, LineComment, BlockComment, Solid, TokenKind, Word, Token, Edit, Puts, Piece, IsRun, IsLexeme, ArePieces, IsPieces, pieces_text, text_at, Lexeme, lexeme_at, lexeme_if, lexemes, token_at, tokens_from, IsWord, SameButWords, piece_after, edits_from, or_word, changed, edit_if, token_edits, AreWords, IsReworded, WordsArePut}

@@ -13,7 +13,7 @@ some_value x = Some x
 
 -- ---- one value
 
--- a body is told by the text around it
+-- a body is determined by the text around it
 same_body : (a b : ℕ) (x y : List ℕ) (c d : ℕ) → a ∷ (x ++ c ∷ []) ≡ b ∷ (y ++ d ∷ []) → x ≡ y
 same_body a b x y c d e = let tail : x ++ c ∷ [] ≡ y ++ d ∷ [] = ap (drop 1) e in (same_from_push x y c d tail).0
 

@@ -2,7 +2,7 @@
 use Rattle.std.proofs.Common.{◌≡◌, ℕ, Bool, true, false, not, eqb, List, [], ◌∷◌, ◌++◌, ◌⊎◌, inl, inr, refl, sym, ap, subst, ◌∙◌, append-nil, append_assoc, eqb-true}
 use Rattle.proto_text.specs.Common.{Space, Letter, PieceKind, Blank, LineComment, BlockComment, Solid, Word, Number, Text, Punctuation, class_of, is_identifier, extends_word, Piece, IsRun, is_in_line, IsLexeme, EndsBefore, pieces_text, ArePieces, IsWord, SameButWords, WordsMayChange}
 
--- what may stand behind a piece is told by the first byte
+-- what may follow a piece is determined by its first byte
 ends_at : (kind : PieceKind) (b : ℕ) (x y : List ℕ) → EndsBefore kind (b ∷ x) → EndsBefore kind (b ∷ y)
 ends_at Blank b x y h = tt
 ends_at LineComment b x y h = h

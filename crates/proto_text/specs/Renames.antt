@@ -19,7 +19,7 @@ SameButWords [] (q ∷ qs) = ⊥
 SameButWords (p ∷ ps) [] = ⊥
 SameButWords (p ∷ ps) (q ∷ qs) = ((p ≡ q) ⊎ (IsWord p × IsWord q)) × SameButWords ps qs
 
--- Pieces with other words in the place of words are pieces.
+-- Pieces with other words in place of words are pieces.
 abbrev pub WordsMayChange : Type 0
 WordsMayChange =
     (text : List ℕ) (ps qs : List Piece) → IsPieces text ps → SameButWords ps qs

@@ -99,7 +99,7 @@ pub record IsReplaced (text : List ℕ) (tokens : List Token) (i j from to : ℕ
       ≡ take i (map (lexeme_at text) tokens) ++ (ls ++ drop j (map (lexeme_at text) tokens))
   pub utf8 : IsUtf8 text → IsUtf8 new → IsUtf8 result
 
--- A segment may come in the place of what stands between two places.
+-- A segment may come in place of what stands between two places.
 abbrev pub RunsAreReplaced : Type 0
 RunsAreReplaced =
     (text : List ℕ) (tokens : List Token) (i j from to : ℕ) (new : List ℕ) (ls : List Lexeme)
@@ -110,7 +110,7 @@ RunsAreReplaced =
 
 -- ---- indices
 
--- the new index of token k, which stays, if n tokens come in the place of tokens i to j
+-- the new index of token k, which stays, if n tokens come in place of tokens i to j
 abbrev pub moved : ℕ → ℕ → ℕ → ℕ → ℕ
 moved i j n k = if nat_lt k i then k else (k - j) + (i + n)
 

@@ -48,7 +48,7 @@ token_edits text c n [] = []
 token_edits text c n (t ∷ ts) =
     edit_if (c n) t.span.start (text_at text t.span) ++ token_edits text c (suc n) ts
 
--- words come in the place of words
+-- words come in place of words
 abbrev pub AreWords : (ℕ → Option Text) → ℕ → List Lexeme → Type 0
 AreWords c n [] = Unit {0}
 AreWords c n (l ∷ ls) =
@@ -62,7 +62,7 @@ pub record IsReworded (text : Text) (tokens : List Token) (c : ℕ → Option Te
   pub utf8 : IsUtf8 text → IsUtf8 new
   pub words : map (lexeme_at new) after ≡ changed c 0 (map (lexeme_at text) tokens)
 
--- Words may be put in the place of words: the text with their edits has the same tokens, reworded.
+-- Words may be put in place of words: the text with their edits has the same tokens, reworded.
 abbrev pub WordsArePut : Type 0
 WordsArePut =
     (text : List ℕ) (tokens : List Token) (c : ℕ → Option (List ℕ)) → AreTokens text tokens

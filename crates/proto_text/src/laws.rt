@@ -27,7 +27,7 @@ pub fn tokens_are_one()
     ensures no_fault { NoFaultWithTokens }
 {}
 
-/// Pieces stay pieces where words are put in the place of words.
+/// Pieces stay pieces where words are put in place of words.
 pub fn words_may_change()
     ensures { WordsMayChange }
 {}
@@ -65,7 +65,7 @@ pub fn strings_have_one_value()
     ensures found { ValueIsValueOf }
 {}
 
-/// A segment may come in the place of a run of tokens: the tokens before and behind the run stay.
+/// A segment may come in place of a run of tokens: the tokens before and behind the run stay.
 pub fn runs_are_replaced()
     ensures replaced { RunsAreReplaced }
     ensures between { BetweenPlaces }

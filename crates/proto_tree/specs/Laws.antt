@@ -41,7 +41,7 @@ NoFaultWithTree =
     (text : Text) (tokens : List Token) (t : Tree) (f : ParseFault)
     → Reads text tokens t → IsParseFault text tokens f → ⊥
 
--- ---- other words in the place of words
+-- ---- other words in place of words
 
 -- which tokens get a new word, by their indices, and which word
 abbrev pub Change : Type 0

@@ -12,7 +12,7 @@ use Rattle.proto_tree.specs.Tree.{Tree, End, Leaf, Block, flat, statement_kind, 
 use Rattle.proto_tree.specs.Words.{classes}
 use Rattle.proto_tree.specs.Moved.{Move, move_tree}
 
--- The second tree is the first with the items of b in the place of those of a, at one place and in
+-- The second tree is the first with the items of b in place of those of a, at one place and in
 -- a context where b may stand; what stands behind them is moved.
 pub data ItemsAreReplaced (g : Move) (a b : Tree) : Context → Tree → Tree → Type 0 where
   Here : (c : Context) (rest : Tree) → IsWellFormed c b → last_of c b ≡ last_of c a

@@ -11,7 +11,7 @@ pub fn trees_are_one()
     ensures no_fault { NoFaultWithTree }
 {}
 
-/// The very same tree is read after words were put in the place of words, where each new word
+/// The very same tree is read after words were put in place of words, where each new word
 /// suits its place.
 pub fn words_keep_trees()
     ensures trees { WordsKeepTrees }

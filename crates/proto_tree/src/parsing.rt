@@ -90,7 +90,9 @@ fn read(alloc: Global, source: &Source, tokens: &[Token]) -> Result<File, ParseF
     }
 }
 
-/// The tree of a file, from the tokens of its text.
+/// The tree of a file, from the tokens of its text. Where they are not of the grammar, or more than
+/// 32 braces are open at once, the answer is that fault, with its offset. Otherwise it fails only
+/// when out of memory.
 pub fn parse(alloc: Global, source: &Source, tokens: &[Token]) -> Result<File, ParseFault>
     requires { AreTokens source.now tokens.now }
     // The answered tree is well-formed and has these tokens, and no more than 32 braces are open at
