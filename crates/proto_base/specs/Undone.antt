@@ -1,5 +1,5 @@
 -- A log of changes of a list, and the list without them.
-use Rattle.std.specs.Prelude.{◌≡◌, ℕ, ◌<◌, ◌≤◌, List, [], ◌∷◌, ◌++◌, length, slice_set, take}
+use Rattle.std.specs.Prelude.{◌≡◌, ℕ, ◌<◌, ◌≤◌, List, [], ◌∷◌, ◌++◌, get_or, length, slice_set, take}
 use Rattle.std.specs.List.{All}
 use Rattle.proto_base.specs.declared.changes.Change.{Change}
 
@@ -7,6 +7,13 @@ use Rattle.proto_base.specs.declared.changes.Change.{Change}
 abbrev pub undone : {T : Type 0} → List (Change T) → List T → List T
 undone [] items = items
 undone (c ∷ log) items = slice_set (undone log items) c.place c.was
+
+-- the log has one change more: of this place of the list, with what stood there
+pub record IsNoted {T : Type 0} (old new : List (Change T)) (items : List T) (place : ℕ)
+    : Type 0 where
+  pub was : T
+  pub stood : was ≡ get_or items place was
+  pub behind : new ≡ old ++ record { place = place; was = was } ∷ []
 
 -- each change is one of a place among so many
 abbrev pub AreWithin : {T : Type 0} → ℕ → List (Change T) → Type 0

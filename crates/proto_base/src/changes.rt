@@ -1,7 +1,7 @@
 //! Changes of a list, each with what stood there before, and the way back.
 
 ghost use Rattle.std.specs.Prelude.{◌≡◌, ◌<◌, [], length, slice_set, OnOk, OnErr};
-ghost use Rattle.proto_base.specs.Undone.{undone, with_values, AreWithin};
+ghost use Rattle.proto_base.specs.Undone.{undone, with_values, AreWithin, IsNoted};
 ghost use Rattle.std.specs.List.{All};
 
 use crate::no_memory::NoMemory;
@@ -30,6 +30,8 @@ pub fn change_at<T: Drop>(
     ensures within { AreWithin (length items.old.items) log.old.items
         → AreWithin (length items.old.items) log.new.items }
     ensures items { OnOk result (items.new.items ≡ slice_set items.old.items place value) }
+    ensures noted { OnOk result
+        (IsNoted log.old.items log.new.items items.old.items place) }
     ensures kept { OnErr result
         ((items.new.items ≡ items.old.items) × (log.new.items ≡ log.old.items)) }
 {

@@ -5,13 +5,13 @@ use Rattle.proto_base.proofs.Common.{All-push, All-set, Vec, get_or-map, length-
 use Rattle.proto_case.specs.Camel.{entry_name}
 use Rattle.proto_files.proofs.Common.{FileOf, ReadOf, read_at}
 use Rattle.proto_names_imports.proofs.Common.{IsListing, text_of}
-use Rattle.proto_base.specs.Undone.{AreWithin, undone}
+use Rattle.proto_base.specs.Undone.{AreWithin, IsNoted, undone}
 use Rattle.proto_base.specs.declared.changes.Change.{Change}
 use Rattle.proto_names_outline.proofs.Common.{items_in, length-read, package_first, whole}
 use Rattle.proto_names_outline.specs.declared.listing.Listing.{Listing}
 use Rattle.proto_names_rules.proofs.Common.{at, name_of}
 use Rattle.proto_names.specs.Common.{IsFileLinked, Meant, declared_names}
-use Rattle.proto_names.specs.Renewal.{AreMeantBelow, AreOfMarked, IsMeantNoted}
+use Rattle.proto_names.specs.Renewal.{AreMeantBelow, AreOfMarked}
 use Rattle.proto_names_table.specs.declared.table.Table.{Table}
 
 -- ---- rows and marks of one file
@@ -39,7 +39,7 @@ undone_more : (log : List (Change (Vec Meant))) (items : List (Vec Meant)) (c : 
 undone_more [] items c = refl
 undone_more (d ∷ log) items c = ap (λ z. slice_set z d.place d.was) (undone_more log items c)
 
-module _ (old new : List (Change (Vec Meant))) (meant now : List (Vec Meant)) (file : ℕ) (own : Vec Meant) (within : file < length meant) (noted : IsMeantNoted old new meant file) (is : now ≡ slice_set meant file own) where
+module _ (old new : List (Change (Vec Meant))) (meant now : List (Vec Meant)) (file : ℕ) (own : Vec Meant) (within : file < length meant) (noted : IsNoted old new meant file) (is : now ≡ slice_set meant file own) where
   abbrev change : Change (Vec Meant)
   change = record { place = file; was = noted.was }
 

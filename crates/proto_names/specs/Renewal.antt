@@ -1,5 +1,5 @@
 -- A link of its parts, and the parts as they were before the changes of a log.
-use Rattle.std.specs.Prelude.{◌≡◌, ℕ, ◌<◌, ◌≤◌, Bool, true, false, List, [], ◌∷◌, ◌++◌, get_or, length, map, take}
+use Rattle.std.specs.Prelude.{◌≡◌, ℕ, ◌<◌, ◌≤◌, Bool, true, false, List, [], get_or, length, map, take}
 use Rattle.std.specs.Global.{Vec}
 use Rattle.std.specs.List.{All}
 use Rattle.proto_files.specs.FilesRead.{AreRead, ReadOf}
@@ -51,13 +51,6 @@ pub record AreRowsRenewed (places : List ℕ) (files : List FileOf) (old new : T
   pub names : AreRenewed places files old new (map (λ v. v.items) before)
       (map (λ v. v.items) renewed)
   pub rows : now ≡ with_values before places renewed
-
--- the log has one change more: of what the references of a file mean, with what they meant
-pub record IsMeantNoted (old new : List (Change (Vec Meant))) (all_meant : List (Vec Meant))
-    (file : ℕ) : Type 0 where
-  pub was : Vec Meant
-  pub stood : was ≡ get_or all_meant file was
-  pub behind : new ≡ old ++ record { place = file; was = was } ∷ []
 
 -- what references mean is below so many rows, now and before these changes
 pub record AreMeantBelow (count : ℕ) (log : List (Change (Vec Meant))) (meant : List (Vec Meant))

@@ -1,6 +1,6 @@
 //! A link that is changed in place to that of its files, once some of them are edited.
 
-ghost use Rattle.std.specs.Prelude.{◌≡◌, ◌≢◌, ◌<◌, ℕ, Bool, List, [], true, false, length, get_or, map, slice_set, None, IfOk, IfSome, OnOk, OnErr};
+ghost use Rattle.std.specs.Prelude.{◌≡◌, ◌≢◌, ◌<◌, ℕ, Bool, List, [], true, false, length, get_or, map, None, IfOk, IfSome, OnOk};
 ghost use Rattle.std.specs.Global.{Vec as VecOf};
 ghost use Rattle.std.specs.List.{All};
 ghost use Rattle.proto_files.specs.Faults.{HasNoFault};
@@ -15,7 +15,7 @@ ghost use Rattle.proto_names_affected.specs.Sight.{IsSightMarked};
 ghost use Rattle.proto_names.specs.FileReferences.{AreFileMeant, IsFileLinked};
 ghost use Rattle.proto_names.specs.Following.{TellWhatToLook};
 ghost use Rattle.proto_names.specs.LinkOfFiles.{IsLinkOf};
-ghost use Rattle.proto_names.specs.Renewal.{AreMeantBelow, AreOfMarked, AreRowsRenewed, IsMeantNoted, IsSightRenewed, LogFits, link_of_parts, undone_parts};
+ghost use Rattle.proto_names.specs.Renewal.{AreMeantBelow, AreOfMarked, AreRowsRenewed, IsSightRenewed, LogFits, link_of_parts, undone_parts};
 ghost use Rattle.proto_names.specs.Renewed.{AreMeantAgain};
 ghost use Rattle.proto_names.specs.Sight.{AreLinkImports, undone_seen};
 ghost use Rattle.proto_names_update.specs.Relinked.{WasLink};
@@ -26,7 +26,7 @@ use crate::link_log::LinkLog;
 use crate::references::ReferenceError;
 use crate::renewed_imports::renew_imports;
 use proto_base::laws::added_are_cut;
-use proto_base::{Change, NoMemory, change_all_at};
+use proto_base::{Change, NoMemory, change_all_at, change_at};
 use proto_files::{Files, are_read};
 use proto_names_affected::changed_files::{Linked, marks_of_changes, outer_rows_at};
 use proto_names_affected::renewed_references::{grow_references, renew_references};
@@ -38,7 +38,6 @@ use proto_names_table::{Meant, RefId};
 use proto_names_update::name_log::NameLog;
 use proto_names_update::renewed_names::renew_names;
 use std::alloc::Global;
-use std::mem;
 
 /// Files of which some are edited, and what each of them sees.
 #[derive(Clone, Copy)]
@@ -140,34 +139,12 @@ fn mean_file_again(
     );
     match found {
         Ok(own) => {
-            put_meanings(meant, log, place, own)?;
+            change_at(meant, log, place, own)?;
             Ok(true)
         }
         Err(ReferenceError::Fault(_bad)) => Ok(false),
         Err(ReferenceError::NoMemory) => Err(NoMemory),
     }
-}
-
-/// Puts what a file's references mean in place of what they meant, and notes that in the log:
-/// `change_at`, which does not say what the log has then. Fails only when out of memory; then
-/// neither has changed.
-fn put_meanings(
-    meant: &mut Vec<Vec<Meant>>,
-    log: &mut Vec<Change<Vec<Meant>>>,
-    file: usize,
-    own: Vec<Meant>,
-) -> Result<(), NoMemory>
-    requires { file < length meant.old.items }
-    ensures items { OnOk result (meant.new.items ≡ slice_set meant.old.items file own) }
-    ensures noted { OnOk result
-        (IsMeantNoted log.old.items log.new.items meant.old.items file) }
-    ensures kept { OnErr result
-        ((meant.new.items ≡ meant.old.items) × (log.new.items ≡ log.old.items)) }
-{
-    log.reserve(1)?;
-    let was = mem::replace(&mut meant[file], own);
-    log.push(Change { place: file, was }).unwrap();
-    Ok(())
 }
 
 /// The marks of the files that a file sees.

@@ -203,8 +203,9 @@ impl Link {
         Ok(Link::from_parts(table, imports, rows, seen, meant, references))
     }
 
-    /// Changes this link to that of the files, which differ from those before at these places alone.
-    /// It answers as `Link::new` of the files does; after a refusal it is as it was.
+    /// Changes this link to that of the files, which differ from those before at these places alone;
+    /// those before had no fault of imports, names and references. It answers as `Link::new` of the
+    /// files does; after a refusal it is as it was.
     pub fn replace(
         &mut self,
         alloc: Global,

@@ -21,10 +21,10 @@ file_meanings-found-requires-clause-rows c =
     (listing_at c.args.edited.files.now reads c.args.file (tree_of_file c.tree.result.now) c.in_ok-listing.listing are c.requires.file c.tree.ensures c.in_ok-listing.ensures.sound c.in_ok-listing.ensures.declared c.in_ok-listing.ensures.used)
 
 pub returns-in-Ok-clause-undone : goal.returns-in-Ok-clause-undone
-returns-in-Ok-clause-undone c = undone_same c.args.log.now.items c.put_meanings.new.log.items c.args.meant.now.items c.put_meanings.new.meant.items c.args.file c.in-Ok.own (omega (arith, c.requires.file, c.requires.meant)) c.in_ok-put_meanings-in-Ok.ensures.noted c.in_ok-put_meanings-in-Ok.ensures.items
+returns-in-Ok-clause-undone c = undone_same c.args.log.now.items c.change_at.new.log.items c.args.meant.now.items c.change_at.new.items.items c.args.file c.in-Ok.own (omega (arith, c.requires.file, c.requires.meant)) c.in_ok-change_at-in-Ok.ensures.noted c.in_ok-change_at-in-Ok.ensures.items
 
 pub returns-in-Ok-clause-within : goal.returns-in-Ok-clause-within
-returns-in-Ok-clause-within c = within_more c.args.log.now.items c.put_meanings.new.log.items c.args.meant.now.items c.put_meanings.new.meant.items c.args.file c.in-Ok.own (omega (arith, c.requires.file, c.requires.meant)) c.in_ok-put_meanings-in-Ok.ensures.noted c.in_ok-put_meanings-in-Ok.ensures.items (length c.args.meant.now.items) refl
+returns-in-Ok-clause-within c = within_more c.args.log.now.items c.change_at.new.log.items c.args.meant.now.items c.change_at.new.items.items c.args.file c.in-Ok.own (omega (arith, c.requires.file, c.requires.meant)) c.in_ok-change_at-in-Ok.ensures.noted c.in_ok-change_at-in-Ok.ensures.items (length c.args.meant.now.items) refl
 
 pub returns-in-Ok-clause-below : goal.returns-in-Ok-clause-below
 returns-in-Ok-clause-below c =
@@ -32,16 +32,16 @@ returns-in-Ok-clause-below c =
     let are = c.are_read.ensures.1 in
     let own : AreFileMeant c.args.table.now c.args.edited.files.now reads c.args.file c.in-Ok.own.items = c.in-Ok.ensures.meant reads are (linked_by c.args.table.now c.args.edited.seen.now c.args.rows.now c.args.edited.files.now reads c.args.file (c.requires.linked reads are) c.seen_by.result.now c.seen_by.ensures c.deref.result.now
     (rows_at c.args.rows.now c.args.file (omega (arith, c.requires.file, c.requires.paired)) c.index-rows-place.result c.index-rows-place.is c.deref.result.now c.deref.ensures.value)) in
-    below_more c.args.log.now.items c.put_meanings.new.log.items c.args.meant.now.items c.put_meanings.new.meant.items c.args.file c.in-Ok.own (omega (arith, c.requires.file, c.requires.meant)) c.in_ok-put_meanings-in-Ok.ensures.noted c.in_ok-put_meanings-in-Ok.ensures.items (length c.args.table.now.rows.items) own.within
+    below_more c.args.log.now.items c.change_at.new.log.items c.args.meant.now.items c.change_at.new.items.items c.args.file c.in-Ok.own (omega (arith, c.requires.file, c.requires.meant)) c.in_ok-change_at-in-Ok.ensures.noted c.in_ok-change_at-in-Ok.ensures.items (length c.args.table.now.rows.items) own.within
 
 pub returns-in-Ok-clause-marked : goal.returns-in-Ok-clause-marked
-returns-in-Ok-clause-marked c = marked_more c.args.log.now.items c.put_meanings.new.log.items c.args.meant.now.items c.put_meanings.new.meant.items c.args.file c.in-Ok.own (omega (arith, c.requires.file, c.requires.meant)) c.in_ok-put_meanings-in-Ok.ensures.noted c.in_ok-put_meanings-in-Ok.ensures.items
+returns-in-Ok-clause-marked c = marked_more c.args.log.now.items c.change_at.new.log.items c.args.meant.now.items c.change_at.new.items.items c.args.file c.in-Ok.own (omega (arith, c.requires.file, c.requires.meant)) c.in_ok-change_at-in-Ok.ensures.noted c.in_ok-change_at-in-Ok.ensures.items
 
 pub returns-in-Ok-clause-meant : goal.returns-in-Ok-clause-meant
 returns-in-Ok-clause-meant c = λ _ reads are.
-    (subst (λ (ms : List Meant). AreFileMeant c.args.table.now c.args.edited.files.now reads c.args.file ms) (sym (own_there c.args.log.now.items c.put_meanings.new.log.items c.args.meant.now.items c.put_meanings.new.meant.items c.args.file c.in-Ok.own (omega (arith, c.requires.file, c.requires.meant)) c.in_ok-put_meanings-in-Ok.ensures.noted c.in_ok-put_meanings-in-Ok.ensures.items))
+    (subst (λ (ms : List Meant). AreFileMeant c.args.table.now c.args.edited.files.now reads c.args.file ms) (sym (own_there c.args.log.now.items c.change_at.new.log.items c.args.meant.now.items c.change_at.new.items.items c.args.file c.in-Ok.own (omega (arith, c.requires.file, c.requires.meant)) c.in_ok-change_at-in-Ok.ensures.noted c.in_ok-change_at-in-Ok.ensures.items))
     (c.in-Ok.ensures.meant reads are (linked_by c.args.table.now c.args.edited.seen.now c.args.rows.now c.args.edited.files.now reads c.args.file (c.requires.linked reads are) c.seen_by.result.now c.seen_by.ensures c.deref.result.now
     (rows_at c.args.rows.now c.args.file (omega (arith, c.requires.file, c.requires.paired)) c.index-rows-place.result c.index-rows-place.is c.deref.result.now c.deref.ensures.value))))
 
 pub returns-in-Ok-clause-others : goal.returns-in-Ok-clause-others
-returns-in-Ok-clause-others c = others_there c.args.log.now.items c.put_meanings.new.log.items c.args.meant.now.items c.put_meanings.new.meant.items c.args.file c.in-Ok.own (omega (arith, c.requires.file, c.requires.meant)) c.in_ok-put_meanings-in-Ok.ensures.noted c.in_ok-put_meanings-in-Ok.ensures.items
+returns-in-Ok-clause-others c = others_there c.args.log.now.items c.change_at.new.log.items c.args.meant.now.items c.change_at.new.items.items c.args.file c.in-Ok.own (omega (arith, c.requires.file, c.requires.meant)) c.in_ok-change_at-in-Ok.ensures.noted c.in_ok-change_at-in-Ok.ensures.items
