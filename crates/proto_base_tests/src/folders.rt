@@ -4,7 +4,7 @@ use crate::calls::is_held;
 use crate::steps::{Ask, Change, Holds, LAST, Made, Seen, Step, in_new_folder, root_of, take_all};
 use proto_store::{FolderStore, Store};
 use std::process::Abort;
-use std::rt::Files;
+use std::rt::{Clock, Files};
 
 const SCHEMA: &str = "p/a.proto";
 
@@ -26,7 +26,10 @@ fn fails_once_its_folder_is_gone(rt: HostRuntime) {
     expect_failures(&rt, &mut store);
 }
 
-fn expect_failures<R: Files + AllocGlobal>(rt: &impl Abort, store: &mut FolderStore<'_, R>) {
+fn expect_failures<R: Files + Clock + AllocGlobal>(
+    rt: &impl Abort,
+    store: &mut FolderStore<'_, R>,
+) {
     assert!(rt; store.failures() < u64::MAX);
     let lists = store.list().is_ok();
     assert!(rt; store.failures() < u64::MAX);

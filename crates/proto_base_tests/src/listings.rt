@@ -5,7 +5,8 @@ use std::alloc::{Allocator, Global};
 use std::fs::{File, Metadata, OpenOptions};
 use std::io;
 use std::process::Abort;
-use std::rt::Files;
+use std::rt::{Clock, Files};
+use std::time::Duration;
 
 // Folders with what their names are, as a system tells them.
 #[derive(Clone, Copy)]
@@ -26,6 +27,17 @@ impl Alloc for Tree<'_> {
 
     fn alloc(&self) -> Global {
         self.alloc
+    }
+}
+
+// Long after the folders were made, whose times are none.
+impl Clock for Tree<'_> {
+    fn monotonic(&self) -> io::Result<Duration> {
+        Ok(Duration::from_secs(1))
+    }
+
+    fn since_1970(&self) -> io::Result<Duration> {
+        Ok(Duration::from_secs(1))
     }
 }
 
@@ -62,8 +74,9 @@ impl<'a> Files for Tree<'a> {
         if self.links.contains(&path) {
             return Ok(Metadata::of_symlink(0));
         }
+        let name = path.strip_suffix('/').unwrap_or(path);
         for (folder, _) in self.folders {
-            if *folder == path {
+            if *folder == name {
                 return Ok(Metadata::of_dir());
             }
         }

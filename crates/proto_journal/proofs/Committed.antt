@@ -9,7 +9,7 @@ use Rattle.proto_journal_records.specs.declared.fault.JournalFault.{JournalFault
 use Rattle.proto_journal_records.specs.declared.fault.JournalFault.TheVariants as fault
 use Rattle.proto_journal_records.specs.declared.record.Version.{Version}
 use Rattle.proto_journal_records.specs.declared.record.Version.TheVariants.{Second}
-use Rattle.proto_journal_records.proofs.Common.{fault_of_refusal, record_text, done, journal_limit, opened, journal_text, IsReady, IsReadyWith, CountsFault, Over, OverBoth, IsBetween, Keeps, RecordOf, IsJournalIn}
+use Rattle.proto_journal_records.proofs.Common.{fault_of_refusal, record_text, done, journal_limit, opened, journal_text, IsReady, IsReadyWith, CountsFault, IsStoreOrMemory, Over, OverBoth, IsBetween, Keeps, RecordOf, IsJournalIn}
 use Rattle.proto_store.specs.Stores.{Held}
 use Rattle.proto_journal.specs.Common.{IsCommitted, IsCommitCut, CommitOutcome, Stays, IsUnready, AddsTo, IsUnprepared, IsUnwritten, Passes, held, IsTornByCommit, IsReadyText}
 use Rattle.proto_journal.proofs.Recorded.{text_more}
@@ -27,6 +27,11 @@ not_ready e from old new fault.Store same r = (refl, inl same)
 not_ready e from old new fault.JournalFull same r = absurd r
 not_ready e from old new fault.NoMemory same r = stays from old new same
 not_ready e from old new (fault.Refused x) same r = absurd r
+
+pub not_asked : (e : Asked) (from : List FileOf) (old new : Option Held) (f : JournalFault) → new ≡ old → IsStoreOrMemory f → CommitOutcome e from from old new (Err f)
+not_asked e from old new fault.Store same s = (refl, inl same)
+not_asked e from old new fault.NoMemory same s = stays from old new same
+not_asked e from old new f same s = absurd s
 
 -- a refusal, as the journal tells it
 pub refused : (from : List FileOf) (e : Asked) (journal : List ℕ) (r : Refusal) → IsRefusal from e r → IsUnprepared from e journal (fault_of_refusal r)

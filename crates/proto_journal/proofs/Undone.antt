@@ -9,7 +9,7 @@ use Rattle.proto_edit.specs.Workspaces.{IsUndo}
 use Rattle.proto_journal_records.specs.declared.fault.JournalFault.{JournalFault}
 use Rattle.proto_journal_records.specs.declared.fault.JournalFault.TheVariants as fault
 use Rattle.proto_journal_records.specs.declared.record.Version.{Version}
-use Rattle.proto_journal_records.proofs.Common.{fault_of_refusal, done, opened, CountsFault, Over, OverBoth, IsBetween, Keeps, RecordOf, IsJournalIn}
+use Rattle.proto_journal_records.proofs.Common.{fault_of_refusal, done, opened, CountsFault, IsStoreOrMemory, Over, OverBoth, IsBetween, Keeps, RecordOf, IsJournalIn}
 use Rattle.proto_store.specs.Stores.{Held, HoldsJournal}
 use Rattle.proto_journal.specs.Common.{EndsIn, IsTornByUndo, IsUndone, IsUndoCut, UndoOutcome, LastOutcome, Passes, Reopens, Shortens, held}
 use Rattle.proto_journal.proofs.Committed.{stays}
@@ -40,6 +40,11 @@ stale from old new journal version last refusal.Stale same there l entry is u =
     (stays from old new same, (last.entry, subst (λ (e : List ChangeOf). IsUndoRefusal from e refusal.Stale) is u, ends_there old journal version last there l))
 stale from old new journal version last refusal.NoMemory same there l entry is u = stays from old new same
 stale from old new journal version last r same there l entry is u = absurd u
+
+pub not_asked : (from : List FileOf) (old new : Option Held) (f : JournalFault) → new ≡ old → IsStoreOrMemory f → UndoOutcome from from old new (Err f)
+not_asked from old new fault.Store same s = (refl, inl same)
+not_asked from old new fault.NoMemory same s = stays from old new same
+not_asked from old new f same s = absurd s
 
 pub counts_no_entry : (before after : ℕ) (journal : List ℕ) (f : JournalFault) → after ≡ before → LastOutcome journal (Err f) → CountsFault before after f
 counts_no_entry before after journal fault.BadJournal same l = same

@@ -11,7 +11,7 @@ ghost use Rattle.proto_journal_records.specs.Records.{done, opened};
 ghost use Rattle.proto_store.specs.Stores.{HoldsFiles};
 
 use crate::reading::ready_text;
-use crate::writing::write_through;
+use crate::writing::{ask_store, write_through};
 use proto_base::MAX_JOURNAL_LEN;
 use proto_edit::laws::accepted_are_notable;
 use proto_edit::{Edit, Entry, Workspace};
@@ -93,7 +93,8 @@ fn with_entry(
 /// Makes an edit: writes it into the journal as open, replaces the changed
 /// files in the order of their paths, marks it as done, and puts the
 /// workspace in place. The whole journal is written in the second version, the
-/// entry with its edit. All that is written is made before the first write.
+/// entry with its edit. All that is written is made before the first write, and the store is asked
+/// whether the files may be replaced.
 ///
 /// Refused are, in this order: a journal that is none (`BadJournal`), one whose last entry is open
 /// (`OpenEntry`), an edit that is not admissible (`Refused`), and an edit with which the journal,
@@ -115,6 +116,13 @@ pub fn commit<S: Store>(
 {
     let journal = ready_text(alloc, store)?;
     let made = prepare(alloc, journal.as_slice(), workspace, &edit)?;
+    match ask_store(alloc, store, made.entry.changes()) {
+        Ok(()) => {}
+        Err(fault) => {
+            made.next.release();
+            return Err(fault);
+        }
+    }
     let first = made.first.as_slice();
     let last = made.last.as_slice();
     match write_through(

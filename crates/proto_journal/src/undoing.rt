@@ -7,7 +7,7 @@ ghost use Rattle.proto_journal.specs.Undoing.{UndoOutcome};
 ghost use Rattle.proto_journal.specs.Written.{LastOutcome, Reopens, Shortens};
 ghost use Rattle.proto_store.specs.Stores.{HoldsFiles};
 
-use crate::writing::write_through;
+use crate::writing::{ask_store, write_through};
 use proto_base::NoMemory;
 use proto_edit::{Entry, Workspace};
 use proto_journal_records::laws::{journals_grow_and_shrink, records_have_one_text};
@@ -68,7 +68,8 @@ fn reopened_journal(
 
 /// Undoes the last entry: marks it in the journal as open, puts its files back to before it, in the
 /// order of their paths, takes it off the journal, and puts the workspace in place. The journal
-/// keeps its version. All that is written is made before the first write.
+/// keeps its version. All that is written is made before the first write, and the store is asked
+/// whether the files may be replaced.
 ///
 /// Refused are, in this order: a journal that is none (`BadJournal`), one whose last entry is open
 /// (`OpenEntry`), an empty one (`NothingToUndo`), and an entry that is stale (`Refused`).
@@ -96,6 +97,13 @@ pub fn undo_last<S: Store>(
     let first = reopened_journal(alloc, version, text, &undone)?;
     let next = workspace.without_entry(alloc, undone.entry())?;
     let last = shortened_journal(text);
+    match ask_store(alloc, store, undone.entry().changes()) {
+        Ok(()) => {}
+        Err(fault) => {
+            next.release();
+            return Err(fault);
+        }
+    }
     match write_through(
         store,
         first.as_slice(),

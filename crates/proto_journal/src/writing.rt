@@ -1,14 +1,49 @@
 //! The one way in which files and journal are written.
 
-ghost use Rattle.std.specs.Prelude.{◌≡◌, ◌-◌, ◌^◌, ◌<◌, IfOk, OnErr, OnOk, length, map, option_map};
+ghost use Rattle.std.specs.Prelude.{◌≡◌, ◌-◌, ◌^◌, ◌<◌, IfErr, IfOk, OnErr, OnOk, length, map, option_map};
+ghost use Rattle.std.specs.String.{string_bytes};
 ghost use Rattle.proto_edit_entries.specs.Entries.{change_of};
 ghost use Rattle.proto_files.specs.GivenFiles.{file_at};
+ghost use Rattle.proto_journal_records.specs.Known.{CountsJournal, IsStoreOrMemory};
 ghost use Rattle.proto_store.specs.Stores.{Counts, HoldsFiles, IsListed, with_file};
 ghost use Rattle.proto_journal.specs.Written.{AreBetween, DifferBy, IsHalfReplaced, IsFileReplaced, Passes, held, with_these_files};
 
+use proto_base::NoMemory;
 use proto_edit::Change;
 use proto_files::Files;
+use proto_journal_records::JournalFault;
 use proto_store::{Store, StoreFault};
+use std::alloc::Global;
+
+// The paths of changes.
+fn paths_in<'a>(alloc: Global, changes: &'a [Change]) -> Result<Vec<&'a str>, NoMemory>
+    ensures { IfOk result (λ paths. map (λ p. p.now) paths.items
+        ≡ map (λ c. string_bytes c.path) changes.entry.now) }
+{
+    let mut paths = Vec::with_capacity(alloc, changes.len())?;
+    for change in changes {
+        paths.push(change.path.as_str())?;
+    }
+    Ok(paths)
+}
+
+// Asks the store before the first write whether the files of the changes may be replaced.
+pub(crate) fn ask_store<S: Store>(
+    alloc: Global,
+    store: &mut S,
+    changes: &[Change],
+) -> Result<(), JournalFault>
+    requires { S.failure_count store.old < 2 ^ 64 - 1 }
+    ensures fault { IfErr result IsStoreOrMemory }
+    ensures same { S.holds store.new ≡ S.holds store.old }
+    ensures count { CountsJournal (S.failure_count store.old) (S.failure_count store.new) result }
+{
+    let paths = paths_in(alloc, changes)?;
+    match store.may_replace(paths.as_slice()) {
+        Ok(()) => Ok(()),
+        Err(StoreFault::Failed) => Err(JournalFault::Store),
+    }
+}
 
 // Replaces the file at a place.
 fn put_file<S: Store>(store: &mut S, after: &Files, place: u32) -> Result<(), StoreFault>

@@ -3,7 +3,7 @@ use Rattle.std.proofs.Common.{◌≡◌, ◌⊎◌, inl, inr, ℕ, true, List, [
 use Rattle.std.proofs.lemmas.List.Elements.{recursion_from_All}
 use Rattle.proto_files.specs.GivenFiles.{FileOf}
 use Rattle.proto_edit_entries.proofs.Common.{ChangeOf, IsEntry, Asked}
-use Rattle.proto_journal_records.specs.Common.{JournalFault, State, IsJournal, IsRecord, is_last_open, is_open, journal_text, opened, JournalsShrink, CountsFault, Over, ArePutBack, IsRecovered, IsRecovering, RecoverOutcome, AreListedInStore, AreOldFiles, ArePartlyIn, OpenOutcome, with_files, IsTorn, HasStaleFile, IsStaleOnly, IsEitherWay, Version, RecordOf, IsJournalIn}
+use Rattle.proto_journal_records.specs.Common.{JournalFault, State, IsJournal, IsRecord, is_last_open, is_open, journal_text, opened, JournalsShrink, CountsFault, IsStoreOrMemory, Over, ArePutBack, IsRecovered, IsRecovering, RecoverOutcome, AreListedInStore, AreOldFiles, ArePartlyIn, OpenOutcome, with_files, IsTorn, HasStaleFile, IsStaleOnly, IsEitherWay, Version, RecordOf, IsJournalIn}
 use Rattle.proto_journal_records.specs.declared.fault.JournalFault.TheVariants as fault
 use Rattle.proto_journal_records.specs.declared.record.State.TheVariants as state
 use Rattle.proto_store.specs.Stores.{Held, HoldsJournal, IsListed, with_journal}
@@ -75,6 +75,11 @@ not_found old new journal entry fault.JournalFull same there o s = absurd s
 not_found old new journal entry fault.NoMemory same there o s = same
 not_found old new journal entry (fault.Refused refusal.Stale) same there o s = (same, stale_file old journal entry there o s)
 not_found old new journal entry (fault.Refused r) same there o s = absurd s
+
+pub not_asked : (old new : Option Held) (f : JournalFault) → new ≡ old → IsStoreOrMemory f → RecoverOutcome old new (Err f)
+not_asked old new fault.Store same s = inl same
+not_asked old new fault.NoMemory same s = same
+not_asked old new f same s = absurd s
 
 -- ---- what is written
 

@@ -1,7 +1,7 @@
 -- What proofs of this crate name of its own definitions, passed on from one place.
 -- Declares nothing.
 pub use Rattle.proto_journal_records.specs.Journals.{RecordsAreInOrder, AreTextual, HasNoFeed, IsFirstLine, IsJournal, IsJournalIn, IsRecord, IsTextual, IsTold, is_last_open, is_open, journal_limit, journal_text}
-pub use Rattle.proto_journal_records.specs.Known.{CountsFault, CountsJournal, IsSettled, Over}
+pub use Rattle.proto_journal_records.specs.Known.{CountsFault, CountsJournal, IsSettled, IsStoreOrMemory, Over}
 pub use Rattle.proto_journal_records.specs.Laws.{IsReadInOneWay, JournalsShrink}
 pub use Rattle.proto_journal_records.specs.Migration.{IsMigrant, IsMigrated, IsOpenFirst, IsSecond, IsMigrationTooLong, MigrateOutcome, MigrationsAreOne, SecondOutcome}
 pub use Rattle.proto_journal_records.specs.ReadJournals.{IsReady, IsReadyWith, IsUnreadable}

@@ -27,3 +27,13 @@ abbrev pub IsSettled : {T : Type 0} → Result T JournalFault → Type 0
 IsSettled (Err fault.Store) = ⊥
 IsSettled (Err fault.NoMemory) = ⊥
 IsSettled _ = Unit {0}
+
+-- a call of the store failed, or memory ran out
+abbrev pub IsStoreOrMemory : JournalFault → Type 0
+IsStoreOrMemory fault.Store = Unit {0}
+IsStoreOrMemory fault.NoMemory = Unit {0}
+IsStoreOrMemory fault.BadJournal = ⊥
+IsStoreOrMemory fault.NothingToUndo = ⊥
+IsStoreOrMemory fault.OpenEntry = ⊥
+IsStoreOrMemory fault.JournalFull = ⊥
+IsStoreOrMemory (fault.Refused r) = ⊥

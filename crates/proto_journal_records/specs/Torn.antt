@@ -1,4 +1,4 @@
--- A store in the midst of an entry.
+-- A store in which an entry is open.
 use Rattle.std.specs.Prelude.{◌≡◌, ◌⊎◌, List, [], ◌∷◌, ◌++◌, Option, Some, length}
 use Rattle.std.specs.List.{Contains}
 use Rattle.proto_base.specs.Texts.{Path, Text}

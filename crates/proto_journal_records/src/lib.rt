@@ -1,5 +1,5 @@
 //! The text of the journal: its records, a line each, what may be wrong with a journal, and how a
-//! store comes back that a failed call left in the midst of an entry. No schema is needed here.
+//! store is recovered in which an entry is open. No schema is needed here.
 #![tactic(auto)]
 
 mod fault;

@@ -8,7 +8,7 @@ ghost use Rattle.proto_journal_records.specs.Restoring.{OpenOutcome};
 use crate::fault::JournalFault;
 use crate::journal::{last_is_open, read_records, without_last};
 use crate::laws::journals_grow_and_shrink;
-use crate::putting::put_back;
+use crate::putting::{ask_store, put_back};
 use crate::restoring::old_files;
 use proto_edit_entries::Entry;
 use proto_store::{Store, StoreFault};
@@ -31,7 +31,8 @@ fn open_entry(alloc: Global, journal: &[u8]) -> Result<Option<Entry>, JournalFau
 /// Brings a torn store back to before the last entry, which is open: each of its files that is as
 /// after it gets the old texts, no other file is replaced, and then the entry is taken off the
 /// journal. The answer is true. Where the last entry is not open, or there is none, the answer is
-/// false, and nothing changes. All that is written is made before the first write.
+/// false, and nothing changes. All that is written is made before the first write, and the store is
+/// asked whether the files may be replaced.
 ///
 /// Refused are a journal that is none (`BadJournal`), and an open entry with a file that is not
 /// there, or is neither as before nor as after it (`Refused`, always `Stale`). `NoMemory` may come
@@ -51,6 +52,7 @@ pub fn recover<S: Store>(alloc: Global, store: &mut S) -> Result<bool, JournalFa
         return Ok(false);
     };
     let files = old_files(alloc, store, &entry)?;
+    ask_store(alloc, store, files.as_slice())?;
     journals_grow_and_shrink();
     match put_back(store, files.as_slice(), without_last(journal.as_slice())) {
         Ok(()) => Ok(true),

@@ -4,27 +4,27 @@ ghost use Rattle.std.specs.Prelude.{◌≡◌, ◌⊎◌, ◌+◌, ◌-◌, ◌^
 ghost use Rattle.std.specs.String.{string_bytes};
 ghost use Rattle.proto_store.specs.Stores.{Counts, HoldsBytes, HoldsJournal, ListsPaths, unknown, with_file, with_journal};
 
+mod foreseeing;
+mod walking;
+
 use crate::looks::{
-    FileNumber, Stamp, look, number_of, open_numbered, read_names, regular_file, stamp_of,
+    FileNumber, Known, Stamp, bytes_of, digest_of, number_of, open_numbered, regular_file, stamp_of,
 };
 use crate::replacing::{
-    OTHER_SECOND, Place, SECOND, clear_leftover, put_file, refuse_read_only, second_named,
+    OTHER_SECOND, Place, SECOND, clear_leftover, put_file, refuse_read_only, rights_of, sync_folder,
 };
 use crate::store::{Store, StoreFault};
+use crate::ways::Way;
 use proto_base::{MAX_JOURNAL_LEN, MAX_LEN};
 use std::alloc::Global;
-use std::collections::BTreeMap;
+use std::collections::{BTreeMap, BTreeSet};
 use std::fs::{File, Metadata, TryLockError};
-use std::io::Read;
-use std::os::unix::fs::MetadataExt;
-use std::rt::Files;
-use std::{fs, io};
+use std::io;
+use std::rt::{Clock, Files};
+use walking::Walk;
 
 // Names that begin with a dot are passed over, so the journal is never listed.
 const JOURNAL: &str = ".protoref-journal";
-
-// The mode of a journal where none was, but for what no schema has.
-const NEW_JOURNAL_MODE: u32 = 0o644;
 
 /// The `.proto` files below a folder, as they lie there, and the file
 /// `.protoref-journal` in it. Names that begin with a dot are passed over, and so
@@ -34,7 +34,10 @@ const NEW_JOURNAL_MODE: u32 = 0o644;
 /// was seen then, and looked for anew where it is another. No contract can say what a folder holds.
 ///
 /// Other programs may write the folder meanwhile. `lock` keeps other runs away that ask for it, and
-/// a replace fails where not the file stands that this store has last read or written there.
+/// a replace fails where not the file stands that this store has last read or written there. A file
+/// of which only names, mode, owner or access list were changed is still that file, for a store that
+/// was locked before it read it. A list is of a time at which no folder changed; the first write
+/// after it fails where other files would be listed by then.
 #[derive(Drop)]
 pub struct FolderStore<'a, R: Files + AllocGlobal> {
     rt: &'a R,
@@ -42,8 +45,16 @@ pub struct FolderStore<'a, R: Files + AllocGlobal> {
     failures: u64,
     // The folder while it is locked.
     locked: Option<File>,
+    // Whether digests are kept of what is read: for who has asked for the lock, and so is to write.
+    keeps_digests: bool,
     // What is known of each path.
     seen: BTreeMap<String, Seen>,
+    // The folders of the last list as they were then, and none once something was written.
+    folders: Vec<(String, Stamp)>,
+    // How many files that list has.
+    listed: usize,
+    // The folders with new files that were not brought to the disk since.
+    unsynced: BTreeSet<String>,
     // The bits that the modes of all schemas have that were listed.
     shared_mode: u32,
     // The name of the second files that it makes.
@@ -56,20 +67,10 @@ enum Seen {
     // A file was listed, which is this one.
     Listed(FileNumber),
     // This was last read or written, or there was no journal.
-    Held(Option<Stamp>),
+    Held(Option<Known>),
 }
 
-// What is left to walk, and what was found: paths below the root, and which file each listed one is.
-#[derive(Drop)]
-struct Walk {
-    folders: Vec<String>,
-    files: Vec<String>,
-    numbers: Vec<FileNumber>,
-    leftovers: Vec<String>,
-    shared_mode: u32,
-}
-
-impl<'a, R: Files + AllocGlobal> FolderStore<'a, R> {
+impl<'a, R: Files + Clock + AllocGlobal> FolderStore<'a, R> {
     /// The store of the folder at this path.
     pub fn new(rt: &'a R, root: &'a str) -> FolderStore<'a, R>
         ensures root { result.root.now ≡ root.now }
@@ -80,7 +81,11 @@ impl<'a, R: Files + AllocGlobal> FolderStore<'a, R> {
             root,
             failures: 0,
             locked: None,
+            keeps_digests: false,
             seen: BTreeMap::new(rt.alloc()),
+            folders: Vec::new(rt.alloc()),
+            listed: 0,
+            unsynced: BTreeSet::new(rt.alloc()),
             shared_mode: 0o777,
             second: SECOND,
         }
@@ -129,23 +134,57 @@ impl<'a, R: Files + AllocGlobal> FolderStore<'a, R> {
         note_seen(self.rt.alloc(), &mut self.seen, path, seen)
     }
 
-    // Notes what was written at a path.
-    fn note_written(&mut self, path: &str, stamp: Stamp) -> Result<(), StoreFault>
+    // Notes what was read or written at a path, or that no journal is there.
+    fn note_held(
+        &mut self,
+        path: &str,
+        stamp: Option<Stamp>,
+        bytes: &[u8],
+    ) -> Result<(), StoreFault>
         requires { self.old.failures < 2 ^ 64 - 1 }
         ensures root { self.new.root.now ≡ self.old.root.now }
         ensures count { Counts self.old.failures self.new.failures result }
     {
-        match self.note(path, Seen::Held(Some(stamp))) {
+        let known = match stamp {
+            Some(stamp) => Some(self.known(stamp, bytes)),
+            None => None,
+        };
+        match self.note(path, Seen::Held(known)) {
             Ok(()) => Ok(()),
             Err(_) => Err(self.fault()),
         }
     }
 
+    // What is to be known of a file that has these bytes.
+    fn known(&self, stamp: Stamp, bytes: &[u8]) -> Known {
+        Known {
+            stamp,
+            digest: if self.keeps_digests {
+                Some(digest_of(bytes))
+            } else {
+                None
+            },
+        }
+    }
+
     // What has to stand at a path: what was noted of it, or else what a look has found there.
-    fn wanted_stamp(&self, path: &str, found: Option<Stamp>) -> Option<Stamp> {
+    fn wanted(&self, path: &str, found: Option<Stamp>) -> Option<Known> {
+        match (self.seen.get(path), found) {
+            (Some(Seen::Held(known)), _) => *known,
+            (_, Some(stamp)) => Some(Known {
+                stamp,
+                digest: None,
+            }),
+            (_, None) => None,
+        }
+    }
+
+    // Which file was last listed, read or written at a path.
+    fn seen_number(&self, path: &str) -> Option<FileNumber> {
         match self.seen.get(path) {
-            Some(Seen::Held(stamp)) => *stamp,
-            Some(Seen::Listed(_)) | None => found,
+            Some(Seen::Listed(number)) => Some(*number),
+            Some(Seen::Held(Some(known))) => Some(known.stamp.file),
+            Some(Seen::Held(None)) | None => None,
         }
     }
 
@@ -155,37 +194,15 @@ impl<'a, R: Files + AllocGlobal> FolderStore<'a, R> {
     {
         let walk = self.walk_folders()?;
         let mut is_clear = true;
-        for path in walk.leftovers.iter() {
+        for (path, number) in walk.leftovers.iter() {
             let full_path = self.full_path(path.as_str())?;
-            is_clear &= clear_leftover(self.rt, full_path.as_str()).is_ok();
+            is_clear &= clear_leftover(self.rt, full_path.as_str(), *number).is_ok();
         }
         if is_clear {
             Ok(())
         } else {
             Err(io::Error::from(io::ErrorKind::PermissionDenied))
         }
-    }
-
-    // What lies below the root.
-    fn walk_folders(&self) -> io::Result<Walk>
-        ensures { self.now.root.now ≡ [] → IsErr result }
-    {
-        let alloc = self.rt.alloc();
-        let mut walk = Walk {
-            folders: Vec::new(alloc),
-            files: Vec::new(alloc),
-            numbers: Vec::new(alloc),
-            leftovers: Vec::new(alloc),
-            shared_mode: 0o777,
-        };
-        self.visit_folder(&mut walk, "")?;
-        for _ in 0..u64::MAX {
-            let Some(folder) = walk.folders.pop() else {
-                break;
-            };
-            self.visit_folder(&mut walk, folder.as_str())?;
-        }
-        Ok(walk)
     }
 
     // The paths of all schema files, noted.
@@ -197,18 +214,35 @@ impl<'a, R: Files + AllocGlobal> FolderStore<'a, R> {
         let walk = self.walk_folders()?;
         note_listed(self.rt.alloc(), &mut self.seen, &walk)?;
         self.shared_mode &= walk.shared_mode;
+        self.listed = walk.files.len();
+        self.folders = walk.folders;
         Ok(walk.files)
     }
 
-    // Notes what a folder has. What is no folder has nothing.
-    fn visit_folder(&self, walk: &mut Walk, folder: &str) -> io::Result<()>
-        ensures { self.now.root.now ≡ [] → IsErr result }
+    // Before the first write after a list: fails where other files would be listed now. A folder that
+    // has changed is walked again, since what is no schema may have come or gone.
+    fn check_list(&mut self) -> io::Result<()>
+        ensures root { self.new.root.now ≡ self.old.root.now }
+        ensures failures { self.new.failures ≡ self.old.failures }
     {
-        let names = self.names_in(folder)?;
-        for name in names.split(|byte| *byte == 0) {
-            self.visit(walk, folder, name)?;
+        if !self.are_unchanged(self.folders.as_slice())? {
+            let walk = self.walk_folders()?;
+            if !self.is_as_listed(&walk) {
+                return Err(io::Error::from(io::ErrorKind::AlreadyExists));
+            }
         }
+        self.folders = Vec::new(self.rt.alloc());
         Ok(())
+    }
+
+    // Whether a walk has found the files that were listed last, or read since.
+    fn is_as_listed(&self, walk: &Walk) -> bool {
+        for (path, number) in walk.files.iter().zip(walk.numbers.iter()) {
+            if self.seen_number(path.as_str()) != Some(*number) {
+                return false;
+            }
+        }
+        walk.files.len() == self.listed
     }
 
     // The path from where the program runs. Behind an
@@ -222,94 +256,32 @@ impl<'a, R: Files + AllocGlobal> FolderStore<'a, R> {
         joined_path(self.rt.alloc(), self.root, path)
     }
 
-    // All names in a folder, each ended by a zero byte: none where what has this name is gone, or is
-    // no folder. The root has to be one, or a symbolic link to one; no other link is followed.
-    fn names_in(&self, folder: &str) -> io::Result<Vec<u8>>
-        ensures { self.now.root.now ≡ [] → IsErr result }
-    {
-        let mut path = self.full_path(folder)?;
-        if folder.is_empty() {
-            path.push('/')?;
-        }
-        let mut names = Vec::new(self.rt.alloc());
-        match self.rt.open_dir(path.as_str()) {
-            Ok(mut opened) => read_names(&mut opened, &mut names)?,
-            Err(error) if !folder.is_empty() && is_no_folder(error.kind()) => {}
-            Err(error) => return Err(error),
-        }
-        Ok(names)
-    }
-
-    // Notes a name of the folder, if it may be that of a folder, or is that of a schema file or of
-    // what a write has left. A name that is gone is passed over.
-    fn visit(&self, walk: &mut Walk, folder: &str, name: &[u8]) -> io::Result<()> {
-        if let Some(second) = second_named(name) {
-            walk.leftovers
-                .push(joined_path(self.rt.alloc(), folder, second)?)?;
-        }
-        if name.is_empty() || name.starts_with(b".") {
-            return Ok(());
-        }
-        let Ok(name) = str::from_utf8(name) else {
-            return Err(io::Error::from(io::ErrorKind::InvalidFilename));
-        };
-        let path = joined_path(self.rt.alloc(), folder, name)?;
-        if name.ends_with(".proto") {
-            self.visit_file(walk, path)
-        } else {
-            // That it is a folder its opening tells.
-            walk.folders.push(path)?;
-            Ok(())
-        }
-    }
-
-    // Notes what has the name of a schema file, if it is a regular file or a folder.
-    fn visit_file(&self, walk: &mut Walk, path: String) -> io::Result<()> {
-        let full_path = self.full_path(path.as_str())?;
-        let Some(found) = look(self.rt, full_path.as_str())? else {
-            return Ok(());
-        };
-        if found.is_dir() {
-            walk.folders.push(path)?;
-        } else if found.is_file() {
-            walk.numbers.push(number_of(&found))?;
-            walk.files.push(path)?;
-            walk.shared_mode &= found.mode();
-        }
-        Ok(())
-    }
-
-    // The path of the root, which is a folder or a symbolic link to one.
-    fn root_path(&self) -> io::Result<String>
+    // The way into the root, which is a folder or a symbolic link to one.
+    fn root_way(&self) -> io::Result<Way>
         ensures { self.now.root.now ≡ [] → IsErr result }
     {
         let root = self.full_path("")?;
-        if !fs::metadata(self.rt, root.as_str())?.is_dir() {
-            return Err(io::Error::from(io::ErrorKind::NotADirectory));
-        }
-        Ok(root)
+        Way::into_root(self.rt, root)
     }
 
-    // The full path of a file, where each part before the last is a folder that the walk goes
-    // through. That the last is a regular file is for the caller to see.
-    fn walked_path(&self, path: &str) -> io::Result<String>
+    // The way to a file, where each part before the last is a folder that the walk goes through. That
+    // the last is a regular file is for the caller to see.
+    fn way_to(&self, path: &str) -> io::Result<Way>
         ensures { self.now.root.now ≡ [] → IsErr result }
     {
-        let mut full_path = self.root_path()?;
-        full_path.reserve(path.len().saturating_add(1))?;
+        let mut way = self.root_way()?;
         let mut is_root = true;
         for part in path.split('/') {
             if !is_walked_name(part) {
                 return Err(io::Error::from(io::ErrorKind::InvalidFilename));
             }
-            if !is_root && !fs::symlink_metadata(self.rt, full_path.as_str())?.is_dir() {
-                return Err(io::Error::from(io::ErrorKind::NotADirectory));
+            if !is_root {
+                way.enter(self.rt)?;
             }
             is_root = false;
-            full_path.push('/')?;
-            full_path.push_str(part)?;
+            way.go_to(part)?;
         }
-        Ok(full_path)
+        Ok(way)
     }
 
     // The bytes of a file, up to the first that is too many.
@@ -319,9 +291,9 @@ impl<'a, R: Files + AllocGlobal> FolderStore<'a, R> {
         if let Some(read) = self.seen_bytes(path)? {
             return Ok(read);
         }
-        let full_path = self.walked_path(path)?;
-        match regular_file(self.rt, full_path.as_str())? {
-            Some(found) => self.found_bytes(full_path.as_str(), number_of(&found), MAX_LEN + 1),
+        let way = self.way_to(path)?;
+        match regular_file(self.rt, way.path())? {
+            Some(found) => self.found_bytes(&way, number_of(&found), MAX_LEN + 1),
             None => Err(io::Error::from(io::ErrorKind::NotFound)),
         }
     }
@@ -332,119 +304,120 @@ impl<'a, R: Files + AllocGlobal> FolderStore<'a, R> {
         ensures { self.now.root.now ≡ [] → IsErr result }
     {
         let full_path = self.full_path(path)?;
-        let number = match self.seen.get(path) {
-            Some(Seen::Listed(number)) => *number,
-            Some(Seen::Held(Some(stamp))) => stamp.file,
-            Some(Seen::Held(None)) | None => return Ok(None),
+        let Some(number) = self.seen_number(path) else {
+            return Ok(None);
         };
         match open_numbered(self.rt, full_path.as_str(), number) {
-            Ok((file, found)) => Ok(Some(self.opened_bytes(file, &found, MAX_LEN + 1)?)),
+            Ok((file, found)) => Ok(Some(bytes_of(self.rt, file, &found, MAX_LEN + 1)?)),
             Err(_) => Ok(None),
         }
     }
 
-    // The bytes of a file that a look has found.
+    // The bytes of a file that a look has found, where the way still leads through the same folders
+    // when it is open.
     fn found_bytes(
         &self,
-        path: &str,
+        way: &Way,
         number: FileNumber,
         limit: usize,
     ) -> io::Result<(Vec<u8>, Stamp)> {
-        let (file, found) = open_numbered(self.rt, path, number)?;
-        self.opened_bytes(file, &found, limit)
-    }
-
-    // The bytes of an open file, and how it was when it was opened.
-    fn opened_bytes(
-        &self,
-        file: R::File,
-        found: &Metadata,
-        limit: usize,
-    ) -> io::Result<(Vec<u8>, Stamp)> {
-        // No byte behind the length that is told is read, so that no read asks for the end. A file of
-        // which no length is told is read up to its end.
-        let wanted = match found.size() {
-            0 => limit as u64,
-            len => len.min(limit as u64),
-        };
-        // Room for no more than a schema may have, whatever length is told; the byte more is that of
-        // the turn that finds the end.
-        let told = found.size().min(MAX_LEN as u64) as usize;
-        let mut bytes = Vec::with_capacity(self.rt.alloc(), told + 1)?;
-        file.take(wanted).read_to_end(&mut bytes)?;
-        Ok((bytes, stamp_of(found)))
+        let (file, found) = open_numbered(self.rt, way.path(), number)?;
+        way.check(self.rt)?;
+        bytes_of(self.rt, file, &found, limit)
     }
 
     // A file that is not there is none of the list, and is not made.
-    fn put_bytes(&self, path: &str, bytes: &[u8]) -> io::Result<Stamp>
-        ensures { self.now.root.now ≡ [] → IsErr result }
+    fn put_bytes(&mut self, path: &str, bytes: &[u8]) -> io::Result<Stamp>
+        ensures nowhere { self.old.root.now ≡ [] → IsErr result }
+        ensures root { self.new.root.now ≡ self.old.root.now }
+        ensures failures { self.new.failures ≡ self.old.failures }
     {
-        let full_path = self.walked_path(path)?;
-        let Some(found) = regular_file(self.rt, full_path.as_str())? else {
+        self.check_list()?;
+        let way = self.way_to(path)?;
+        let Some(found) = regular_file(self.rt, way.path())? else {
             return Err(io::Error::from(io::ErrorKind::NotFound));
         };
-        refuse_read_only(self.rt, full_path.as_str(), &found)?;
-        let place = self.place(path, Some(&found), 0o7777);
-        put_file(self.rt, full_path.as_str(), place, bytes)
+        refuse_read_only(self.rt, way.path(), &found)?;
+        let folder = String::from_str(self.rt.alloc(), way.folder()?)?;
+        let _ = self.unsynced.insert(folder)?;
+        let place = self.place(path, Some(&found), 0o7777, MAX_LEN + 1);
+        let moved = put_file(self.rt, &way, place, bytes)?;
+        Ok(stamp_of(&moved))
     }
 
     // Where a file is put: what has to stand there, and what of it is kept, of the mode these bits.
-    fn place(&self, path: &str, found: Option<&Metadata>, bits: u32) -> Place {
-        match found {
-            Some(found) => Place {
-                stands: self.wanted_stamp(path, Some(stamp_of(found))),
-                owner: Some((found.uid(), found.gid())),
-                mode: found.mode() & bits,
-                second: self.second,
-            },
-            None => Place {
-                stands: self.wanted_stamp(path, None),
-                owner: None,
-                mode: NEW_JOURNAL_MODE & bits,
-                second: self.second,
-            },
+    fn place(&self, path: &str, found: Option<&Metadata>, bits: u32, limit: usize) -> Place {
+        let (stamp, rights) = match found {
+            Some(found) => (Some(stamp_of(found)), Some(rights_of(found, bits))),
+            None => (None, None),
+        };
+        Place {
+            stands: self.wanted(path, stamp),
+            rights,
+            bits,
+            limit,
+            second: self.second,
         }
     }
 
-    fn journal_path(&self) -> io::Result<String>
+    fn journal_way(&self) -> io::Result<Way>
         ensures { self.now.root.now ≡ [] → IsErr result }
     {
-        let root = self.root_path()?;
-        joined_path(self.rt.alloc(), root.as_str(), JOURNAL)
+        let mut way = self.root_way()?;
+        way.go_to(JOURNAL)?;
+        Ok(way)
     }
 
     // The bytes of the journal, up to the first that is too many.
     fn journal_bytes(&self) -> io::Result<(Vec<u8>, Option<Stamp>)>
         ensures { self.now.root.now ≡ [] → IsErr result }
     {
-        let path = self.journal_path()?;
-        let Some(found) = regular_file(self.rt, path.as_str())? else {
+        let way = self.journal_way()?;
+        let Some(found) = regular_file(self.rt, way.path())? else {
             return Ok((Vec::new(self.rt.alloc()), None));
         };
-        let (bytes, stamp) = self.found_bytes(
-            path.as_str(),
-            number_of(&found),
-            MAX_JOURNAL_LEN + 1,
-        )?;
+        let (bytes, stamp) = self.found_bytes(&way, number_of(&found), MAX_JOURNAL_LEN + 1)?;
         Ok((bytes, Some(stamp)))
     }
 
-    fn put_journal(&self, bytes: &[u8]) -> io::Result<Stamp>
-        ensures { self.now.root.now ≡ [] → IsErr result }
+    // The files that were replaced before are on the disk when the journal is written, and the
+    // journal when it is answered.
+    fn put_journal(&mut self, bytes: &[u8]) -> io::Result<Stamp>
+        ensures nowhere { self.old.root.now ≡ [] → IsErr result }
+        ensures root { self.new.root.now ≡ self.old.root.now }
+        ensures failures { self.new.failures ≡ self.old.failures }
     {
-        let path = self.journal_path()?;
-        let found = regular_file(self.rt, path.as_str())?;
-        let place = self.place(JOURNAL, found.as_ref(), self.shared_mode);
-        put_file(self.rt, path.as_str(), place, bytes)
+        self.check_list()?;
+        self.sync_folders()?;
+        let way = self.journal_way()?;
+        let found = regular_file(self.rt, way.path())?;
+        let bits = self.shared_mode;
+        let place = self.place(JOURNAL, found.as_ref(), bits, MAX_JOURNAL_LEN + 1);
+        let moved = put_file(self.rt, &way, place, bytes)?;
+        sync_folder(self.rt, way.folder()?)?;
+        Ok(stamp_of(&moved))
+    }
+
+    // Brings the folders to the disk in which files were replaced.
+    fn sync_folders(&mut self) -> io::Result<()>
+        ensures root { self.new.root.now ≡ self.old.root.now }
+        ensures failures { self.new.failures ≡ self.old.failures }
+    {
+        for folder in self.unsynced.iter() {
+            sync_folder(self.rt, folder.as_str())?;
+        }
+        self.unsynced = BTreeSet::new(self.rt.alloc());
+        Ok(())
     }
 }
 
-impl<'a, R: Files<File = File> + AllocGlobal> FolderStore<'a, R> {
+impl<'a, R: Files<File = File> + Clock + AllocGlobal> FolderStore<'a, R> {
     /// Takes the folder for this store alone, until the store is dropped or the process ends,
     /// however it ends. Nothing is written for it. A store that has the folder keeps it. Fails, at
     /// once, where another store has it, in this process or in another, and where the root is no
     /// folder or cannot be opened. A file system that has no such locks gives none; the store goes
-    /// on without. No clause can say that others wait: of what they do nothing is known.
+    /// on without. From then on a digest is kept of what is read, by which a file is known whose bytes
+    /// stay. No clause can say that others wait: of what they do nothing is known.
     pub fn lock(&mut self) -> Result<(), StoreFault>
         requires { self.old.failures < 2 ^ 64 - 1 }
         ensures same { ⟦<FolderStore<'a, R> as Store>⟧.holds self.new
@@ -454,11 +427,13 @@ impl<'a, R: Files<File = File> + AllocGlobal> FolderStore<'a, R> {
         ensures count { Counts self.old.failures self.new.failures result }
     {
         match self.folder_locked() {
-            Ok(Some(folder)) => {
-                self.locked = Some(folder);
+            Ok(folder) => {
+                if folder.is_some() {
+                    self.locked = folder;
+                }
+                self.keeps_digests = true;
                 Ok(())
             }
-            Ok(None) => Ok(()),
             Err(_) => Err(self.fault()),
         }
     }
@@ -467,11 +442,11 @@ impl<'a, R: Files<File = File> + AllocGlobal> FolderStore<'a, R> {
     fn folder_locked(&self) -> io::Result<Option<File>>
         ensures { self.now.root.now ≡ [] → IsErr result }
     {
-        let root = self.root_path()?;
+        let root = self.root_way()?;
         if self.locked.is_some() {
             return Ok(None);
         }
-        let folder = File::open(self.rt, root.as_str())?;
+        let folder = File::open(self.rt, root.path())?;
         match folder.try_lock() {
             Ok(()) => Ok(Some(folder)),
             Err(TryLockError::WouldBlock) => Err(io::Error::from(io::ErrorKind::WouldBlock)),
@@ -527,14 +502,6 @@ fn is_walked_name(name: &str) -> bool {
     !name.is_empty() && !name.starts_with('.')
 }
 
-// Whether a folder was not opened since none has its name.
-fn is_no_folder(kind: io::ErrorKind) -> bool {
-    matches!(
-        kind,
-        io::ErrorKind::NotFound | io::ErrorKind::NotADirectory | io::ErrorKind::FilesystemLoop
-    )
-}
-
 // A path below a folder, where either may be empty.
 fn joined_path(alloc: Global, folder: &str, path: &str) -> io::Result<String> {
     let len = folder.len().saturating_add(path.len()).saturating_add(1);
@@ -547,7 +514,7 @@ fn joined_path(alloc: Global, folder: &str, path: &str) -> io::Result<String> {
     Ok(joined)
 }
 
-impl<R: Files + AllocGlobal> Store for FolderStore<'_, R> {
+impl<R: Files + Clock + AllocGlobal> Store for FolderStore<'_, R> {
     ghost holds = { λ _. unknown };
 
     ghost failure_count = { λ s. s.failures };
@@ -573,18 +540,19 @@ impl<R: Files + AllocGlobal> Store for FolderStore<'_, R> {
         ensures count { Counts self.old.failures self.new.failures result }
     {
         match self.file_bytes(path) {
-            Ok((bytes, stamp)) => match self.note(path, Seen::Held(Some(stamp))) {
+            Ok((bytes, stamp)) => match self.note_held(path, Some(stamp), bytes.as_slice()) {
                 Ok(()) => Ok(bytes),
-                Err(_) => Err(self.fault()),
+                Err(fault) => Err(fault),
             },
             Err(_) => Err(self.fault()),
         }
     }
 
     /// Writes a second file, gives it the owner, the group and the mode of the first, brings it to
-    /// the disk, and gives it the name of the first. Fails, with the first as it was, where a
-    /// second file is there already, where the first may not be written, and where it is not as
-    /// this store has last read or written it.
+    /// the disk, and gives it the name of the first; the folder is brought to the disk before the
+    /// journal is written. Fails, with the first as it was, where a second file is there already,
+    /// where the first may not be written, and where it is not as this store has last read or
+    /// written it.
     fn replace(&mut self, path: &str, bytes: &[u8]) -> Result<(), StoreFault>
         requires { self.old.failures < 2 ^ 64 - 1 }
         ensures ok { OnOk result (unknown ≡ option_map (with_file path.now bytes.now) unknown) }
@@ -595,7 +563,22 @@ impl<R: Files + AllocGlobal> Store for FolderStore<'_, R> {
         ensures count { Counts self.old.failures self.new.failures result }
     {
         match self.put_bytes(path, bytes) {
-            Ok(stamp) => self.note_written(path, stamp),
+            Ok(stamp) => self.note_held(path, Some(stamp), bytes),
+            Err(_) => Err(self.fault()),
+        }
+    }
+
+    /// Fails where one of the files or the journal is not as this store has last read or written it,
+    /// may not be replaced by this process, has something in the place of its second file, or is a
+    /// mount point; and where a file may not be opened for writing. Looks alone are made for it.
+    fn may_replace(&mut self, paths: &[&str]) -> Result<(), StoreFault>
+        requires { self.old.failures < 2 ^ 64 - 1 }
+        ensures nowhere { self.old.root.now ≡ [] → IsErr result }
+        ensures root { self.new.root.now ≡ self.old.root.now }
+        ensures count { Counts self.old.failures self.new.failures result }
+    {
+        match self.foresee(paths) {
+            Ok(()) => Ok(()),
             Err(_) => Err(self.fault()),
         }
     }
@@ -610,15 +593,15 @@ impl<R: Files + AllocGlobal> Store for FolderStore<'_, R> {
         ensures count { Counts self.old.failures self.new.failures result }
     {
         match self.journal_bytes() {
-            Ok((bytes, stamp)) => match self.note(JOURNAL, Seen::Held(stamp)) {
+            Ok((bytes, stamp)) => match self.note_held(JOURNAL, stamp, bytes.as_slice()) {
                 Ok(()) => Ok(bytes),
-                Err(_) => Err(self.fault()),
+                Err(fault) => Err(fault),
             },
             Err(_) => Err(self.fault()),
         }
     }
 
-    /// As `replace`. Nobody may do with the journal what he may not do with each schema that was
+    /// As `replace`, and the folder is brought to the disk. Nobody may do with the journal what he may not do with each schema that was
     /// listed, or what he might not do before; one that was not there has besides at most the mode
     /// 0644 but for the umask.
     fn replace_journal(&mut self, bytes: &[u8]) -> Result<(), StoreFault>
@@ -631,7 +614,7 @@ impl<R: Files + AllocGlobal> Store for FolderStore<'_, R> {
         ensures count { Counts self.old.failures self.new.failures result }
     {
         match self.put_journal(bytes) {
-            Ok(stamp) => self.note_written(JOURNAL, stamp),
+            Ok(stamp) => self.note_held(JOURNAL, Some(stamp), bytes),
             Err(_) => Err(self.fault()),
         }
     }

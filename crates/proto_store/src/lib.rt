@@ -5,8 +5,11 @@ mod files;
 mod folder;
 mod looks;
 mod memory;
+mod mounts;
 mod replacing;
+mod settling;
 mod store;
+mod ways;
 
 pub use files::{ReadingFault, all_files};
 pub use folder::FolderStore;

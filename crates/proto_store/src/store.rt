@@ -68,6 +68,17 @@ pub trait Store {
             ⊎ (holds self.new ≡ option_map (with_file path.now bytes.now) (holds self.old))) }
         ensures count { Counts (failure_count self.old) (failure_count self.new) result };
 
+    /// Whether the files at these paths and the journal may be replaced, as far as that is seen
+    /// without a write; all stays as it is. `Ok` promises nothing of a later replace. A store that
+    /// does not look keeps this one, which always answers `Ok`.
+    fn may_replace(&mut self, _paths: &[&str]) -> Result<(), StoreFault>
+        requires { failure_count self.old < 2 ^ 64 - 1 }
+        ensures same { holds self.new ≡ holds self.old }
+        ensures count { Counts (failure_count self.old) (failure_count self.new) result }
+    {
+        Ok(())
+    }
+
     /// The bytes of the journal. One that is not there is empty.
     fn read_journal(&mut self) -> Result<Vec<u8>, StoreFault>
         requires { failure_count self.old < 2 ^ 64 - 1 }

@@ -13,7 +13,7 @@ use protoref_commands::{
 };
 use std::fs::File;
 use std::process::ExitCode;
-use std::rt::{Env, Files};
+use std::rt::{Clock, Env, Files};
 use std::{env, io, mem};
 
 const BAD_COMMAND_LINE: &str = "protoref: bad command line";
@@ -29,7 +29,9 @@ fn main(rt: HostRuntime) -> ExitCode {
 }
 
 // The exit status, or the line for standard error.
-fn answer<R: Files<File = File> + Env + Print + AllocGlobal>(rt: &R) -> Result<u8, &'static str> {
+fn answer<R: Files<File = File> + Env + Clock + Print + AllocGlobal>(
+    rt: &R,
+) -> Result<u8, &'static str> {
     let request = match words(rt) {
         Ok(words) => parse_arguments(rt.alloc(), words.as_slice()),
         Err(fault) => Err(fault),
@@ -41,7 +43,7 @@ fn answer<R: Files<File = File> + Env + Print + AllocGlobal>(rt: &R) -> Result<u
     }
 }
 
-fn carry_out<R: Files<File = File> + Print + AllocGlobal>(
+fn carry_out<R: Files<File = File> + Clock + Print + AllocGlobal>(
     rt: &R,
     errand: Errand,
 ) -> Result<u8, &'static str> {
@@ -64,7 +66,7 @@ fn words<R: Env + AllocGlobal>(rt: &R) -> Result<Vec<String>, UsageError> {
 }
 
 // Runs a command over the folder at a path.
-fn run_over<R: Files<File = File> + Print + AllocGlobal>(
+fn run_over<R: Files<File = File> + Clock + Print + AllocGlobal>(
     rt: &R,
     command: Command,
     root: &str,
@@ -85,7 +87,7 @@ fn run_over<R: Files<File = File> + Print + AllocGlobal>(
 
 // What comes before a command: one that writes takes the folder for itself, and removes what runs
 // that were cut off have left there. A recovery goes on where some of that cannot be removed.
-fn begin<'a, R: Files<File = File> + AllocGlobal>(
+fn begin<'a, R: Files<File = File> + Clock + AllocGlobal>(
     store: &mut FolderStore<'a, R>,
     way: Way,
 ) -> Result<(), StoreFault>

@@ -98,7 +98,7 @@ const COMMANDS: &[Words] = &[
     },
     Words {
         name: "recover",
-        about: "Takes back what an edit or an undo left that was cut off in its midst",
+        about: "Rolls the files of an open entry back, which an edit or an undo that was cut off has left",
         below: help::RECOVER,
         arguments: &[ROOT],
     },

@@ -3,10 +3,10 @@
 use crate::calls::{WIDE, expect_end};
 use protoref_commands::{Command, FolderStore, RuleSet, RunFault};
 use std::process::Abort;
-use std::rt::Files;
+use std::rt::{Clock, Files};
 
 // The command ends with the failure of the store, which the program makes status 2 of, and prints nothing.
-fn expect_nowhere<R: Files + AllocGlobal + Abort>(rt: &R, command: Command) {
+fn expect_nowhere<R: Files + Clock + AllocGlobal + Abort>(rt: &R, command: Command) {
     let mut store = FolderStore::new(rt, "");
     let end = (Err(RunFault::Store), "", 0);
     expect_end(rt, &mut store, command, WIDE, end, 1);
