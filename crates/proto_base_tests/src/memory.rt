@@ -18,6 +18,8 @@ pub(crate) enum Step {
     ReadJournal,
     Replace(&'static str, &'static str),
     Note(&'static str),
+    /// It is asked for the file at a path, and the journal, before a write.
+    MayReplace(&'static str),
     /// It holds these files and this journal.
     Held(Files, &'static str),
     /// So many calls have failed.
@@ -38,6 +40,7 @@ pub(crate) fn take(rt: &impl Abort, store: &mut MemoryStore, step: Step) -> bool
         Step::ReadJournal => store.read_journal().is_ok(),
         Step::Replace(path, text) => replace(rt, store, path, text).is_ok(),
         Step::Note(text) => store.replace_journal(text.as_bytes()).is_ok(),
+        Step::MayReplace(path) => store.may_replace(&[path]).is_ok(),
         Step::Held(files, journal) => is_held(rt, store, files, journal),
         Step::Failures(count) => store.failures() == count,
     }
@@ -128,6 +131,7 @@ fn changes_nothing_at_a_call_that_only_asks(rt: HostRuntime) {
             (Step::FailAt(2, lands), true),
             (Step::Read("a.proto"), false),
             (Step::FailAt(1, lands), true),
+            (Step::MayReplace("a.proto"), true),
             (Step::ReadJournal, false),
             (Step::FailAt(1, lands), true),
             (Step::Replace("a.proto", "C"), false),

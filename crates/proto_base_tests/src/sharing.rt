@@ -3,6 +3,8 @@
 use crate::steps::{Ask, Change, Holds, LAST, Made, Seen, Step, in_new_folder, root_of, take_all};
 use proto_store::{FolderStore, Store};
 use std::process::Abort;
+use std::thread;
+use std::time::Duration;
 
 const SCHEMA: &str = "p/a.proto";
 
@@ -109,6 +111,28 @@ const MEDDLED: &[(&[Step], &[Step])] = &[
     ),
 ];
 
+// Who asks before the first write is told of all that, and nothing is written for it.
+#[test]
+fn tells_what_is_in_the_way(rt: HostRuntime) {
+    expect_way(&rt, &rt, &[], true);
+    for (meant, _) in MEDDLED {
+        expect_way(&rt, &rt, meant, false);
+    }
+}
+
+fn expect_way(abort: &impl Abort, rt: &HostRuntime, meant: &[Step], is_clear: bool) {
+    let root = root_of(abort, rt, "ahead");
+    take_all(abort, rt, root.as_str(), BEGUN);
+    let mut store = FolderStore::new(rt, root.as_str());
+    expect_read(abort, &mut store);
+    take_all(abort, rt, root.as_str(), meant);
+    assert!(abort; store.failures() < u64::MAX);
+    let may_replace = store.may_replace(&[SCHEMA]).is_ok();
+    let failures = if is_clear { 0 } else { 1 };
+    assert!(abort; may_replace == is_clear && store.failures() == failures);
+    take_all(abort, rt, root.as_str(), LAST);
+}
+
 const SECONDS: &[Step] = &[
     (".protoref-new", Holds::Seen(Seen::Nothing)),
     ("p/.protoref-new", Holds::Seen(Seen::Nothing)),
@@ -129,6 +153,52 @@ fn write_both(abort: &impl Abort, store: &mut FolderStore<'_, HostRuntime>) -> (
     assert!(abort; store.failures() < u64::MAX);
     let journal = store.replace_journal(b"J").is_ok();
     (file, journal)
+}
+
+// A file whose mode another has changed is the one that was read, for a store that has locked its
+// folder first; any other store keeps no digest of it.
+#[test]
+fn knows_a_file_whose_bytes_stay(rt: HostRuntime) {
+    for (is_locked, kept) in [(true, "C"), (false, "A")] {
+        let root = root_of(&rt, &rt, "same");
+        take_all(&rt, &rt, root.as_str(), BEGUN);
+        let mut store = FolderStore::new(&rt, root.as_str());
+        if is_locked {
+            expect_locked(&rt, &mut store, true);
+        }
+        expect_read(&rt, &mut store);
+        // So that the change has another time than the file.
+        thread::sleep(&rt, Duration::from_millis(30));
+        take_all(&rt, &rt, root.as_str(), &[(SCHEMA, GROUPS)]);
+        let (file, journal) = write_both(&rt, &mut store);
+        assert!(&rt; file == is_locked && journal);
+        let seen = [
+            (SCHEMA, Holds::Seen(Seen::Text(kept))),
+            (SCHEMA, Holds::Seen(Seen::Mode(0o777, 0o660))),
+        ];
+        take_all(&rt, &rt, root.as_str(), &seen);
+        take_all(&rt, &rt, root.as_str(), LAST);
+    }
+}
+
+const GROUPS: Holds = Holds::Made(Made::Mode(0o660));
+
+// A list is of one time: where another file is listed by the first write, that fails.
+#[test]
+fn writes_to_no_other_list(rt: HostRuntime) {
+    for (made, is_written) in [("p/b.proto", false), ("p/b.txt", true)] {
+        let root = root_of(&rt, &rt, "listed");
+        take_all(&rt, &rt, root.as_str(), BEGUN);
+        let mut store = FolderStore::new(&rt, root.as_str());
+        expect_read(&rt, &mut store);
+        assert!(&rt; store.failures() < u64::MAX);
+        let lists = store.list().is_ok();
+        let more = [(made, Holds::Made(Made::Text("B")))];
+        take_all(&rt, &rt, root.as_str(), &more);
+        let written = write_both(&rt, &mut store);
+        assert!(&rt; lists && written == (is_written, is_written));
+        take_all(&rt, &rt, root.as_str(), LAST);
+    }
 }
 
 #[test]

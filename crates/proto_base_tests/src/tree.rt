@@ -13,10 +13,15 @@ fn read<R: AllocGlobal + Abort>(rt: &R, text: &str) -> Result<File, ParseFault> 
     parse(rt.alloc(), &source, &tokens)
 }
 
+/// A statement right in a file: its kind, and its first and its last token.
+type Shape = (&'static str, u32, u32);
+
 /// What is said of a text.
 enum Said {
-    /// It has a tree.
-    Tree,
+    /// A tree of these statements.
+    Tree(&'static [Shape]),
+    /// A tree of so many messages of four tokens.
+    Messages(usize),
     /// A tree whose first field has token 3 as its label, and a type behind a dot at token 5.
     Label,
     /// A tree whose first method takes token 6 as `stream`, 8 as a type behind a dot, and 12 as the type of its answers.
@@ -25,10 +30,49 @@ enum Said {
     Fault(u32, &'static str, u32),
 }
 
+fn shape_of(item: &Item) -> Shape {
+    match item {
+        Item::Syntax(syntax) => ("syntax", syntax.keyword, syntax.semicolon),
+        Item::Import(import) => ("import", import.keyword, import.semicolon),
+        Item::Package(package) => ("package", package.keyword, package.semicolon),
+        Item::Option(option) => ("option", option.keyword, option.semicolon),
+        Item::Message(message) => ("message", message.keyword, message.close),
+        Item::Enum(one) => ("enum", one.keyword, one.close),
+        Item::Service(service) => ("service", service.keyword, service.close),
+        Item::Extend(extend) => ("extend", extend.keyword, extend.close),
+        Item::Empty(token) => ("empty", *token, *token),
+    }
+}
+
+fn has_shape(item: &Item, shape: &Shape) -> bool {
+    let (kind, first, last) = shape_of(item);
+    kind == shape.0 && first == shape.1 && last == shape.2
+}
+
+fn has_shapes(file: &File, shapes: &[Shape]) -> bool {
+    for (item, shape) in file.items.iter().zip(shapes) {
+        if !has_shape(item, shape) {
+            return false;
+        }
+    }
+    file.items.len() == shapes.len()
+}
+
+fn has_messages(file: &File, count: usize) -> bool {
+    for (place, item) in file.items.iter().enumerate() {
+        let (kind, first, last) = shape_of(item);
+        if kind != "message" || first as usize / 4 != place || last as usize / 4 != place {
+            return false;
+        }
+    }
+    file.items.len() == count
+}
+
 // Whether this is said of a text with this tree.
 fn is_said(file: &File, said: &Said) -> bool {
     match (said, file.items.first()) {
-        (Said::Tree, _) => true,
+        (Said::Tree(shapes), _) => has_shapes(file, *shapes),
+        (Said::Messages(count), _) => has_messages(file, *count),
         (Said::Label, Some(Item::Message(message))) => {
             let Some(Member::Field(field)) = message.members.first() else {
                 return false;
@@ -88,7 +132,7 @@ fn is_counted<R: AllocGlobal + Abort>(rt: &R, steps: &mut Steps, text: &str, sai
     is_answered(answer, said) && steps.count() == before + 1
 }
 
-/// Texts, each with what is said of it.
+/// Texts, each with what is said of it. Tokens are counted in the texts.
 const TEXTS: &[(&str, Said)] = &[
     ("message M { reserved 1, ; }", Said::Fault(8, "Syntax", 12)),
     (
@@ -118,11 +162,20 @@ const TEXTS: &[(&str, Said)] = &[
     ),
     ("message M { reserved -1; }", Said::Fault(8, "Syntax", 12)),
     ("import \"a.proto\" \"b\";", Said::Fault(8, "Syntax", 0)),
-    ("", Said::Tree),
-    ("message M { optional string message = 1; }", Said::Tree),
+    ("", Said::Tree(&[])),
+    (
+        "message M { optional string message = 1; }",
+        Said::Tree(&[("message", 0, 9)]),
+    ),
     (
         "syntax = '\\160roto2'; package a.message; ; import public 'x.proto'; option java_package = \"a\" 'b';",
-        Said::Tree,
+        Said::Tree(&[
+            ("syntax", 0, 3),
+            ("package", 4, 8),
+            ("empty", 9, 9),
+            ("import", 10, 13),
+            ("option", 14, 19),
+        ]),
     ),
     (
         "message M { map<string, .a.B> m = 1 [deprecated = true, json_name = \"x\"]; oneof o { M m = 2; } extensions 4, 100 to max; reserved \"a\", \"b\"; enum E { reserved -5 to -1, 7 to max; V = -1 [deprecated = true]; reserved = 1; } ; }",
@@ -130,7 +183,7 @@ const TEXTS: &[(&str, Said)] = &[
     ),
     (
         "message M { map<string, .a.B> m = 1 [deprecated = true, json_name = \"x\"]; oneof o { M m = 2; } extensions 4, 100 to max; reserved \"a\", \"b\"; enum E { reserved -5 to -1, 7 to max; V = -1 [deprecated = true]; message = 1; } ; }",
-        Said::Tree,
+        Said::Tree(&[("message", 0, 76)]),
     ),
     (
         "service S { rpc A (B) returns (stream stream.C) { option deprecated = -1; ; } option x = y; ; }",
@@ -138,7 +191,7 @@ const TEXTS: &[(&str, Said)] = &[
     ),
     (
         "service S { rpc A (B) returns (stream .stream.C) { option deprecated = -1; ; } option x = y; ; }",
-        Said::Tree,
+        Said::Tree(&[("service", 0, 31)]),
     ),
     // A label, and `stream`, before a dot.
     ("message M { optional.Foo x = 1; }", Said::Label),
@@ -150,10 +203,13 @@ const TEXTS: &[(&str, Said)] = &[
 
 /// Texts with `extend` blocks, each with what is said of it.
 const EXTENDS: &[(&str, Said)] = &[
-    ("extend M { optional int32 a = 1; }", Said::Tree),
+    (
+        "extend M { optional int32 a = 1; }",
+        Said::Tree(&[("extend", 0, 9)]),
+    ),
     (
         "message M { extend .a.M { int32 a = 1; M b = 2 [deprecated = true]; } } extend.N { }",
-        Said::Tree,
+        Said::Tree(&[("message", 0, 25), ("extend", 26, 30)]),
     ),
     (
         "message M { extensions 100; } extend M { ; }",
@@ -177,7 +233,10 @@ const EXTENDS: &[(&str, Said)] = &[
         Said::Fault(8, "Syntax", 11),
     ),
     ("extend M { reserved 1; }", Said::Fault(8, "Syntax", 11)),
-    ("extend M { };", Said::Tree),
+    (
+        "extend M { };",
+        Said::Tree(&[("extend", 0, 3), ("empty", 4, 4)]),
+    ),
     (
         "extend M optional int32 a = 1;",
         Said::Fault(8, "Syntax", 0),
@@ -224,6 +283,6 @@ fn parses_are_counted(rt: HostRuntime) {
         expect(&rt, is_counted(&rt, &mut steps, text, said), text);
     }
     let text = repeated_text(&rt, "message M { }", 4096, "", 0);
-    let is_large = is_counted(&rt, &mut steps, text.as_str(), &Said::Tree);
+    let is_large = is_counted(&rt, &mut steps, text.as_str(), &Said::Messages(4096));
     expect(&rt, is_large, "a large file");
 }

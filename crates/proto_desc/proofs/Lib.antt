@@ -8,5 +8,5 @@ mod Opened
 mod ReadTexts
 mod Renewed
 mod ReplacedTexts
-mod SameBut
+pub mod SameBut
 mod WithTexts

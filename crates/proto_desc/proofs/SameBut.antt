@@ -1,4 +1,4 @@
--- Files with other texts at some places are those of before, but at these places.
+-- Files with other texts at some places are those of before, but at these places (for the crates above).
 use Rattle.std.proofs.Common.{◌≡◌, ℕ, zero, suc, List, [], ◌∷◌, length, refl, sym, ◌∙◌, ap, subst, slice_set, length-set, Contains}
 use Rattle.std.proofs.lemmas.List.{get_or-set_other}
 use Rattle.proto_base.proofs.Common.{Text, contains_head, contains_later}

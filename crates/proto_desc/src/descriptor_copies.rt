@@ -1,10 +1,11 @@
 //! Copies of descriptors, and descriptors of files of which some were edited.
 
-ghost use Rattle.std.specs.Prelude.{◌≡◌, ◌<◌, length, option_map, All, IfOk, IfErr, OnOk, OnErr};
+ghost use Rattle.std.specs.Prelude.{◌≡◌, ◌<◌, List, length, option_map, All, IfOk, IfErr, OnOk, OnErr};
 ghost use Rattle.proto_desc.specs.Checked.{CheckFaults, IsCheckError};
 ghost use Rattle.proto_desc.specs.Edited.{AreCheckedDescriptors, AreDescriptorsOf, WereDescribed};
 ghost use Rattle.proto_desc.specs.Views.{files_desc, files_kept};
 ghost use Rattle.proto_files.specs.Faults.{HasNoFault};
+ghost use Rattle.proto_files.specs.GivenFiles.{FileOf};
 ghost use Rattle.proto_names_imports.specs.Links.{LinkFaults};
 ghost use Rattle.proto_names.specs.Following.{WasMadeOf};
 ghost use Rattle.proto_resolved.specs.LinkOfFiles.{IsLinkOf};
@@ -23,6 +24,8 @@ impl Descriptors {
     pub fn copy(&self, alloc: Global) -> Result<Descriptors, NoMemory>
         ensures descriptors { IfOk result (λ d. files_desc d ≡ files_desc self.now) }
         ensures kept { IfOk result (λ d. files_kept d ≡ files_kept self.now) }
+        ensures same { IfOk result (λ d. (files : List FileOf)
+            → AreDescriptorsOf files self.now → AreDescriptorsOf files d) }
     {
         let file = copy_files(alloc, &self.file)?;
         let kept = copy_file_summaries(alloc, &self.kept)?;
@@ -30,7 +33,8 @@ impl Descriptors {
     }
 
     /// Changes these to the descriptors of the files, which differ from those before at these places
-    /// alone. It answers as `check` of the files does; after a refusal they are as they were.
+    /// alone; those before had no fault. It answers as `check` of the files does; after a refusal
+    /// they are as they were.
     pub fn replace(
         &mut self,
         alloc: Global,

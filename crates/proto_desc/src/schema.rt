@@ -196,9 +196,11 @@ impl Schema {
         &self.link
     }
 
-    /// The descriptors of the files.
+    /// The descriptors of the files. A copy of them is updated by `Descriptors::replace` where a copy
+    /// of the files is edited.
     pub fn descriptors(&self) -> &Descriptors
         ensures described { AreDescribed self.now (files_desc result.now) }
+        ensures descriptors { AreDescriptorsOf self.now result.now }
         // Each file has tokens and a tree, of which the descriptors are told.
         ensures read { (reads : List ReadOf) × AreRead self.now reads }
     {

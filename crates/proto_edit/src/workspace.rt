@@ -2,6 +2,7 @@
 
 ghost use Rattle.std.specs.Prelude.{◌≡◌, ◌+◌, ◌≤◌, ◌^◌, List, length, map, IfOk, IfErr, OnOk, OnErr};
 ghost use Rattle.proto_desc.specs.Checked.{AreDescribed};
+ghost use Rattle.proto_desc.specs.Edited.{AreDescriptorsOf};
 ghost use Rattle.proto_desc.specs.Views.{files_desc};
 ghost use Rattle.proto_files.specs.Faults.{HasNoFault};
 ghost use Rattle.proto_files.specs.GivenFiles.{files_of};
@@ -72,9 +73,11 @@ impl Workspace {
         self.schema.link()
     }
 
-    /// The descriptors of the files.
+    /// The descriptors of the files. A copy of them is updated by `Descriptors::replace` where a copy
+    /// of the files is edited.
     pub fn descriptors(&self) -> &Descriptors
         ensures described { AreDescribed self.now (files_desc result.now) }
+        ensures descriptors { AreDescriptorsOf self.now result.now }
         // Each file has tokens and a tree, of which the descriptors are told.
         ensures read { (reads : List ReadOf) × AreRead self.now reads }
     {

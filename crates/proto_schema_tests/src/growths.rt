@@ -1,4 +1,4 @@
-//! How often a link and descriptors ask for memory where one of 256 files is edited. In a run that refuses one allocation a
+//! How often a link, descriptors and a schema ask for memory where one of 256 files is edited. In a run that refuses one allocation a
 //! test here fails exactly where the call that follows the edit is what meets the refusal:
 //! `tools/acceptance/refused_allocations --fewer` counts these runs. In a run that refuses none it passes.
 
@@ -10,7 +10,7 @@ ghost use Rattle.proto_tree.specs.Reads.{Reads};
 use crate::calls::{Given, add};
 use crate::names::calls::read;
 use proto_base::{NoMemory, SchemaFault};
-use proto_desc::{Descriptors, check};
+use proto_desc::{Descriptors, Schema, check};
 use proto_files::Files;
 use proto_names::Link;
 use proto_text::{Source, Token, lex};
@@ -69,6 +69,12 @@ fn expect_memory<R: Abort>(rt: &R, answer: &Result<(), SchemaFault>) {
     assert!(rt; answer.is_ok(), "a fault");
 }
 
+// Ends the test where what comes before the call found a fault.
+fn expect_made<R: Abort>(rt: &R, answer: &Result<(), SchemaFault>) {
+    let is_faulty = matches!(answer, Err(SchemaFault::Schema(_)));
+    assert!(rt; !is_faulty, "a fault before the call");
+}
+
 fn expect_link<R: AllocGlobal + Abort>(rt: &R, files: &mut Files) -> Result<(), SchemaFault> {
     if files.len() != 256 {
         assert!(rt; false, "another number of files");
@@ -83,13 +89,17 @@ fn expect_link<R: AllocGlobal + Abort>(rt: &R, files: &mut Files) -> Result<(), 
     Ok(())
 }
 
+// This alone owns the files.
+fn link_files<R: AllocGlobal + Abort>(rt: &R) -> Result<(), SchemaFault> {
+    let mut files = many_files(rt)?;
+    let answer = expect_link(rt, &mut files);
+    files.release();
+    answer
+}
+
 #[test]
 fn a_link_follows_an_edited_file(rt: HostRuntime) {
-    let Ok(mut files) = many_files(&rt) else {
-        return
-    };
-    let _answer = expect_link(&rt, &mut files);
-    files.release();
+    expect_made(&rt, &link_files(&rt));
 }
 
 fn expect_descriptors<R: AllocGlobal + Abort>(
@@ -111,11 +121,41 @@ fn expect_descriptors<R: AllocGlobal + Abort>(
     Ok(())
 }
 
+// This alone owns the files.
+fn describe_files<R: AllocGlobal + Abort>(rt: &R) -> Result<(), SchemaFault> {
+    let mut files = many_files(rt)?;
+    let answer = expect_descriptors(rt, &mut files);
+    files.release();
+    answer
+}
+
 #[test]
 fn descriptors_follow_an_edited_file(rt: HostRuntime) {
-    let Ok(mut files) = many_files(&rt) else {
-        return
-    };
-    let _answer = expect_descriptors(&rt, &mut files);
-    files.release();
+    expect_made(&rt, &describe_files(&rt));
+}
+
+fn expect_schema<R: AllocGlobal + Abort>(rt: &R, schema: &mut Schema) -> Result<(), SchemaFault> {
+    if schema.files().len() != 256 {
+        assert!(rt; false, "another number of files");
+        return Ok(());
+    }
+    let mut texts = Vec::new(rt.alloc());
+    texts.push(Vec::from_slice(rt.alloc(), b"message Other {}")?)?;
+    let answer = schema.replace(rt.alloc(), &[128], texts);
+    expect_memory(rt, &answer);
+    Ok(())
+}
+
+// This alone owns the schema.
+fn open_files<R: AllocGlobal + Abort>(rt: &R) -> Result<(), SchemaFault> {
+    let mut schema = Schema::open(rt.alloc(), given(rt.alloc())?)?;
+    let answer = expect_schema(rt, &mut schema);
+    schema.release();
+    answer
+}
+
+// On the way that `apply` takes.
+#[test]
+fn a_schema_follows_an_edited_file(rt: HostRuntime) {
+    expect_made(&rt, &open_files(&rt));
 }
