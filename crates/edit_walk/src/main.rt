@@ -4,12 +4,16 @@
 //! What is read are texts, each as its length in bytes, a colon, the text and a comma: how many
 //! files, for each its path and its text; then the steps, each as three texts: the kind of an edit
 //! with its two words, or `undo` with two empty ones, which takes back the last edit that stands.
+//! Where the text `library` stands first, the example of docs/library.md is run before the walk.
 #![tactic(auto)]
 
+mod ever;
 mod input;
+mod library_example;
 mod same;
 mod step;
 
+use crate::ever::add_declared;
 use crate::input::{Given, next_text, read_files};
 use crate::same::difference;
 use crate::step::{Step, next_step};
@@ -18,8 +22,19 @@ use std::io;
 
 fn main(rt: HostRuntime) -> io::Result<()> {
     let text = io::read_to_string(rt.alloc(), rt.reader())?;
-    match read_files(rt.alloc(), &text)? {
-        Some((files, rest)) => open(&rt, files, rest),
+    match text.strip_prefix("7:library,") {
+        Some(rest) => {
+            library_example::run(&rt)?;
+            rt.println("")?;
+            read(&rt, rest)
+        }
+        None => read(&rt, &text),
+    }
+}
+
+fn read<R: Print + AllocGlobal>(rt: &R, input: &str) -> io::Result<()> {
+    match read_files(rt.alloc(), input)? {
+        Some((files, steps)) => open(rt, files, steps),
         None => rt.println("no files"),
     }
 }
@@ -40,6 +55,8 @@ fn open<R: Print + AllocGlobal>(rt: &R, files: Given, steps: &str) -> io::Result
 // Makes the steps one by one, and prints what each is answered and in what the workspace differs.
 fn walk<R: Print + AllocGlobal>(rt: &R, workspace: &mut Workspace, steps: &str) -> io::Result<()> {
     let mut entries = Vec::new(rt.alloc());
+    let mut names = Vec::new(rt.alloc());
+    add_declared(rt.alloc(), &mut names, workspace)?;
     let mut rest = steps;
     // Each step is a byte and more.
     for _ in 0..steps.len() {
@@ -47,7 +64,8 @@ fn walk<R: Print + AllocGlobal>(rt: &R, workspace: &mut Workspace, steps: &str) 
             return Ok(());
         };
         answer(rt, workspace, &mut entries, step)?;
-        rt.println(difference(rt.alloc(), workspace)?)?;
+        add_declared(rt.alloc(), &mut names, workspace)?;
+        rt.println(difference(rt.alloc(), workspace, &names)?)?;
         rest = behind;
     }
     Ok(())

@@ -1,17 +1,22 @@
 //! Whether a workspace is one that is opened anew from its bytes, by every reader.
 
+use crate::ever::are_found_alike;
 use crate::input::Given;
 use proto_edit::{Files, Link, OpenFault, SymbolId, Workspace, to_json};
 use std::alloc::Global;
 use std::io;
 
 /// In what the workspace differs from one that is opened anew from its bytes, or that it is the
-/// same.
-pub(crate) fn difference(alloc: Global, workspace: &Workspace) -> io::Result<&'static str> {
+/// same. The names are those that were declared at any time.
+pub(crate) fn difference(
+    alloc: Global,
+    workspace: &Workspace,
+    names: &[String],
+) -> io::Result<&'static str> {
     let given = given_again(alloc, workspace.files())?;
     match Workspace::open(alloc, given) {
         Ok(anew) => {
-            let differs = differs_from(alloc, workspace, &anew);
+            let differs = differs_from(alloc, workspace, &anew, names);
             anew.release();
             Ok(differs)
         }
@@ -30,7 +35,12 @@ fn given_again(alloc: Global, files: &Files) -> io::Result<Given> {
     Ok(list)
 }
 
-fn differs_from(alloc: Global, workspace: &Workspace, anew: &Workspace) -> &'static str {
+fn differs_from(
+    alloc: Global,
+    workspace: &Workspace,
+    anew: &Workspace,
+    names: &[String],
+) -> &'static str {
     let files = workspace.files();
     let (link, other) = (workspace.link(), anew.link());
     if !are_same_files(files, anew.files()) {
@@ -41,6 +51,8 @@ fn differs_from(alloc: Global, workspace: &Workspace, anew: &Workspace) -> &'sta
         "other meanings"
     } else if !is_same_sight(link, other, files.len() as u32) {
         "other sight"
+    } else if !are_found_alike(link, other, names, files.len() as u32) {
+        "other names that went"
     } else if !are_same_descriptors(alloc, workspace, anew) {
         "other descriptors"
     } else {

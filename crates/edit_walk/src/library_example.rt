@@ -1,6 +1,5 @@
 //! Schemas in memory: a fault, references, findings, edits, a refusal, descriptors, and the way
 //! back.
-#![tactic(auto)]
 
 use proto_edit::{Edit, Entry, NoMemory, OpenFault, Refusal, Workspace, to_json};
 use proto_lint::{RuleSet, lint};
@@ -39,10 +38,10 @@ message Order {
 ",
 );
 
-fn main(rt: HostRuntime) -> io::Result<()> {
-    // Without the file that it imports, and with it.
-    open(&rt, &[ORDER])?;
-    open(&rt, &[ORDER, MONEY])
+/// Opens the files without the one that is imported, and with it, and works with them.
+pub fn run<R: Print + AllocGlobal>(rt: &R) -> io::Result<()> {
+    open(rt, &[ORDER])?;
+    open(rt, &[ORDER, MONEY])
 }
 
 fn given_files(alloc: Global, files: &[(&str, &str)]) -> io::Result<Given> {
@@ -99,6 +98,7 @@ fn edit<R: Print + AllocGlobal>(
     // `files`, `link` and `descriptors` are those of the files after both edits.
     print_references(rt, workspace, "shop.Order")?;
     print_json(rt, workspace)?;
+    print_messages(rt, workspace)?;
     go_back(rt, workspace, entries)
 }
 
@@ -196,6 +196,17 @@ fn print_json<R: Print + AllocGlobal>(rt: &R, workspace: &Workspace) -> io::Resu
         Ok(text) => rt.println(text.as_str()),
         Err(NoMemory) => rt.println("no memory"),
     }
+}
+
+// The first message of each file, and how many fields it has.
+fn print_messages<R: Print>(rt: &R, workspace: &Workspace) -> io::Result<()> {
+    for file in workspace.descriptors().files() {
+        if let Some(message) = file.message_type.first() {
+            let (name, count) = (message.name.as_str(), message.field.len());
+            println!(rt; "{}: {name}, fields: {count}", file.name)?;
+        }
+    }
+    Ok(())
 }
 
 fn print_text<R: Print>(rt: &R, text: Result<String, NoMemory>) -> io::Result<()> {
