@@ -86,7 +86,7 @@ impl Workspace {
     }
 
     // What an edit changes, as an entry, or the least case that refuses it.
-    fn entry_of(&self, alloc: Global, edit: &Edit) -> Result<Entry, Refusal>
+    pub(crate) fn entry_of(&self, alloc: Global, edit: &Edit) -> Result<Entry, Refusal>
         ensures ok { IfOk result (λ entry. IsAdmissible self.now
             (asked edit.now) × AreChanges self.now (asked edit.now) entry) }
         ensures err { IfErr result (IsRefusal self.now (asked edit.now)) }

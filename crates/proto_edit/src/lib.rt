@@ -1,6 +1,7 @@
 //! The workspace: schemas that compile, and edits of them.
 #![tactic(auto)]
 
+mod answering;
 mod editing;
 pub mod laws;
 mod workspace;

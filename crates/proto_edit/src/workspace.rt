@@ -27,7 +27,7 @@ use std::marker::Model;
 /// Schemas that compile, with their descriptors: at most 4,096 files.
 #[derive(Drop)]
 pub struct Workspace {
-    schema: Schema,
+    pub(crate) schema: Schema,
 }
 
 impl Model for Workspace {

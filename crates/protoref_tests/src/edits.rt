@@ -1,6 +1,7 @@
 //! The workspace, all its edits, and their journal.
 
 mod allocations;
+mod answers;
 mod calls;
 mod counts;
 mod entries;
