@@ -1,5 +1,8 @@
 mod Faulted
 mod Migrated
+mod OneList
+mod OnePrint
+mod OneRun
 mod Printing
 mod Recovered
 mod Tellings

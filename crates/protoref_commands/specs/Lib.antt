@@ -1,6 +1,7 @@
 pub mod Changes
 pub mod Commands
 pub mod Common
+pub mod Laws
 pub mod Linted
 pub mod Logs
 pub mod Migrations

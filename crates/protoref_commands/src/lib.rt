@@ -6,6 +6,7 @@ mod beginning;
 mod changing;
 mod command;
 mod kept;
+pub mod laws;
 mod logging;
 mod migrating;
 mod opening;
