@@ -4,11 +4,19 @@
 #[cfg(test)]
 mod allocations;
 #[cfg(test)]
+mod editors;
+#[cfg(test)]
 mod frames;
+#[cfg(test)]
+mod messages;
 #[cfg(test)]
 mod positions;
 #[cfg(test)]
 mod recordings;
+#[cfg(test)]
+mod results;
+#[cfg(test)]
+mod serving;
 #[cfg(test)]
 mod streams;
 #[cfg(test)]

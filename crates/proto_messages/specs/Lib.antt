@@ -1,0 +1,4 @@
+pub mod Messages
+pub mod Reading
+pub mod Results
+pub mod Writing
