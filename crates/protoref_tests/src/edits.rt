@@ -13,4 +13,5 @@ mod occurrences;
 mod opening;
 mod refused_growths;
 mod rows;
+mod updated_copies;
 mod wrong_rows;
