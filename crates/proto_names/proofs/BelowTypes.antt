@@ -1,5 +1,5 @@
 -- A type that a name stands right below is declared by the name's file, and by no other.
-use Rattle.std.proofs.Common.{◌≡◌, ℕ, zero, suc, ◌<◌, true, List, [], ◌∷◌, ◌++◌, length, get_or, slice_get, Option, Some, None, refl, sym, ◌∙◌, ap, subst, inl, inr, arith, string_bytes, true≢false, All, Contains}
+use Rattle.std.proofs.Common.{◌≡◌, ℕ, zero, suc, ◌<◌, true, List, [], ◌∷◌, ◌++◌, length, get_or, slice_get, Option, Some, None, refl, sym, ◌∙◌, ap, subst, inl, inr, arith, true≢false, All, Contains}
 use Rattle.std.proofs.lemmas.Option.{get_or_from_slice_get, slice_get_within}
 use Rattle.proto_base.proofs.Common.{Vec, get_or-map, length-map}
 use Rattle.proto_files.proofs.Common.{AreRead, FileOf, ReadOf}
@@ -47,7 +47,7 @@ module _ (t : Table) where
 
   module _ (ok : IsTable t) where
     sized : length (names_of t) ≡ length t.rows.items
-    sized = length-map t.rows.items (λ r. string_bytes r.name)
+    sized = length-map t.rows.items (λ r. r.name)
 
     -- its name is that of the row without the last word
     named_above : (row : ℕ) → row < length t.rows.items → (b : StandsBelow t row) → (scope : List (List ℕ)) (last : List ℕ) → ArePlain (scope ++ last ∷ []) → get_or (names_of t) row [] ≡ joined (scope ++ last ∷ []) → get_or (names_of t) b.above [] ≡ joined scope

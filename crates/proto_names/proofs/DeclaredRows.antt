@@ -1,5 +1,5 @@
 -- The rows of what a file declares are those of its symbols.
-use Rattle.std.proofs.Common.{◌≡◌, ◌↔◌, ℕ, suc, ◌+◌, ◌<◌, List, [], length, get_or, map, refl, sym, ◌∙◌, ap, subst, arith, string_bytes, All, Contains}
+use Rattle.std.proofs.Common.{◌≡◌, ◌↔◌, ℕ, suc, ◌+◌, ◌<◌, List, [], length, get_or, map, refl, sym, ◌∙◌, ap, subst, arith, All, Contains}
 use Rattle.proto_base.proofs.Common.{All-contains, Contains-get_or, Vec, contains_map, from_map, get_or-map, get_or_default, length-map}
 use Rattle.proto_case.specs.Camel.{entry_name}
 use Rattle.proto_files.proofs.Common.{AreRead, FileOf, ReadOf, file_at, read_at}
@@ -101,7 +101,7 @@ module _ (files : List FileOf) (reads : List ReadOf) (are : AreRead files reads)
 
   apart : (i j : ℕ) → i < length t.rows.items → j < length t.rows.items → get_or (names_of t) i [] ≡ get_or (names_of t) j [] → i ≡ j
   apart i j li lj e =
-      let sized = length-map t.rows.items (λ r. string_bytes r.name) in
+      let sized = length-map t.rows.items (λ r. r.name) in
       names_apart (names_of t) (aboves_of t) (look t) ok.forest i j (omega (arith, li, sized)) (omega (arith, lj, sized)) e
 
   -- a row that has a symbol's name has its kind

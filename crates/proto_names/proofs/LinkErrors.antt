@@ -5,6 +5,7 @@ use Rattle.proto_base.specs.declared.fault.FaultKind.{FaultKind}
 use Rattle.proto_files.proofs.Common.{FileOf, paths_of, AreWorkspaceFiles, ReadOf, AreRead, IsAtToken}
 use Rattle.proto_names_rules.proofs.Common.{Fault, fault, AskedImport, IsLeast, ImportFault, ReferenceFault, at, MarksSeen}
 use Rattle.proto_names.specs.Common.{AreLinked, flaw_number, AreNamesOf, HasNoImportFault, HasNoNameFault, BadReference}
+use Rattle.proto_names.specs.Sight.{IsSightOf}
 use Rattle.proto_names_imports.proofs.Common.{fault_of, import_flaw_number, IsLinkError, FaultStandsAt, all_wanted, link_skeleton, names_of_files, text_of, import_found, reference_found, least_import, least_reference, link_error}
 use Rattle.proto_names_imports.specs.declared.import.BadImport.{BadImport}
 use Rattle.proto_base.specs.declared.fault.SchemaFault.{SchemaFault}
@@ -47,7 +48,7 @@ module _ (files : List FileOf) (reads : List ReadOf) (are_read : AreRead files r
       (subst (λ (k : ℕ). FaultStandsAt files reads (fault (at b.file b.token) k) x) n s))
 
 -- what the table, the marks and the rows are says that the references can be read by them
-pub are_linked : (files : List FileOf) (reads : List ReadOf) (t : Table) (seen : List (Vec Bool)) (rows : List (Vec ℕ))
+are_linked : (files : List FileOf) (reads : List ReadOf) (t : Table) (seen : List (Vec Bool)) (rows : List (Vec ℕ))
     → ((k : ℕ) → k < length files → MarksSeen (names_of_files files reads) k (get_or (map (λ v. v.items) seen) k [])) → AreNamesOf files reads t rows → AreLinked t seen rows files reads
 are_linked files reads t seen rows marks names k l = record {
   index = names.index;
@@ -56,6 +57,11 @@ are_linked files reads t seen rows marks names k l = record {
   plain = names.plain k l;
   named = λ j m. names.named k j l m;
 }
+
+-- so it is with the marks of what files see, where they were handed on
+pub linked_by_sight : (files : List FileOf) (reads : List ReadOf) (t : Table) (seen given : List (Vec Bool)) (rows : List (Vec ℕ)) → given ≡ seen → IsSightOf files reads (map (λ v. v.items) seen) → AreNamesOf files reads t rows → AreLinked t given rows files reads
+linked_by_sight files reads t seen given rows e sight names =
+    are_linked files reads t given rows (subst (λ (vs : List (Vec Bool)). (k : ℕ) → k < length files → MarksSeen (names_of_files files reads) k (get_or (map (λ v. v.items) vs) k [])) (sym e) sight.marks) names
 
 -- what holds of the error that is known holds of whatever error there is
 pub error_is : {T E : Type 0} (r : Result T E) (Q : E → Type 0) (e : E) → IsErrAnd r (λ x. x ≡ e) → Q e → IfErr r Q

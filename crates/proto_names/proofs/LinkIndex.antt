@@ -1,5 +1,5 @@
 -- The table of a link of files is an index of their names, and answers what their references mean.
-use Rattle.std.proofs.Common.{◌≡◌, ℕ, zero, suc, ◌<◌, Bool, List, [], ◌∷◌, length, get_or, map, slice_get, Option, Some, None, option_map, is_some, refl, sym, ◌∙◌, ap, subst, arith, string_bytes, Contains}
+use Rattle.std.proofs.Common.{◌≡◌, ℕ, zero, suc, ◌<◌, Bool, List, [], ◌∷◌, length, get_or, map, slice_get, Option, Some, None, option_map, is_some, refl, sym, ◌∙◌, ap, subst, arith, Contains}
 use Rattle.proto_base.proofs.Common.{Vec, get_or-map, length-map, none-some, same_Some}
 use Rattle.proto_files.proofs.Common.{FileOf, file_at, ReadOf, AreRead, read_at}
 use Rattle.proto_text.proofs.Common.{one_token_list, word_at, AreTokens, Lexeme, lexeme_at}
@@ -23,8 +23,8 @@ row_of (r ∷ rows) (suc k) n h = let x = row_of rows k n h in (omega (arith, x.
 pub link_index : (t : Table) (l : LinkOf) → map name_of_row t.rows.items ≡ l.names → (w : Workspace) → HoldsNames w l → ((s : Symbol) → Contains w.symbols s → ArePlain s.name) → IsIndexOf t w.symbols
 link_index t l same w holds plain = record { plain = plain; row = row; symbol = symbol }
   where
-    text_is : (k : ℕ) (d : Row) → k < length t.rows.items → get_or (names_of t) k [] ≡ string_bytes (get_or t.rows.items k d).name
-    text_is k d lk = get_or-map (λ r. string_bytes r.name) t.rows.items k d [] lk
+    text_is : (k : ℕ) (d : Row) → k < length t.rows.items → get_or (names_of t) k [] ≡ (get_or t.rows.items k d).name
+    text_is k d lk = get_or-map (λ r. r.name) t.rows.items k d [] lk
 
     row : (s : Symbol) → Contains w.symbols s → (k : ℕ) × (k < length t.rows.items) × (get_or (names_of t) k [] ≡ joined s.name) × ((d : Row) → ((get_or t.rows.items k d).symbol.kind ≡ s.kind) × Contains (files_of (get_or t.rows.items k d)) s.file)
     row s c =

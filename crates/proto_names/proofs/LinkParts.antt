@@ -1,5 +1,5 @@
 -- The parts of a link are those of its files: their names, what each file sees, and the references that mean each name.
-use Rattle.std.proofs.Common.{◌≡◌, ℕ, suc, ◌+◌, ◌<◌, Bool, true, false, List, [], ◌∷◌, ◌++◌, length, get_or, map, option_map, Option, Some, None, refl, sym, ◌∙◌, ap, subst, arith, string_bytes, cond, ◌==◌, All, Contains, filter, bytes_eq, eqb-true, eq-eqb}
+use Rattle.std.proofs.Common.{◌≡◌, ℕ, suc, ◌+◌, ◌<◌, Bool, true, false, List, [], ◌∷◌, ◌++◌, length, get_or, map, option_map, Option, Some, None, refl, sym, ◌∙◌, ap, subst, arith, cond, ◌==◌, All, Contains, filter, bytes_eq, eqb-true, eq-eqb}
 use Rattle.proto_base.proofs.Common.{Vec, get_or-map, length-map, map-append, filter-append, none-some, same_Some, same_from_word, word_from_same}
 use Rattle.std.specs.Cmp.{both_ways}
 use Rattle.proto_files.proofs.Common.{FileOf, ReadOf, AreRead}
@@ -17,7 +17,7 @@ use Rattle.proto_names_table.specs.declared.table.Table.{Table}
 module _ (t : Table) (ok : IsTable t) where
   apart : (i j : ℕ) → i < length t.rows.items → j < length t.rows.items → get_or (names_of t) i [] ≡ get_or (names_of t) j [] → i ≡ j
   apart i j li lj e =
-      let sized = length-map t.rows.items (λ r. string_bytes r.name) in
+      let sized = length-map t.rows.items (λ r. r.name) in
       names_apart (names_of t) (aboves_of t) (look t) ok.forest i j (omega (arith, li, sized)) (omega (arith, lj, sized)) e
 
   module _ (l : LinkOf) (same : map name_of_row t.rows.items ≡ l.names) where
@@ -34,7 +34,7 @@ module _ (t : Table) (ok : IsTable t) where
             x.0,
             name_of_row (get_or t.rows.items x.0 d),
             name_from t l same x.0 d x.1 (let c = (x.3 d).1 in omega (arith, c.1)),
-            sym (get_or-map (λ y. string_bytes y.name) t.rows.items x.0 d [] x.1) ∙ x.2,
+            sym (get_or-map (λ y. y.name) t.rows.items x.0 d [] x.1) ∙ x.2,
             (x.3 d).0,
             (x.3 d).1,
           ));

@@ -1,5 +1,5 @@
 -- The names of a link are those of its table.
-use Rattle.std.proofs.Common.{◌≡◌, ◌≢◌, ◌⊎◌, ℕ, ◌<◌, ◌≤◌, Bool, true, false, ◌&&◌, ◌||◌, List, [], ◌∷◌, length, get_or, map, slice_get, Option, option_map, None, Some, refl, sym, ◌∙◌, ap, subst, inl, inr, arith, string_bytes, if◌then◌else◌, All, option_and_then, bytes_eq}
+use Rattle.std.proofs.Common.{◌≡◌, ◌≢◌, ◌⊎◌, ℕ, ◌<◌, ◌≤◌, Bool, true, false, ◌&&◌, ◌||◌, List, [], ◌∷◌, length, get_or, map, slice_get, Option, option_map, None, Some, refl, sym, ◌∙◌, ap, subst, inl, inr, arith, if◌then◌else◌, All, option_and_then, bytes_eq}
 use Rattle.proto_base.proofs.Common.{Vec, list_any, cases_Bool, false_from_ne_true, both_ways, and_parts, and_from, get_or-map, get_or_default, get_or_past, length-map, list_any_at, slice_get_read, none-some, same_Some, any_to, any_map, word_from_same, same_from_word}
 use Rattle.proto_names_rules.proofs.Common.{joined, ArePlain, is_package, Workspace, shows, MarksSeen, names_apart}
 use Rattle.proto_names_table.proofs.Common.{IsIndexOf, is_seen, names_of, aboves_of, look, IsTable, shows_from, shows_to, pick}
@@ -77,7 +77,7 @@ unless_package r o h b b_is = ap (λ b. if b then None else Some r) b_is ∙ ap 
 
 module _ (t : Table) (ok : IsTable t) where
   sized : length (names_of t) ≡ length t.rows.items
-  sized = length-map t.rows.items (λ r. string_bytes r.name)
+  sized = length-map t.rows.items (λ r. r.name)
 
   apart : (i j : ℕ) → i < length t.rows.items → j < length t.rows.items → get_or (names_of t) i [] ≡ get_or (names_of t) j [] → i ≡ j
   apart i j li lj e = names_apart (names_of t) (aboves_of t) (look t) ok.forest i j (omega (arith, li, sized)) (omega (arith, lj, sized)) e
@@ -107,18 +107,18 @@ module _ (t : Table) (ok : IsTable t) where
 
   module _ (seen : List Bool) (text : List ℕ) where
     test : Row → Bool
-    test r = bytes_eq (string_bytes r.name) text && is_seen seen r
+    test r = bytes_eq r.name text && is_seen seen r
 
     -- a row that passes has the text, and one of its files is marked
     passing : list_any test t.rows.items ≡ true → (k : ℕ) × (k < length t.rows.items) × (get_or (names_of t) k [] ≡ text) × ((d : Row) → is_seen seen (get_or t.rows.items k d) ≡ true)
     unfolding test
     passing h =
         let x = any_to test t.rows.items h in
-        let p = and_parts (bytes_eq (string_bytes x.0.name) text) (is_seen seen x.0) x.2 in
+        let p = and_parts (bytes_eq x.0.name text) (is_seen seen x.0) x.2 in
         let k = x.1.0 in (
           k,
           x.1.1,
-          get_or-map (λ r. string_bytes r.name) t.rows.items k x.0 [] x.1.1 ∙ ap (λ (r : Row). string_bytes r.name) x.1.2 ∙ word_from_same (string_bytes x.0.name) text p.0,
+          get_or-map (λ r. r.name) t.rows.items k x.0 [] x.1.1 ∙ ap (λ (r : Row). r.name) x.1.2 ∙ word_from_same x.0.name text p.0,
           λ d. ap (is_seen seen) (get_or_default t.rows.items k d x.0 x.1.1 ∙ x.1.2) ∙ p.1,
         )
 
@@ -129,7 +129,7 @@ module _ (t : Table) (ok : IsTable t) where
         go : (is_seen seen (get_or t.rows.items row d) ≡ true) ⊎ (is_seen seen (get_or t.rows.items row d) ≡ false) → list_any test t.rows.items ≡ is_seen seen (get_or t.rows.items row d)
         go (inl h) =
             list_any_at test t.rows.items row d lr
-            (and_from _ _ (same_from_word (string_bytes (get_or t.rows.items row d).name) text (sym (get_or-map (λ r. string_bytes r.name) t.rows.items row d [] lr) ∙ e)) h) ∙ sym h
+            (and_from _ _ (same_from_word (get_or t.rows.items row d).name text (sym (get_or-map (λ r. r.name) t.rows.items row d [] lr) ∙ e)) h) ∙ sym h
         go (inr h) =
             false_from_ne_true (list_any test t.rows.items) (λ q.
             let p = passing q in

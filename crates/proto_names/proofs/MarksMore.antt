@@ -1,5 +1,5 @@
 -- Marks of what changed are so still where more files are marked.
-use Rattle.std.proofs.Common.{ℕ, Bool, List, [], get_or, inl, inr}
+use Rattle.std.proofs.Common.{◌≡◌, ℕ, Bool, List, [], get_or, subst, inl, inr}
 use Rattle.proto_base.proofs.Common.{All-weaker}
 use Rattle.proto_names_table.specs.declared.ids.RefId.{RefId}
 use Rattle.proto_names_affected.specs.ChangedFiles.{AreChangesMarked, IsChangeMarked, StaysOrIsMarked, WasOrIsMarked}
@@ -26,8 +26,18 @@ module _ (t : Table) (marks more : List Bool) (stay : MarksStay marks more) (ref
     came = All-weaker (WasOrIsMarked t marks meant before) (WasOrIsMarked t more meant before) (was before) now is.came;
   }
 
-  pub changes_stay_marked : (places : List ℕ) (before now : List (List KindRow)) → AreChangesMarked t marks places references meant before now → AreChangesMarked t more places references meant before now
+  changes_stay_marked : (places : List ℕ) (before now : List (List KindRow)) → AreChangesMarked t marks places references meant before now → AreChangesMarked t more places references meant before now
   changes_stay_marked places before now is = record {
     edited = All-weaker (IsMarked marks) (IsMarked more) stay.set places is.edited;
     each = λ k l. change (get_or before k []) (get_or now k []) (is.each k l);
   }
+
+-- so it is of the lists that were handed on
+pub marks_of_lists : (t : Table) (marks more : List Bool) → MarksStay marks more → (places : List ℕ) (before : List (List KindRow))
+    → {given references : List (List RefId)} → given ≡ references → {given_meant meant : List (List Meant)} → given_meant ≡ meant → {given_now now : List (List KindRow)} → given_now ≡ now
+    → AreChangesMarked t marks places given given_meant before given_now → AreChangesMarked t more places references meant before now
+marks_of_lists t marks more stay places before {given} {references} r {given_meant} {meant} m {given_now} {now} n is =
+    changes_stay_marked t marks more stay references meant places before now
+    (subst (λ (ns : List (List KindRow)). AreChangesMarked t marks places references meant before ns) n
+    (subst (λ (ms : List (List Meant)). AreChangesMarked t marks places references ms before given_now) m
+    (subst (λ (rs : List (List RefId)). AreChangesMarked t marks places rs given_meant before given_now) r is)))

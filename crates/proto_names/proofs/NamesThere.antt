@@ -1,5 +1,5 @@
 -- Names of a link that some file declares, and the rows of its table that have them (for the crates above).
-use Rattle.std.proofs.Common.{◌≡◌, ℕ, zero, suc, ◌<◌, true, false, cond, List, [], ◌∷◌, length, get_or, map, slice_get, Option, Some, None, option_map, option_and_then, refl, sym, ◌∙◌, ap, subst, inl, inr, arith, string_bytes, Contains}
+use Rattle.std.proofs.Common.{◌≡◌, ℕ, zero, suc, ◌<◌, true, false, cond, List, [], ◌∷◌, length, get_or, map, slice_get, Option, Some, None, option_map, option_and_then, refl, sym, ◌∙◌, ap, subst, inl, inr, arith, Contains}
 use Rattle.proto_base.proofs.Common.{cases_Bool, get_or-map, length-map, slice_get-get_or, slice_get_within, get_or_from_slice_get, none-some, same_Some}
 use Rattle.proto_names_rules.proofs.Common.{Reference, Workspace, joined, meaning, names_apart}
 use Rattle.proto_names_table.proofs.Common.{IsIndexOf, IsTable, aboves_of, files_of, look, names_of, pick}
@@ -99,12 +99,12 @@ module _ (t : Table) (l : LinkOf) (same : map name_of_row t.rows.items ≡ l.nam
   text_to row n h =
       let r = name_to row n h in
       let d = pick t.rows.items row r.0 in
-      (r.0, get_or-map (λ x. string_bytes x.name) t.rows.items row d [] r.0 ∙ ap (λ (x : NameOf). x.text) (r.1 d))
+      (r.0, get_or-map (λ x. x.name) t.rows.items row d [] r.0 ∙ ap (λ (x : NameOf). x.text) (r.1 d))
 
   pub text_from : (row : ℕ) (d : Row) (text : List ℕ) → row < length t.rows.items → (get_or t.rows.items row d).is_declared ≡ true → get_or (names_of t) row [] ≡ text → name_text l row ≡ Some text
   text_from row d text lr some e =
       ap (option_map (λ (n : NameOf). n.text)) (name_from row d lr (has_file (get_or t.rows.items row d) some))
-      ∙ ap Some (sym (get_or-map (λ x. string_bytes x.name) t.rows.items row d [] lr) ∙ e)
+      ∙ ap Some (sym (get_or-map (λ x. x.name) t.rows.items row d [] lr) ∙ e)
 
 -- the row of what a reference means is declared
 pub row_there : (t : Table) (ok : IsTable t) (l : LinkOf) → map name_of_row t.rows.items ≡ l.names → (w : Workspace) → IsIndexOf t w.symbols → (r : Reference) (row : ℕ) → Some (get_or (names_of t) row []) ≡ option_map joined (meaning w r)
@@ -113,11 +113,11 @@ row_there t ok l same w index r row is =
     let s = row_symbol t ok w index r row is in
     let k = row_kind t ok w index r row s.0 s.1 s.3 in
     let i = index.row s.0 s.1 in
-    let sized = length-map t.rows.items (λ z. string_bytes z.name) in
+    let sized = length-map t.rows.items (λ z. z.name) in
     let here : i.0 ≡ row = names_apart (names_of t) (aboves_of t) (look t) ok.forest i.0 row (omega (arith, i.1, sized)) (omega (arith, k.0, sized)) (i.2 ∙ sym s.3) in
     let d = pick t.rows.items row k.0 in
     let files : Contains (files_of (get_or t.rows.items row d)) s.0.file = subst (λ j. Contains (files_of (get_or t.rows.items j d)) s.0.file) here (i.3 d).1 in
-    (name_of_row (get_or t.rows.items row d), name_from t l same row d k.0 (omega (arith, files.1)), sym (get_or-map (λ x. string_bytes x.name) t.rows.items row d [] k.0))
+    (name_of_row (get_or t.rows.items row d), name_from t l same row d k.0 (omega (arith, files.1)), sym (get_or-map (λ x. x.name) t.rows.items row d [] k.0))
 
 pub text_there : (t : Table) (ok : IsTable t) (l : LinkOf) → map name_of_row t.rows.items ≡ l.names → (w : Workspace) → IsIndexOf t w.symbols → (r : Reference) (row : ℕ) → Some (get_or (names_of t) row []) ≡ option_map joined (meaning w r)
     → name_text l row ≡ Some (get_or (names_of t) row [])

@@ -69,11 +69,14 @@ module _ (t : Table) where
 
   -- ---- those of files at some places
 
+  pub outer_at_place : (rows : List (List ℕ)) (places : List ℕ) (file : ℕ) → (c : Contains places file) → get_or (map (outer_rows_of t rows) places) c.0 [] ≡ outer_rows_of t rows file
+  outer_at_place rows places file c = get_or-map (outer_rows_of t rows) places c.0 file [] c.1 ∙ ap (outer_rows_of t rows) c.2
+
   module _ (rows : List (List ℕ)) (places : List ℕ) (found : List (Vec KindRow)) (are : map (λ v. v.items) found ≡ map (outer_rows_of t rows) places) where
     pub outer_count : length found ≡ length places
     outer_count = sym (length-map found (λ v. v.items)) ∙ ap length are ∙ length-map places (outer_rows_of t rows)
 
-    pub outer_in : (k file : ℕ) → k < length places → get_or (map (λ (v : Vec KindRow). v.items) found) k [] ≡ outer_rows_of t rows (get_or places k file)
+    outer_in : (k file : ℕ) → k < length places → get_or (map (λ (v : Vec KindRow). v.items) found) k [] ≡ outer_rows_of t rows (get_or places k file)
     outer_in k file l = ap (λ (all : List (List KindRow)). get_or all k []) are ∙ get_or-map (outer_rows_of t rows) places k file [] l
 
     -- each is a row of the table

@@ -1,5 +1,5 @@
 -- What a reference means by its row, and what is wrong with it.
-use Rattle.std.proofs.Common.{◌≡◌, ◌⊎◌, ℕ, suc, ◌+◌, ◌<◌, ◌≤◌, Bool, true, false, List, [], ◌∷◌, ◌++◌, length, get_or, slice_get, take, drop, map, Option, Some, None, option_map, Result, Ok, Err, Bor, refl, sym, ◌∙◌, ap, subst, inl, inr, arith, string_bytes, ok_or, All, Contains, take-append-drop}
+use Rattle.std.proofs.Common.{◌≡◌, ◌⊎◌, ℕ, suc, ◌+◌, ◌<◌, ◌≤◌, Bool, true, false, List, [], ◌∷◌, ◌++◌, length, get_or, slice_get, take, drop, map, Option, Some, None, option_map, Result, Ok, Err, Bor, refl, sym, ◌∙◌, ap, subst, inl, inr, arith, ok_or, All, Contains, take-append-drop}
 use Rattle.std.specs.Slice.{IsItemAt}
 use Rattle.proto_base.proofs.Common.{cases_Bool, cases_lt, cond-true, cond-false, none-some, same_Some, slice_get_cases, slice_get_past, slice_get_read, length-map, map-append, get_or_past, get_or-map, All-append, All-cons, All-nil}
 use Rattle.std.proofs.Math.Seq.{drop-cons}
@@ -51,7 +51,7 @@ module _ (t : Table) (ok : IsTable t) (w : Workspace) (index : IsIndexOf t w.sym
   name_at k = get_or (names_of t) k []
 
   sized : length (names_of t) ≡ length t.rows.items
-  sized = length-map t.rows.items (λ z. string_bytes z.name)
+  sized = length-map t.rows.items (λ z. z.name)
 
   -- the row is that of each symbol with its name
   pub row_kind : (k : ℕ) (s : Symbol) → Contains w.symbols s → name_at k ≡ joined s.name → (k < length t.rows.items) × ((d : Row) → (get_or t.rows.items k d).symbol.kind ≡ s.kind)

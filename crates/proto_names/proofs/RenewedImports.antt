@@ -23,6 +23,9 @@ module _ (files : List FileOf) (places : List ℕ) (imports : List (Vec FileImpo
   pub imports_count : length imports ≡ length files
   imports_count = sym (length-map imports (λ v. v.items)) ∙ was.listed.count ∙ many
 
+  pub sight_count : length seen ≡ length files
+  sight_count = sym (length-map seen (λ v. v.items)) ∙ was.sight.count ∙ many
+
   were_imports : WereImports places files (map (λ v. v.items) imports) was.before was.was
   were_imports = record { same = was.same; were_read = was.were_read; imports = was.listed.same }
 

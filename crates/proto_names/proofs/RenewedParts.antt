@@ -14,7 +14,7 @@ use Rattle.proto_names_affected.specs.Sight.{IsSightMarked}
 use Rattle.proto_names_affected.specs.declared.outer_rows.KindRow.{KindRow}
 use Rattle.proto_names_rules.specs.Names.{Word}
 use Rattle.proto_names_rules.specs.declared.kind.Kind.{Kind}
-use Rattle.proto_names.proofs.OuterRows.{outer_from, outer_in, outer_to}
+use Rattle.proto_names.proofs.OuterRows.{outer_at_place, outer_from, outer_to}
 use Rattle.proto_names.proofs.PartsBefore.{before, from_lists, meant_below, of_before, rows_below, rows_count, same_but, was}
 use Rattle.proto_names.proofs.ReferencesByRow.{references_by_row}
 use Rattle.proto_names.proofs.RenewedLink.{renewed_are_clean, renewed_link_of}
@@ -99,18 +99,17 @@ module _ (files : List FileOf) (places : List ℕ) (old : Table) (imports : List
   -- ---- the marks are of what changed
 
   module _ (marks : List Bool) (lists : List (Vec RefId)) (same : (row : ℕ) → get_or (map (λ v. v.items) lists) row [] ≡ get_or (map (λ v. v.items) references) row [])
-      (rows_before rows_now : List (Vec KindRow)) (are_before : map (λ v. v.items) rows_before ≡ map (outer_rows_of old (map (λ v. v.items) rows)) places) (are_now : map (λ v. v.items) rows_now ≡ map (outer_rows_of t (map (λ v. v.items) now)) places)
-      (marked : AreRowsMarked t marks places (map (λ v. v.items) lists) (map (λ v. v.items) meant) (map (λ v. v.items) rows_before) (map (λ v. v.items) rows_now)) where
+      (marked : AreRowsMarked t marks places (map (λ v. v.items) lists) (map (λ v. v.items) meant) (map (outer_rows_of old (map (λ v. v.items) rows)) places) (map (outer_rows_of t (map (λ v. v.items) now)) places)) where
     abbrev held : List (Vec ℕ) → ℕ → List ℕ
     held all file = get_or (map (λ v. v.items) all) file []
 
     -- what the file at a place declared and declares
     change : (file : ℕ) → Contains places file → IsChangeMarked t marks (map (λ v. v.items) lists) l.meant (outer_rows_of old (map (λ v. v.items) rows) file) (outer_rows_of t (map (λ v. v.items) now) file)
     change file c =
-        let one = outer_in old (map (λ v. v.items) rows) places rows_before are_before c.0 file c.1 ∙ ap (outer_rows_of old (map (λ v. v.items) rows)) c.2 in
-        let two = outer_in t (map (λ v. v.items) now) places rows_now are_now c.0 file c.1 ∙ ap (outer_rows_of t (map (λ v. v.items) now)) c.2 in
-        subst (λ (ps : List KindRow). IsChangeMarked t marks (map (λ v. v.items) lists) l.meant ps (outer_rows_of t (map (λ v. v.items) now) file)) one
-        (subst (IsChangeMarked t marks (map (λ v. v.items) lists) l.meant (get_or (map (λ v. v.items) rows_before) c.0 [])) two (marked.each c.0 c.1))
+        let had = outer_at_place old (map (λ v. v.items) rows) places file c in
+        let has = outer_at_place t (map (λ v. v.items) now) places file c in
+        subst (λ (ps : List KindRow). IsChangeMarked t marks (map (λ v. v.items) lists) l.meant ps (outer_rows_of t (map (λ v. v.items) now) file)) had
+        (subst (IsChangeMarked t marks (map (λ v. v.items) lists) l.meant (get_or (map (outer_rows_of old (map (λ v. v.items) rows)) places) c.0 [])) has (marked.each c.0 c.1))
 
     -- a row of a file is one of the table
     row_within : (u : Table) (all : List (Vec ℕ)) → All (λ v. All (λ r. r < length u.rows.items) v.items) all → (file row : ℕ) → Contains (held all file) row → row < length u.rows.items

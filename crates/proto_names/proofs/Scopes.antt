@@ -1,5 +1,5 @@
 -- A scope is cut at its points, and its words are looked up one below another.
-use Rattle.std.proofs.Common.{◌≡◌, ◌≢◌, ◌⊎◌, ℕ, zero, suc, ◌+◌, ◌<◌, ◌≤◌, false, List, [], ◌∷◌, ◌++◌, length, take, Some, None, refl, sym, ◌∙◌, ap, subst, inl, inr, arith, length-append, append_assoc, string_bytes, ◌==◌, eq-eqb}
+use Rattle.std.proofs.Common.{◌≡◌, ◌≢◌, ◌⊎◌, ℕ, zero, suc, ◌+◌, ◌<◌, ◌≤◌, false, List, [], ◌∷◌, ◌++◌, length, take, Some, None, refl, sym, ◌∙◌, ap, subst, inl, inr, arith, length-append, append_assoc, ◌==◌, eq-eqb}
 use Rattle.proto_base.proofs.Common.{list_any, or_parts, both_ways, length-map, none-some}
 use Rattle.std.proofs.Math.Seq.{take-length, take-append_seam}
 use Rattle.proto_names_rules.proofs.Common.{under, front, joined, ArePlain, under_some, not_pointed}
@@ -57,7 +57,7 @@ scope_begun t path rest e = record { before = []; behind = path; parts = refl; f
 
 module _ (t : Table) (ok : IsTable t) (number : ℕ) (l : number ≤ length t.rows.items) where
   sized : length (names_of t) ≡ length t.rows.items
-  sized = length-map t.rows.items (λ r. string_bytes r.name)
+  sized = length-map t.rows.items (λ r. r.name)
 
   pub row_within : (word : List ℕ) (row : ℕ) → look t number word ≡ Some row → row < length t.rows.items
   row_within word row h = let s = ok.forest.sound number word row (omega (arith, l, sized)) h in omega (arith, s.0, sized)

@@ -1,15 +1,18 @@
 -- A link whose parts are as they were again, and one that was changed in place.
-use Rattle.std.proofs.Common.{◌≡◌, ℕ, ◌<◌, List, [], ◌∷◌, length, get_or, map, sym, ◌∙◌, ap, subst, arith, cond, take, All, AllPairs}
+use Rattle.std.proofs.Common.{◌≡◌, ◌<◌, List, [], ◌∷◌, length, get_or, map, sym, ◌∙◌, ap, subst, arith, cond, take, All, AllPairs}
 use Rattle.std.proofs.lemmas.List.{take_all}
 use Rattle.proto_base.proofs.Common.{Vec, get_or-map, length-map}
 use Rattle.proto_files.specs.FilesRead.{AreRead, ReadOf}
 use Rattle.proto_files.specs.GivenFiles.{FileOf}
 use Rattle.proto_base.specs.Undone.{undone}
 use Rattle.proto_names_update.specs.NameLogs.{seen_of, undone_table}
-use Rattle.proto_names.specs.Common.{LinkOf, Meant, RefId, name_of_row}
+use Rattle.proto_names.specs.Common.{LinkOf, Meant, name_of_row}
 use Rattle.proto_names.specs.LinkOfFiles.{IsLinkOf}
-use Rattle.proto_names.specs.Renewal.{SeenParts, undone_parts}
-use Rattle.proto_names.specs.declared.link_log.LinkLog.{LinkLog}
+use Rattle.proto_names.specs.Renewal.{DeclarationsBefore, ResolutionsBefore, undone_declarations, undone_resolutions}
+use Rattle.proto_names.specs.declared.link_log.DeclarationLog.{DeclarationLog}
+use Rattle.proto_names.specs.declared.link_log.ResolutionLog.{ResolutionLog}
+use Rattle.proto_names.specs.declared.parts.Declarations.{Declarations}
+use Rattle.proto_names.specs.declared.parts.Resolutions.{Resolutions}
 use Rattle.proto_names_table.proofs.Alike.{through}
 use Rattle.proto_names_table.specs.Tables.{IsUnchanged, row_of}
 use Rattle.proto_names_table.specs.declared.table.Table.{Table}
@@ -33,22 +36,20 @@ module _ (old new : Table) (unchanged : IsUnchanged old new) where
   pub size_unchanged : length new.rows.items ≡ length old.rows.items
   size_unchanged = sym (length-map new.rows.items row_of) ∙ ap length unchanged.rows ∙ length-map old.rows.items row_of
 
--- ---- the parts without the changes of a log
+-- ---- the parts without the changes of a log that began with none
 
--- a log of no changes
-module _ (first last : LinkLog) (t now : Table) (rows now_rows : List (Vec ℕ)) (meant now_meant : List (Vec Meant)) (references now_references : List (Vec RefId))
-    (same : undone_parts last now now_rows now_meant now_references ≡ undone_parts first t rows meant references)
-    (no_rows : first.rows.items ≡ []) (no_meant : first.meant.items ≡ []) (no_references : first.references.items ≡ []) (count : first.count ≡ length references) where
-  pub table_back : undone_table first.names t ≡ seen_of t → undone_table last.names now ≡ seen_of t
-  table_back is = ap (λ (p : SeenParts). p.table) same ∙ is
+module _ (first last : DeclarationLog) (was now : Declarations) (same : undone_declarations last now ≡ undone_declarations first was) where
+  pub table_back : undone_table first.table was.table ≡ seen_of was.table → undone_table last.table now.table ≡ seen_of was.table
+  table_back is = ap (λ (d : DeclarationsBefore). d.table) same ∙ is
 
-  pub rows_back : undone last.rows.items now_rows ≡ rows
-  rows_back = ap (λ (p : SeenParts). p.rows) same ∙ ap (λ log. undone log rows) no_rows
+  pub rows_back : first.rows.items ≡ [] → undone last.rows.items now.rows.items ≡ was.rows.items
+  rows_back no_rows = ap (λ (d : DeclarationsBefore). d.rows) same ∙ ap (λ log. undone log was.rows.items) no_rows
 
-  pub meant_back : undone last.meant.items now_meant ≡ meant
-  meant_back = ap (λ (p : SeenParts). p.meant) same ∙ ap (λ log. undone log meant) no_meant
+module _ (first last : ResolutionLog) (was now : Resolutions) (same : undone_resolutions last now ≡ undone_resolutions first was) where
+  pub meant_back : first.meant.items ≡ [] → undone last.meant.items now.meant.items ≡ was.meant.items
+  meant_back no_meant = ap (λ (r : ResolutionsBefore). r.meant) same ∙ ap (λ log. undone log was.meant.items) no_meant
 
-  pub references_back : take last.count (undone last.references.items now_references) ≡ references
-  references_back =
-      ap (λ (p : SeenParts). p.references) same ∙ ap (λ log. take first.count (undone log references)) no_references
-      ∙ take_all first.count references (omega (arith, count))
+  pub references_back : first.references.items ≡ [] → first.count ≡ length was.references.items → take last.count (undone last.references.items now.references.items) ≡ was.references.items
+  references_back no_references count =
+      ap (λ (r : ResolutionsBefore). r.references) same ∙ ap (λ log. take first.count (undone log was.references.items)) no_references
+      ∙ take_all first.count was.references.items (omega (arith, count))

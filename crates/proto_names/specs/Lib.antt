@@ -3,6 +3,7 @@ pub mod FileReferences
 pub mod Following
 pub mod Laws
 pub mod LinkOfFiles
+pub mod LinkOfParts
 pub mod Linking
 pub mod Referring
 pub mod Renewal

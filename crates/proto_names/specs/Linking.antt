@@ -1,6 +1,6 @@
 -- The names of linked files: what is known of each, which files see it, and which references mean
 -- it; and what each reference means.
-use Rattle.std.specs.Prelude.{ℕ, suc, Bool, true, false, not, ◌&&◌, ◌==◌, if◌then◌else◌, List, [], ◌∷◌, ◌++◌, map, get_or, slice_get, slice_index_or, Option, Some, None, option_map, string_bytes}
+use Rattle.std.specs.Prelude.{ℕ, suc, Bool, true, false, not, ◌&&◌, ◌==◌, if◌then◌else◌, List, [], ◌∷◌, ◌++◌, map, get_or, slice_get, slice_index_or, Option, Some, None, option_map}
 use Rattle.std.specs.List.{filter, find, list_any}
 use Rattle.std.specs.Option.{option_and_then}
 use Rattle.std.specs.Str.{bytes_eq}
@@ -30,7 +30,7 @@ pub record NameOf : Type 0 where
 -- what a row of the table says of its name
 abbrev pub name_of_row : Row → NameOf
 name_of_row r = record {
-  text = string_bytes r.name;
+  text = r.name;
   kind = r.symbol.kind;
   files = files_of r;
   token = r.symbol.token;

@@ -1,5 +1,5 @@
 -- A link of its parts, and the parts as they were before the changes of a log.
-use Rattle.std.specs.Prelude.{◌≡◌, ℕ, ◌<◌, ◌≤◌, Bool, true, false, List, [], get_or, length, map, take}
+use Rattle.std.specs.Prelude.{◌≡◌, ℕ, ◌<◌, ◌≤◌, Bool, true, false, List, get_or, length, map, take}
 use Rattle.std.specs.Global.{Vec}
 use Rattle.std.specs.List.{All}
 use Rattle.proto_files.specs.FilesRead.{AreRead, ReadOf}
@@ -14,7 +14,10 @@ use Rattle.proto_names_update.specs.RenewedNames.{AreRenewed}
 use Rattle.proto_names.specs.LinkOfFiles.{IsLinkOf}
 use Rattle.proto_names.specs.Linking.{LinkOf, name_of_row}
 use Rattle.proto_names.specs.Sight.{IsSightOf, StayBut}
-use Rattle.proto_names.specs.declared.link_log.LinkLog.{LinkLog}
+use Rattle.proto_names.specs.declared.link_log.DeclarationLog.{DeclarationLog}
+use Rattle.proto_names.specs.declared.link_log.ResolutionLog.{ResolutionLog}
+use Rattle.proto_names.specs.declared.parts.Declarations.{Declarations}
+use Rattle.proto_names.specs.declared.parts.Resolutions.{Resolutions}
 use Rattle.proto_names_update.specs.Relinked.{WasLink}
 use Rattle.proto_names_table.specs.declared.table.Table.{Table}
 
@@ -30,15 +33,14 @@ link_of_parts t imports rows seen meant references = record {
   references = map (λ v. v.items) references;
 }
 
--- the table and these lists, with the marks of what each file saw, are those of a link of files of
--- which these are the same but at these places; these are the marks of what each file sees now, and
--- all but those of these others are as they were
-pub record IsSightRenewed (places : List ℕ) (files : List FileOf) (t : Table)
-    (rows : List (Vec ℕ)) (meant : List (Vec Meant)) (references : List (Vec RefId))
-    (saw seen : List (Vec Bool)) (others : List ℕ) : Type 0 where
+-- these declarations and resolutions, with the marks of what each file saw, are those of a link of
+-- files of which these are the same but at these places; these are the marks of what each file sees
+-- now, and all but those of these others are as they were
+pub record IsSightRenewed (places : List ℕ) (files : List FileOf) (d : Declarations)
+    (r : Resolutions) (saw seen : List (Vec Bool)) (others : List ℕ) : Type 0 where
   pub imports_before : List (Vec FileImport)
-  pub link : WasLink IsLinkOf files places
-      (link_of_parts t imports_before rows saw meant references)
+  pub link : WasLink IsLinkOf files places (link_of_parts d.table imports_before d.rows.items saw
+      r.meant.items r.references.items)
   pub sight : (reads : List ReadOf) → AreRead files reads
       → IsSightOf files reads (map (λ v. v.items) seen)
   pub kept : StayBut others (map (λ v. v.items) saw) (map (λ v. v.items) seen)
@@ -62,27 +64,35 @@ pub record AreMeantBelow (count : ℕ) (log : List (Change (Vec Meant))) (meant 
 abbrev pub AreOfMarked : List Bool → List (Change (Vec Meant)) → Type 0
 AreOfMarked marks log = All (λ c. get_or marks c.place false ≡ true) log
 
--- the log is one of this table and these lists: what it changed is there, and what there was
-pub record LogFits (log : LinkLog) (t : Table) (all_rows : List (Vec ℕ))
-    (all_meant : List (Vec Meant)) (all_references : List (Vec RefId)) : Type 0 where
-  pub names : Fits log.names t
-  pub rows : AreWithin (length all_rows) log.rows.items
-  pub meant : AreWithin (length all_meant) log.meant.items
-  pub references : AreWithin (length all_references) log.references.items
-  pub count : log.count ≤ length all_references
+-- the log is one of these declarations: what it changed is there
+pub record DeclarationsFit (log : DeclarationLog) (d : Declarations) : Type 0 where
+  pub table : Fits log.table d.table
+  pub rows : AreWithin (length d.rows.items) log.rows.items
 
--- the table and the lists that follow it, as they were when the log began
-pub record SeenParts : Type 0 where
+-- the log is one of these resolutions: what it changed is there, and what there was
+pub record ResolutionsFit (log : ResolutionLog) (r : Resolutions) : Type 0 where
+  pub meant : AreWithin (length r.meant.items) log.meant.items
+  pub references : AreWithin (length r.references.items) log.references.items
+  pub count : log.count ≤ length r.references.items
+
+-- declarations as they were when a log began
+pub record DeclarationsBefore : Type 0 where
   pub table : SeenTable
   pub rows : List (Vec ℕ)
+
+abbrev pub undone_declarations : DeclarationLog → Declarations → DeclarationsBefore
+undone_declarations log d = record {
+  table = undone_table log.table d.table;
+  rows = undone log.rows.items d.rows.items;
+}
+
+-- resolutions as they were when a log began
+pub record ResolutionsBefore : Type 0 where
   pub meant : List (Vec Meant)
   pub references : List (Vec RefId)
 
-abbrev pub undone_parts : LinkLog → Table → List (Vec ℕ) → List (Vec Meant) → List (Vec RefId)
-    → SeenParts
-undone_parts log t rows meant references = record {
-  table = undone_table log.names t;
-  rows = undone log.rows.items rows;
-  meant = undone log.meant.items meant;
-  references = take log.count (undone log.references.items references);
+abbrev pub undone_resolutions : ResolutionLog → Resolutions → ResolutionsBefore
+undone_resolutions log r = record {
+  meant = undone log.meant.items r.meant.items;
+  references = take log.count (undone log.references.items r.references.items);
 }

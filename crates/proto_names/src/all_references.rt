@@ -11,6 +11,7 @@ ghost use Rattle.proto_names_imports.specs.Links.{AreListings, IsListing, link_s
 ghost use Rattle.proto_files.specs.FilesRead.{Each};
 ghost use Rattle.proto_names_table.specs.Tables.{IsTable};
 
+use crate::parts::Declarations;
 use crate::references::{ReferenceError, meanings};
 use proto_base::NoMemory;
 use proto_files::{Files, Words, are_read};
@@ -24,33 +25,37 @@ use std::alloc::Global;
 pub(crate) fn all_meanings(
     alloc: Global,
     files: &Files,
-    table: &Table,
     seen: &[Vec<bool>],
-    rows: &[Vec<usize>],
+    declarations: &Declarations,
     listings: &[Listing],
 ) -> Result<Vec<Vec<Meant>>, ReferenceError>
-    requires table { IsTable table.now }
+    requires table { IsTable declarations.now.table }
     requires listings { AreListings files.now listings.now }
     requires seen { length seen.now ≡ length files.now }
-    requires paired { length rows.now ≡ length files.now }
+    requires paired { length declarations.now.rows.items ≡ length files.now }
     requires rows { Each (λ k v. (d : Listing)
-        → length v.items ≡ length (get_or listings.now k d).declared.items) rows.now }
-    requires within { All (λ v. All (λ r. r < length table.now.rows.items) v.items) rows.now }
+        → length v.items ≡ length (get_or listings.now k d).declared.items)
+        declarations.now.rows.items }
+    requires within { All (λ v. All (λ r. r < length declarations.now.table.rows.items) v.items)
+        declarations.now.rows.items }
     ensures len { IfOk result (λ ms. length ms.items ≡ length files.now) }
     ensures within { IfOk result (λ ms.
-        ((reads : List ReadOf) → AreRead files.now reads
-        → AreLinked table.now seen.now rows.now files.now reads)
-        → All (λ v. All (λ m. m.row < length table.now.rows.items) v.items) ms.items) }
+        ((reads : List ReadOf) → AreRead files.now reads → AreLinked declarations.now.table seen.now
+        declarations.now.rows.items files.now reads)
+        → All (λ v. All (λ m. m.row < length declarations.now.table.rows.items) v.items) ms.items) }
     ensures meant { IfOk result (λ ms. (reads : List ReadOf)
-        → AreRead files.now reads → AreLinked table.now seen.now rows.now files.now reads
-        → (k : ℕ) → k < length files.now → AreFileMeant table.now files.now reads k
+        → AreRead files.now reads → AreLinked declarations.now.table seen.now
+        declarations.now.rows.items files.now reads
+        → (k : ℕ) → k < length files.now → AreFileMeant declarations.now.table files.now reads k
         (get_or (map (λ v. v.items) ms.items) k [])) }
     ensures clean { IfOk result (λ _. (reads : List ReadOf)
-        → AreRead files.now reads → AreLinked table.now seen.now rows.now files.now reads
+        → AreRead files.now reads → AreLinked declarations.now.table seen.now
+        declarations.now.rows.items files.now reads
         → (f : Fault)
         → ReferenceFault (text_of files.now reads) (link_skeleton files.now reads) f → ⊥) }
     ensures fault { IfErr result (λ e. (reads : List ReadOf)
-        → AreRead files.now reads → AreLinked table.now seen.now rows.now files.now reads
+        → AreRead files.now reads → AreLinked declarations.now.table seen.now
+        declarations.now.rows.items files.now reads
         → IsLeastBad files.now reads e) }
 {
     are_read(files);
@@ -60,9 +65,9 @@ pub(crate) fn all_meanings(
             alloc,
             files,
             file as u32,
-            table,
+            &declarations.table,
             &seen[file],
-            &rows[file],
+            &declarations.rows[file],
             &listings[file],
         )?;
         meant.push(own).map_err(NoMemory::from)?;

@@ -8,12 +8,13 @@ pub mod laws;
 mod link;
 mod link_log;
 mod made;
+mod parts;
 mod read_files;
 mod references;
-mod renewal;
-mod renewed_imports;
 mod resolve;
 mod scope;
+mod updated_imports;
+mod updating;
 mod whole_link;
 
 pub use link::{DeclaredNames, Link};

@@ -10,6 +10,7 @@ ghost use Rattle.proto_tree.specs.References.{dotted};
 ghost use Rattle.proto_names_rules.specs.Joined.{joined, ArePlain};
 ghost use Rattle.proto_names_update.specs.NamesOfFiles.{declared_names};
 ghost use Rattle.proto_names.specs.LinkOfFiles.{IsLinkOf};
+ghost use Rattle.proto_names.specs.LinkOfParts.{link_of};
 ghost use Rattle.proto_names_rules.specs.Linked.{is_package};
 ghost use Rattle.proto_names.specs.Linking.{NameOf, declared_row, name_of_row, name_at, name_text, declaring_file, declaring_token, row_at, meant_at, shows_text, is_visible};
 ghost use Rattle.proto_files.specs.FilesRead.{ReadOf, AreRead};
@@ -18,11 +19,10 @@ ghost use Rattle.proto_names_rules.specs.Names.{meaning};
 ghost use Rattle.proto_names.specs.Scopes.{reference_in};
 ghost use Rattle.proto_names_table.specs.Tables.{IsTable};
 
-use crate::copying::copied;
+use crate::parts::LinkParts;
 use crate::resolve::row_in_scope;
 use proto_base::NoMemory;
 use proto_files::{Files, Words};
-use proto_names_imports::import::FileImport;
 use proto_names_rules::Kind;
 use proto_names_table::table::{Row, Table};
 use proto_names_table::{Meant, RefId, SymbolId};
@@ -63,40 +63,24 @@ impl<'a> DeclaredNames<'a> {
 /// The names of files without faults, and what their references mean.
 #[derive(Drop)]
 pub struct Link {
-    pub(crate) table: Table,
-    /// For each file, its imports, by the numbers of the files that they name.
-    pub(crate) imports: Vec<Vec<FileImport>>,
-    /// For each file, the rows of the names that it declares, its package first.
-    pub(crate) rows: Vec<Vec<usize>>,
-    /// For each file, the marks of the files that it sees.
-    pub(crate) seen: Vec<Vec<bool>>,
-    /// For each file, its references by their first tokens, which rise, with the keys of their first
-    /// words and the rows of the names that they mean.
-    pub(crate) meant: Vec<Vec<Meant>>,
-    /// For each name, the references that mean it.
-    pub(crate) references: Vec<Vec<RefId>>,
+    pub(crate) parts: LinkParts,
 }
 
 impl Model for Link {
-    ghost use Rattle.std.specs.Prelude.{◌≡◌, ◌<◌, length, map};
+    ghost use Rattle.std.specs.Prelude.{◌≡◌, ◌<◌, length};
     ghost use Rattle.std.specs.List.{All, AllPairs};
-    ghost use Rattle.proto_names.specs.Linking.{LinkOf, name_of_row};
+    ghost use Rattle.proto_names.specs.Linking.{LinkOf};
+    ghost use Rattle.proto_names.specs.LinkOfParts.{link_of};
     ghost use Rattle.proto_names_table.specs.Tables.{IsTable};
 
     ghost Value = { LinkOf };
 
-    ghost view = { λ l. record {
-      names = map name_of_row l.table.rows.items;
-      imports = map (λ v. v.items) l.imports.items;
-      rows = map (λ v. v.items) l.rows.items;
-      seen = map (λ v. v.items) l.seen.items;
-      meant = map (λ v. v.items) l.meant.items;
-      references = map (λ v. v.items) l.references.items;
-    } };
+    ghost view = { λ l. link_of l.parts };
 
-    ghost invariant = { λ l. IsTable l.table
-        × (length l.references.items ≡ length l.table.rows.items)
-        × All (λ v. AllPairs (λ m n. m.token < n.token) v.items) l.meant.items };
+    ghost invariant = { λ l. IsTable l.parts.declarations.table
+        × (length l.parts.resolutions.references.items
+        ≡ length l.parts.declarations.table.rows.items)
+        × All (λ v. AllPairs (λ m n. m.token < n.token) v.items) l.parts.resolutions.meant.items };
 }
 
 /// The row with this index, if a file declares its name.
@@ -147,34 +131,15 @@ fn row_of_token(meant: &[Meant], token: u32) -> Option<usize>
 
 impl Link {
     /// A link of its parts.
-    pub(crate) fn from_parts(
-        table: Table,
-        imports: Vec<Vec<FileImport>>,
-        rows: Vec<Vec<usize>>,
-        seen: Vec<Vec<bool>>,
-        meant: Vec<Vec<Meant>>,
-        references: Vec<Vec<RefId>>,
-    ) -> Link
-        requires table { IsTable table }
-        requires rising { All (λ v. AllPairs (λ m n. m.token < n.token) v.items) meant.items }
-        requires paired { length references.items ≡ length table.rows.items }
-        ensures { result ≡ record {
-          names = map name_of_row table.rows.items;
-          imports = map (λ v. v.items) imports.items;
-          rows = map (λ v. v.items) rows.items;
-          seen = map (λ v. v.items) seen.items;
-          meant = map (λ v. v.items) meant.items;
-          references = map (λ v. v.items) references.items;
-        } }
+    pub(crate) fn from_parts(parts: LinkParts) -> Link
+        requires table { IsTable parts.declarations.table }
+        requires rising { All (λ v. AllPairs (λ m n. m.token < n.token) v.items)
+            parts.resolutions.meant.items }
+        requires paired { length parts.resolutions.references.items
+            ≡ length parts.declarations.table.rows.items }
+        ensures { result ≡ link_of parts }
     {
-        Link {
-            table,
-            imports,
-            rows,
-            seen,
-            meant,
-            references,
-        }
+        Link { parts }
     }
 
     /// The symbol of this full name, if a file declares it. Takes no memory.
@@ -184,8 +149,8 @@ impl Link {
         ensures once { (i j : ℕ) (text : List ℕ)
             → name_text self.now i ≡ Some text → name_text self.now j ≡ Some text → i ≡ j }
     {
-        let row = self.table.index_of_name(name)?;
-        if self.table.rows[row].is_declared() {
+        let row = self.parts.declarations.table.index_of_name(name)?;
+        if self.parts.declarations.table.rows[row].is_declared() {
             Some(SymbolId { row })
         } else {
             None
@@ -197,7 +162,7 @@ impl Link {
     pub fn name_of(&self, id: SymbolId) -> Option<&str>
         ensures { option_map (λ text. text.now) result ≡ name_text self.now id.row }
     {
-        let row = declared_row(&self.table.rows, id.row)?;
+        let row = declared_row(&self.parts.declarations.table.rows, id.row)?;
         Some(row.name.as_str())
     }
 
@@ -205,7 +170,7 @@ impl Link {
     pub fn kind_of(&self, id: SymbolId) -> Option<Kind>
         ensures { result ≡ option_map (λ n. n.kind) (name_at self.now id.row) }
     {
-        let row = declared_row(&self.table.rows, id.row)?;
+        let row = declared_row(&self.parts.declarations.table.rows, id.row)?;
         Some(row.symbol.kind)
     }
 
@@ -216,7 +181,7 @@ impl Link {
         ensures declared { (row : ℕ) (n : NameOf)
             → name_at self.now row ≡ Some n → 0 < length n.files }
     {
-        let row = own_row(&self.table.rows, id.row)?;
+        let row = own_row(&self.parts.declarations.table.rows, id.row)?;
         Some(row.symbol.file)
     }
 
@@ -224,7 +189,7 @@ impl Link {
     pub fn token_of(&self, id: SymbolId) -> Option<u32>
         ensures { result ≡ declaring_token self.now id.row }
     {
-        let row = own_row(&self.table.rows, id.row)?;
+        let row = own_row(&self.parts.declarations.table.rows, id.row)?;
         Some(row.symbol.token)
     }
 
@@ -234,7 +199,7 @@ impl Link {
         ensures exact { result.now ≡ get_or self.now.references id.row [] }
         ensures paired { length self.now.references ≡ length self.now.names }
     {
-        match self.references.get(id.row) {
+        match self.parts.resolutions.references.get(id.row) {
             Some(references) => references.as_slice(),
             None => &[],
         }
@@ -249,7 +214,7 @@ impl Link {
             → map (name_text self.now) result.rows.now
             ≡ map (λ name. Some (joined name)) (declared_names files reads file) }
     {
-        match self.rows.get(file as usize) {
+        match self.parts.declarations.rows.get(file as usize) {
             Some(rows) => DeclaredNames {
                 rows: rows.as_slice(),
             },
@@ -262,7 +227,7 @@ impl Link {
     pub fn meaning(&self, file: u32, token: u32) -> Option<SymbolId>
         ensures { option_map (λ id. id.row) result ≡ meant_at self.now file token }
     {
-        let meant = self.meant.get(file as usize)?;
+        let meant = self.parts.resolutions.meant.get(file as usize)?;
         let row = row_of_token(meant, token)?;
         Some(SymbolId { row })
     }
@@ -273,7 +238,7 @@ impl Link {
         ensures exact { result.now ≡ get_or self.now.meant file [] }
         ensures rising { AllPairs (λ m n. m.token < n.token) result.now }
     {
-        match self.meant.get(file as usize) {
+        match self.parts.resolutions.meant.get(file as usize) {
             Some(meant) => meant.as_slice(),
             None => &[],
         }
@@ -284,8 +249,8 @@ impl Link {
     pub fn visible(&self, file: u32, name: &str) -> bool
         ensures { result ≡ is_visible self.now file name.now }
     {
-        match self.seen.get(file as usize) {
-            Some(seen) => shows(&self.table, seen, name),
+        match self.parts.graph.seen.get(file as usize) {
+            Some(seen) => shows(&self.parts.declarations.table, seen, name),
             None => false,
         }
     }
@@ -317,9 +282,10 @@ impl Link {
             → (result ≡ None) ↔ (meaning (names_of_files files.now reads)
             (reference_in files.now reads file path reference.now) ≡ None) }
     {
-        let seen = self.seen.get(file as usize)?;
+        let seen = self.parts.graph.seen.get(file as usize)?;
         let words = Words::new(files, file);
-        let row = row_in_scope(&self.table, seen, &words, scope, reference)?;
+        let table = &self.parts.declarations.table;
+        let row = row_in_scope(table, seen, &words, scope, reference)?;
         Some(SymbolId { row })
     }
 
@@ -327,16 +293,11 @@ impl Link {
     pub fn copy(&self, alloc: Global) -> Result<Link, NoMemory>
         ensures { IfOk result (λ link. link ≡ self.now) }
     {
-        let table = self.table.copy(alloc)?;
-        let imports = copied(alloc, &self.imports)?;
-        let rows = copied(alloc, &self.rows)?;
-        let seen = copied(alloc, &self.seen)?;
-        let meant = copied(alloc, &self.meant)?;
-        let references = copied(alloc, &self.references)?;
-        Ok(Link::from_parts(table, imports, rows, seen, meant, references))
+        let parts = self.parts.copy(alloc)?;
+        Ok(Link::from_parts(parts))
     }
 
-    /// Lets the link go. A crate that ends it by this call need not prove how each of its
-    /// parts is dropped.
+    /// Drops the link. A crate that ends it by this call need not prove how each of its parts is
+    /// dropped.
     pub fn release(self) {}
 }

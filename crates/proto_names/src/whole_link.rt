@@ -10,13 +10,14 @@ ghost use Rattle.proto_names_imports.specs.Importing.{all_imports, import_flaw_n
 ghost use Rattle.proto_names_imports.specs.LinkErrors.{IsLinkError};
 ghost use Rattle.proto_names.specs.Following.{WasMadeOf, WereLinkAndMade};
 ghost use Rattle.proto_names.specs.LinkOfFiles.{AreNamesOf, HasNoImportFault, HasNoNameFault, IsLinkOf};
+ghost use Rattle.proto_names.specs.Linking.{all_meant, references_to};
 ghost use Rattle.proto_names.specs.Replacing.{IsReplaceError};
+ghost use Rattle.proto_names.specs.Sight.{AreLinkImports, IsSightOf};
 ghost use Rattle.proto_names.specs.declared.whole_link.Renewal.TheVariants.{Done, Refused};
 ghost use Rattle.proto_base.specs.declared.fault.SchemaFault.{SchemaFault as SchemaFaultOf};
 ghost use Rattle.proto_names_update.specs.Relinked.{WasLink};
-ghost use Rattle.proto_names_imports.specs.Links.{AreListings, LinkFaults, link_imports, link_skeleton, names_of_files, text_of};
+ghost use Rattle.proto_names_imports.specs.Links.{AreListings, LinkFaults, link_imports, link_skeleton, text_of};
 ghost use Rattle.proto_files.specs.FilesRead.{AreRead, Each, ReadOf};
-ghost use Rattle.proto_names_rules.specs.Marks.{MarksSeen};
 ghost use Rattle.proto_names_table.specs.Tables.{IsTable};
 ghost use Rattle.proto_names_outline.specs.declared.listing.Listing.{Listing};
 
@@ -25,17 +26,15 @@ use crate::backlinks::references_by_name;
 use crate::link::Link;
 use crate::link_log::LinkLog;
 use crate::made::{Derived, Nothing};
+use crate::parts::{Declarations, ImportGraph, LinkParts, Resolutions};
 use crate::read_files::{all_spelled, all_written, listings};
 use crate::references::{ReferenceError, ReferenceFlaw};
-use crate::renewal::renew_parts;
 use proto_base::{FaultKind, NoMemory, SchemaFault};
 use proto_files::{Files, all_paths, are_read, fault_at_token};
 use proto_names_imports::import::{FileImport, ImportError, ImportFlaw, resolve_imports};
 use proto_names_imports::sight::all_seen;
 use proto_names_outline::listing::Listing;
-use proto_names_table::Meant;
 use proto_names_table::filling::{NameError, declare_all};
-use proto_names_table::table::Table;
 use std::alloc::Global;
 use std::mem;
 
@@ -76,24 +75,39 @@ fn linked_imports(alloc: Global, files: &Files) -> Result<Vec<Vec<FileImport>>, 
     }
 }
 
+/// What the files import, and what each of them sees; else the least fault of an import.
+fn linked_graph(alloc: Global, files: &Files) -> Result<ImportGraph, SchemaFault>
+    ensures imports { IfOk result (λ graph. (reads : List ReadOf) → AreRead files.now reads
+        → AreLinkImports files.now reads (map (λ v. v.items) graph.imports.items)) }
+    ensures sight { IfOk result (λ graph. (reads : List ReadOf) → AreRead files.now reads
+        → IsSightOf files.now reads (map (λ v. v.items) graph.seen.items)) }
+    ensures fault { IfErr result (IsLinkError files.now) }
+{
+    // Its contract says that there are at most 4,096.
+    let _count = files.len();
+    let imports = linked_imports(alloc, files)?;
+    let seen = all_seen(alloc, &imports)?;
+    Ok(ImportGraph { imports, seen })
+}
+
 /// The table of the names of the files, and for each file the rows of its declarations; else the
 /// least clash of names.
 fn linked_names(
     alloc: Global,
     files: &Files,
     listings: &[Listing],
-) -> Result<(Table, Vec<Vec<usize>>), SchemaFault>
+) -> Result<Declarations, SchemaFault>
     requires listings { AreListings files.now listings.now }
     requires imports { HasNoImportFault files.now }
-    ensures table { IfOk result (λ x. IsTable x.0) }
-    ensures names { IfOk result (λ x. (reads : List ReadOf)
-        → AreRead files.now reads → AreNamesOf files.now reads x.0 x.1.items) }
-    ensures paired { IfOk result (λ x. length x.1.items ≡ length files.now) }
-    ensures rows { IfOk result (λ x. Each
-        (λ k v. (d : Listing) → length v.items ≡ length (get_or listings.now k d).declared.items)
-        x.1.items) }
+    ensures table { IfOk result (λ d. IsTable d.table) }
+    ensures names { IfOk result (λ d. (reads : List ReadOf)
+        → AreRead files.now reads → AreNamesOf files.now reads d.table d.rows.items) }
+    ensures paired { IfOk result (λ d. length d.rows.items ≡ length files.now) }
+    ensures rows { IfOk result (λ d. Each
+        (λ k v. (l : Listing) → length v.items ≡ length (get_or listings.now k l).declared.items)
+        d.rows.items) }
     ensures within { IfOk result
-        (λ x. All (λ v. All (λ r. r < length x.0.rows.items) v.items) x.1.items) }
+        (λ d. All (λ v. All (λ r. r < length d.table.rows.items) v.items) d.rows.items) }
     ensures clean { IfOk result (λ _. HasNoNameFault files.now) }
     ensures fault { IfErr result (IsLinkError files.now) }
 {
@@ -103,7 +117,10 @@ fn linked_names(
     let _count = files.len();
     let spelled = all_spelled(alloc, files, listings)?;
     match declare_all(alloc, &spelled) {
-        Ok(names) => Ok(names),
+        Ok(names) => {
+            let (table, rows) = names;
+            Ok(Declarations { table, rows })
+        }
         Err(NameError::Clash { file, token }) => {
             let kind = FaultKind::DuplicateName;
             Err(fault_at_token(alloc, files, file, token, kind))
@@ -123,35 +140,36 @@ fn reference_kind(flaw: ReferenceFlaw) -> FaultKind
     }
 }
 
-/// What the references of each file mean; else the least fault.
+/// What the references of each file mean, and the references to each name; else the least fault.
 fn linked_references(
     alloc: Global,
     files: &Files,
-    table: &Table,
-    seen: &[Vec<bool>],
-    rows: &[Vec<usize>],
+    graph: &ImportGraph,
+    declarations: &Declarations,
     listings: &[Listing],
-) -> Result<Vec<Vec<Meant>>, SchemaFault>
-    requires table { IsTable table.now }
+) -> Result<Resolutions, SchemaFault>
+    requires table { IsTable declarations.now.table }
     requires listings { AreListings files.now listings.now }
-    requires seen { length seen.now ≡ length files.now }
-    requires marks { (reads : List ReadOf) → AreRead files.now reads → (k : ℕ) → k
-        < length files.now → MarksSeen (names_of_files files.now reads) k
-        (get_or (map (λ v. v.items) seen.now) k []) }
-    requires paired { length rows.now ≡ length files.now }
+    requires sight { (reads : List ReadOf) → AreRead files.now reads
+        → IsSightOf files.now reads (map (λ v. v.items) graph.now.seen.items) }
+    requires paired { length declarations.now.rows.items ≡ length files.now }
     requires rows { Each (λ k v. (d : Listing)
-        → length v.items ≡ length (get_or listings.now k d).declared.items) rows.now }
-    requires within { All (λ v. All (λ r. r < length table.now.rows.items) v.items) rows.now }
+        → length v.items ≡ length (get_or listings.now k d).declared.items)
+        declarations.now.rows.items }
+    requires within { All (λ v. All (λ r. r < length declarations.now.table.rows.items) v.items)
+        declarations.now.rows.items }
     requires names { (reads : List ReadOf) → AreRead files.now reads
-        → AreNamesOf files.now reads table.now rows.now }
-    requires no_import_fault { HasNoImportFault files.now }
+        → AreNamesOf files.now reads declarations.now.table declarations.now.rows.items }
     requires no_name_fault { HasNoNameFault files.now }
-    ensures len { IfOk result (λ ms. length ms.items ≡ length files.now) }
-    ensures within { IfOk result
-        (λ ms. All (λ v. All (λ m. m.row < length table.now.rows.items) v.items) ms.items) }
-    ensures meant { IfOk result (λ ms. (reads : List ReadOf) → AreRead files.now reads → (k : ℕ) → k
-        < length files.now → AreFileMeant table.now files.now reads k
-        (get_or (map (λ v. v.items) ms.items) k [])) }
+    ensures len { IfOk result (λ r. length r.meant.items ≡ length files.now) }
+    ensures meant { IfOk result (λ r. (reads : List ReadOf) → AreRead files.now reads → (k : ℕ) → k
+        < length files.now → AreFileMeant declarations.now.table files.now reads k
+        (get_or (map (λ v. v.items) r.meant.items) k [])) }
+    ensures paired { IfOk result (λ r.
+        length r.references.items ≡ length declarations.now.table.rows.items) }
+    ensures references { IfOk result (λ r. (row : ℕ)
+        → get_or (map (λ v. v.items) r.references.items) row []
+        ≡ references_to row (all_meant 0 (map (λ v. v.items) r.meant.items))) }
     ensures clean { IfOk result (λ _. (reads : List ReadOf) → AreRead files.now reads →
         (f : FaultAtToken) → ReferenceFault (text_of files.now reads)
         (link_skeleton files.now reads) f → ⊥) }
@@ -160,9 +178,13 @@ fn linked_references(
     // The contracts of these say that each file is read, and that the files are those of a
     // workspace.
     are_read(files);
-    files.len();
-    match all_meanings(alloc, files, table, seen, rows, listings) {
-        Ok(meant) => Ok(meant),
+    let _count = files.len();
+    match all_meanings(alloc, files, &graph.seen, declarations, listings) {
+        Ok(meant) => {
+            let names = declarations.table.rows.len();
+            let references = references_by_name(alloc, names, &meant)?;
+            Ok(Resolutions { meant, references })
+        }
         Err(ReferenceError::Fault(bad)) => {
             let kind = reference_kind(bad.flaw);
             Err(fault_at_token(alloc, files, bad.file, bad.token, kind))
@@ -194,13 +216,15 @@ impl Link {
         // Each file has tokens and a tree, and there are at most 4,096.
         are_read(files);
         let _count = files.len();
-        let imports = linked_imports(alloc, files)?;
-        let seen = all_seen(alloc, &imports)?;
+        let graph = linked_graph(alloc, files)?;
         let listings = listings(alloc, files)?;
-        let (table, rows) = linked_names(alloc, files, &listings)?;
-        let meant = linked_references(alloc, files, &table, &seen, &rows, &listings)?;
-        let references = references_by_name(alloc, table.rows.len(), &meant)?;
-        Ok(Link::from_parts(table, imports, rows, seen, meant, references))
+        let declarations = linked_names(alloc, files, &listings)?;
+        let resolutions = linked_references(alloc, files, &graph, &declarations, &listings)?;
+        Ok(Link::from_parts(LinkParts {
+            graph,
+            declarations,
+            resolutions,
+        }))
     }
 
     /// Changes this link to that of the files, which differ from those before at these places alone;
@@ -262,21 +286,9 @@ impl Link {
             → IsReplaceError M.IsRefused files.now fault }
         ensures kept { result ≢ Done → (self.new ≡ self.old) × (made.new ≡ made.old) }
     {
-        let count = self.references.len();
-        let mut log = LinkLog::new(alloc, &self.table, count);
-        let renewed = renew_parts(
-            alloc,
-            files,
-            places,
-            &mut self.table,
-            &mut self.imports,
-            &mut self.rows,
-            &mut self.seen,
-            &mut self.meant,
-            &mut self.references,
-            &mut log,
-        );
-        let answer = match renewed {
+        let mut log = LinkLog::new(alloc, &self.parts);
+        let updated = self.parts.update(alloc, files, places, &mut log);
+        let answer = match updated {
             Ok(Some(marks)) => match made.follow(alloc, files, self, places, Some(&marks)) {
                 Ok(()) => return Renewal::Done,
                 Err(fault) => Renewal::Refused(fault),
@@ -284,14 +296,7 @@ impl Link {
             Ok(None) => Renewal::Rebuild,
             Err(NoMemory) => Renewal::Refused(SchemaFault::NoMemory),
         };
-        log.take_back(
-            &mut self.table,
-            &mut self.imports,
-            &mut self.rows,
-            &mut self.seen,
-            &mut self.meant,
-            &mut self.references,
-        );
+        self.parts.roll_back(log);
         answer
     }
 

@@ -34,7 +34,7 @@ front_plain (x ∷ xs) w p = let r = front_plain xs w p.1 in ((p.0, r.0), r.1)
 pub last_word_of_row : (t : Table) → IsTable t → (row : ℕ) → row < length t.rows.items → (b : Below) (s : String Global) (before : List (List ℕ)) (word : List ℕ) → ArePlain (before ++ word ∷ []) → get_or (names_of t) row [] ≡ joined (before ++ word ∷ [])
     → string_bytes (get_or t.below.words.keys (get_or t.below.rows.keys row b).word s) ≡ word
 last_word_of_row t is row l b s before word plain named =
-    let n = length-map t.rows.items (λ r. string_bytes r.name) in
+    let n = length-map t.rows.items (λ r. r.name) in
     let within : row < length (names_of t) = omega (arith, l, n) in
     let above = get_or (aboves_of t) row 0 in
     let g = is.forest.grown row within in

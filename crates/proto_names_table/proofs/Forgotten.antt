@@ -1,5 +1,5 @@
 -- A row that is declared no more, and one that is declared again.
-use Rattle.std.proofs.Common.{◌≡◌, ◌≢◌, ℕ, ◌<◌, Bool, true, false, cond, List, [], ◌∷◌, ◌++◌, length, get_or, slice_set, refl, sym, ◌∙◌, ap, subst, inl, inr, arith, string_bytes, Contains}
+use Rattle.std.proofs.Common.{◌≡◌, ◌≢◌, ℕ, ◌<◌, Bool, true, false, cond, List, [], ◌∷◌, ◌++◌, length, get_or, slice_set, refl, sym, ◌∙◌, ap, subst, inl, inr, arith, Contains}
 use Rattle.proto_base.proofs.Common.{cases_eq, length-map, contains_head, Contains-append_cases, Contains-append_left, Contains-append_right}
 use Rattle.proto_names_rules.specs.Forest.{front}
 use Rattle.proto_names_rules.proofs.Common.{Symbol, joined, ArePlain, names_apart}
@@ -46,7 +46,7 @@ module _ (t t' : Table) (k : ℕ) (r : Row) (symbol : Declaration) (flag : Bool)
       | inr ne ↦
           let lj' : j < length t.rows.items = omega (arith, lj, size_same) in
           let o = index.symbol j f d lj' (subst (λ z. Contains (files_of z) f) (there j d ne) c) in
-          let n = length-map t.rows.items (λ z. string_bytes z.name) in
+          let n = length-map t.rows.items (λ z. z.name) in
           let apart : joined o.0.name ≢ get_or (names_of t) k [] = λ e. ne (names_apart (names_of t) (aboves_of t) (look t) ok.forest j k (omega (arith, lj', n)) (omega (arith, l, n)) (sym o.2 ∙ e)) in
           (o.0, (without o.0).1 (o.1, apart), o.2 ∙ sym (name_same j), o.3 ∙ ap (λ z. z.symbol.kind) (sym (there j d ne)), o.4)
     ];

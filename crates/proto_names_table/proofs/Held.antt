@@ -1,5 +1,5 @@
 -- The table holds a declaration more, or one that it holds has the name (for the crates above).
-use Rattle.std.proofs.Common.{◌≡◌, ℕ, ◌<◌, ◌&&◌, Bool, true, cond, List, [], ◌∷◌, ◌++◌, length, get_or, map, sym, ◌∙◌, ap, subst, inl, inr, arith, string_bytes, length-append, Contains}
+use Rattle.std.proofs.Common.{◌≡◌, ℕ, ◌<◌, ◌&&◌, Bool, true, cond, List, [], ◌∷◌, ◌++◌, length, get_or, map, sym, ◌∙◌, ap, subst, inl, inr, arith, length-append, Contains}
 use Rattle.proto_base.proofs.Common.{cases_eq, both_ways, length-map, map-append, contains_head, contains_map, from_map}
 use Rattle.proto_names_rules.specs.declared.kind.Kind.TheVariants.{Package}
 use Rattle.proto_names_rules.proofs.Common.{Symbol, at, is_package, joined, ArePlain, get_front, get_last, names_apart, joined_apart}
@@ -37,7 +37,7 @@ module _ (old new : Table) (ds : List Named) (d : Named) (text : List ℕ) (symb
   fresh : (x : Named) → Contains ds x → x.name ≡ d.name → (x.kind ≡ Package) × (d.kind ≡ Package)
   fresh x c same =
       let r = held.index.row (symbol_named x) (contains_map symbol_named ds x c) in
-      let n' = length-map new.rows.items (λ z. string_bytes z.name) in
+      let n' = length-map new.rows.items (λ z. z.name) in
       let size = there.kept.size in
       let k : get_or (names_of new) r.0 [] ≡ text = there.kept.names r.0 r.1 ∙ r.2 ∙ ap joined same ∙ name in
       let w = there.within in

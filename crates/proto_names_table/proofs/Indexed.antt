@@ -1,5 +1,5 @@
 -- A table with a symbol more is the index of the symbols with it.
-use Rattle.std.proofs.Common.{◌≡◌, ◌≢◌, ℕ, zero, suc, ◌+◌, ◌<◌, ◌≤◌, true, cond, List, [], ◌∷◌, ◌++◌, length, get_or, map, refl, sym, ◌∙◌, ap, subst, inl, inr, arith, slice_set, string_bytes, length-append}
+use Rattle.std.proofs.Common.{◌≡◌, ◌≢◌, ℕ, zero, suc, ◌+◌, ◌<◌, ◌≤◌, true, cond, List, [], ◌∷◌, ◌++◌, length, get_or, map, refl, sym, ◌∙◌, ap, subst, inl, inr, arith, slice_set, length-append}
 use Rattle.std.specs.List.{Contains}
 use Rattle.std.proofs.lemmas.Bool.{cases_eq}
 use Rattle.std.proofs.lemmas.List.{length-map}
@@ -20,15 +20,15 @@ use Rattle.proto_names_rules.proofs.Forest.{get_front, get_last}
 pub last_only : {X : Type 0} (x y : X) → Contains (x ∷ []) y → x ≡ y
 last_only x y c = elim (contains_cases x y [] c) [ inl e ↦ e | inr n ↦ absurd (omega (arith, n.1)) ]
 
-module _ (t t' : Table) (r : Row) (text : List ℕ) (rows : t'.rows.items ≡ t.rows.items ++ r ∷ []) (name : string_bytes r.name ≡ text) (fresh : r.more.items ≡ []) (declared : r.is_declared ≡ true) where
+module _ (t t' : Table) (r : Row) (text : List ℕ) (rows : t'.rows.items ≡ t.rows.items ++ r ∷ []) (name : r.name ≡ text) (fresh : r.more.items ≡ []) (declared : r.is_declared ≡ true) where
   size : length t'.rows.items ≡ length t.rows.items + 1
   size = ap length rows ∙ length-append t.rows.items (r ∷ [])
 
   names_more : names_of t' ≡ names_of t ++ text ∷ []
-  names_more = ap (map (λ z. string_bytes z.name)) rows ∙ map_append (λ z. string_bytes z.name) t.rows.items (r ∷ []) ∙ ap (λ z. names_of t ++ z ∷ []) name
+  names_more = ap (map (λ z. z.name)) rows ∙ map_append (λ z. z.name) t.rows.items (r ∷ []) ∙ ap (λ z. names_of t ++ z ∷ []) name
 
   named : length (names_of t) ≡ length t.rows.items
-  named = length-map t.rows.items (λ z. string_bytes z.name)
+  named = length-map t.rows.items (λ z. z.name)
 
   pub name_kept : (k : ℕ) → k < length t.rows.items → get_or (names_of t') k [] ≡ get_or (names_of t) k []
   name_kept k l = ap (λ z. get_or z k []) names_more ∙ get_front (names_of t) (text ∷ []) k [] (omega (arith, l, named))

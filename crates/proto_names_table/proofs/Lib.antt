@@ -1,4 +1,5 @@
 pub mod Alike
+mod Begun
 mod Clashing
 pub mod Common
 mod Copied
@@ -12,6 +13,7 @@ mod Kept
 pub mod NameFaults
 pub mod Naming
 mod OneRow
+mod PackageTexts
 mod Passes
 mod Positions
 pub mod Resolved

@@ -1,5 +1,5 @@
 -- A table one of whose rows is another one, of the same name and right below the same name.
-use Rattle.std.proofs.Common.{◌≡◌, ◌≢◌, ℕ, zero, suc, ◌<◌, false, List, [], ◌∷◌, length, get_or, map, sym, ◌∙◌, ap, subst, inl, inr, arith, slice_set, string_bytes}
+use Rattle.std.proofs.Common.{◌≡◌, ◌≢◌, ℕ, zero, suc, ◌<◌, false, List, [], ◌∷◌, length, get_or, map, sym, ◌∙◌, ap, subst, inl, inr, arith, slice_set}
 use Rattle.proto_base.proofs.Common.{cases_eq, get_or_default}
 use Rattle.std.proofs.lemmas.List.{length-set, get_or-set_same, get_or-set_other}
 use Rattle.proto_names_rules.specs.Forest.{IsForest}
@@ -17,7 +17,7 @@ module _ (t t' : Table) (k : ℕ) (r r' : Row) (l : k < length t.rows.items) (is
   at d = get_or_default t.rows.items k d r l ∙ sym is
 
   pub names_same : names_of t' ≡ names_of t
-  names_same = ap (map (λ z. string_bytes z.name)) rows ∙ map_set_same (λ z. string_bytes z.name) t.rows.items k r' l (λ d. ap string_bytes name ∙ ap (λ z. string_bytes z.name) (sym (at d)))
+  names_same = ap (map (λ z. z.name)) rows ∙ map_set_same (λ z. z.name) t.rows.items k r' l (λ d. name ∙ ap (λ z. z.name) (sym (at d)))
 
   aboves_same : aboves_of t' ≡ aboves_of t
   aboves_same = ap (map (λ z. z.above)) rows ∙ map_set_same (λ z. z.above) t.rows.items k r' l (λ d. above ∙ ap (λ z. z.above) (sym (at d)))
@@ -39,7 +39,7 @@ module _ (t t' : Table) (k : ℕ) (r r' : Row) (l : k < length t.rows.items) (is
 
   pub table_same : (is_shared_row r' ≡ false → r'.more.items ≡ []) → IsTable t → IsTable t'
   table_same own ok = record {
-    forest = subst (λ z. IsForest z (aboves_of t') (look t')) (sym names_same) (subst (λ z. IsForest (names_of t) z (look t')) (sym aboves_same) (subst (λ z. IsForest (names_of t) (aboves_of t) (look (record { rows = t.rows; below = z }))) (sym below) ok.forest));
+    forest = subst (λ z. IsForest z (aboves_of t') (look t')) (sym names_same) (subst (λ z. IsForest (names_of t) z (look t')) (sym aboves_same) (subst (λ z. IsForest (names_of t) (aboves_of t) (look (record { rows = t.rows; below = z; begun = t.begun }))) (sym below) ok.forest));
     sized = ap (λ z. length z.rows.keys) below ∙ ok.sized ∙ sym size_same;
     keyed = ap aboves_in below ∙ ok.keyed ∙ sym aboves_same;
     words = subst HasWords (sym below) ok.words;

@@ -1,5 +1,5 @@
 -- What is looked up in the table is what a reference means (for the crates above).
-use Rattle.std.proofs.Common.{◌≡◌, ◌≢◌, ◌⊎◌, ℕ, zero, suc, ◌+◌, ◌<◌, ◌≤◌, Bool, true, false, ◌&&◌, List, [], ◌∷◌, ◌++◌, length, get_or, take, drop, map, Bor, Option, Some, None, refl, sym, ◌∙◌, ap, subst, inl, inr, arith, append_assoc, string_bytes, if◌then◌else◌, option_map, IfNone, ◌==◌, eqb-true}
+use Rattle.std.proofs.Common.{◌≡◌, ◌≢◌, ◌⊎◌, ℕ, zero, suc, ◌+◌, ◌<◌, ◌≤◌, Bool, true, false, ◌&&◌, List, [], ◌∷◌, ◌++◌, length, get_or, take, drop, map, Bor, Option, Some, None, refl, sym, ◌∙◌, ap, subst, inl, inr, arith, append_assoc, if◌then◌else◌, option_map, IfNone, ◌==◌, eqb-true}
 use Rattle.proto_base.proofs.Common.{cases_Bool, cond-true, cond-false, both_ways, false_from_ne_true, and_parts, and_from, none-some, length-map, get_or_default, any_from, any_to}
 use Rattle.proto_names_rules.specs.declared.kind.Kind.{Kind}
 use Rattle.proto_names_rules.proofs.Common.{Reference, Workspace, same_name, is_type, is_outer, fits_at_first, sees, shows, greatest, hits_at, hit, typed, meaning, meaning_at, joined, ArePlain, under, front, MarksSeen, same_from_name, greatest_is, joined_apart, names_apart, prefix_named, under_pointed, under_some, shown, hit_from}
@@ -23,7 +23,7 @@ joined_all x (w ∷ ws) px pw =
 
 module _ (t : Table) (ok : IsTable t) (seen : List Bool) (w : Workspace) (file : ℕ) (index : IsIndexOf t w.symbols) (marks : MarksSeen w file seen) where
   sized : length (names_of t) ≡ length t.rows.items
-  sized = length-map t.rows.items (λ r. string_bytes r.name)
+  sized = length-map t.rows.items (λ r. r.name)
 
   -- a name is shown exactly where its row passes
   pub shows_from : (good : Kind → Bool) (x : List (List ℕ)) → ArePlain x → (k : ℕ) → k < length t.rows.items → get_or (names_of t) k [] ≡ joined x → ((d : Row) → (good (get_or t.rows.items k d).symbol.kind && is_seen seen (get_or t.rows.items k d)) ≡ true) → shows w file good x ≡ true
@@ -124,7 +124,7 @@ module _ (t : Table) (ok : IsTable t) (seen : List Bool) (w : Workspace) (r : Re
 pub under_all_named : (t : Table) → IsTable t → (ws : List (List ℕ)) → ArePlain ws → (g : List ℕ) → g ≢ [] → (k : ℕ) → k < length t.rows.items → get_or (names_of t) k [] ≡ under_all g ws → (j : ℕ) × (j < length t.rows.items) × (get_or (names_of t) j [] ≡ g)
 under_all_named t ok [] pw g ne k l e = (k, l, e)
 under_all_named t ok (v ∷ ws) pw g ne k l e =
-    let n = length-map t.rows.items (λ r. string_bytes r.name) in
+    let n = length-map t.rows.items (λ r. r.name) in
     let x = under_all_named t ok ws pw.1 (under g v) (under_some g v pw.0) k l e in
     let y = prefix_named (names_of t) (aboves_of t) (look t) ok.forest (suc x.0) x.0 (omega arith) (omega (arith, x.1, n)) g v (x.2 ∙ under_pointed g v ne) in
     (y.0, omega (arith, y.1, n), y.2)
@@ -155,7 +155,7 @@ absolute_is t ok seen w r index marks first ws pw words abs o h =
 -- a first word that is no name
 pub absolute_none : (t : Table) → IsTable t → (first : List ℕ) (ws : List (List ℕ)) → ArePlain (first ∷ ws) → look t 0 first ≡ None → (seen : List Bool) → IsTypeAt t seen (under_all first ws) None
 absolute_none t ok first ws pw none seen = λ k d l e. (
-    let n = length-map t.rows.items (λ r. string_bytes r.name) in
+    let n = length-map t.rows.items (λ r. r.name) in
     let x = under_all_named t ok ws pw.1 first (λ q. pw.0.1 q) k l e in
     absurd (none-some x.0 (sym none ∙ ok.forest.complete 0 first x.0 (omega arith) pw.0 (omega (arith, x.1, n)) x.2)))
 
@@ -199,7 +199,7 @@ pub record Step (t : Table) (row : ℕ) (v : List ℕ) (ws : List (List ℕ)) : 
 
 pub one_step : (t : Table) → IsTable t → (row : ℕ) → row < length t.rows.items → (v : List ℕ) (ws : List (List ℕ)) → ArePlain (v ∷ ws) → Step t row v ws
 one_step t ok row l v ws pw =
-    let n = length-map t.rows.items (λ r. string_bytes r.name) in
+    let n = length-map t.rows.items (λ r. r.name) in
     let e : row + 1 ≡ suc row = omega arith in
     let lr : row + 1 ≤ length (names_of t) = omega (arith, l, n) in
     let f : front (names_of t) (row + 1) ≡ get_or (names_of t) row [] = ap (front (names_of t)) e in
@@ -220,6 +220,6 @@ if_none (Some x) P p = tt
 -- the row of a text is one
 pub other_fails : (t : Table) → IsTable t → (seen : List Bool) (row : ℕ) (x : Row) → row < length t.rows.items → x ≡ get_or t.rows.items row x → passes seen true x ≡ false → (k : ℕ) (d : Row) → k < length t.rows.items → get_or (names_of t) k [] ≡ get_or (names_of t) row [] → passes seen true (get_or t.rows.items k d) ≡ false
 other_fails t ok seen row x l is fails k d lk e =
-    let n = length-map t.rows.items (λ r. string_bytes r.name) in
+    let n = length-map t.rows.items (λ r. r.name) in
     let same : k ≡ row = names_apart (names_of t) (aboves_of t) (look t) ok.forest k row (omega (arith, lk, n)) (omega (arith, l, n)) e in
     ap (λ i. passes seen true (get_or t.rows.items i d)) same ∙ ap (passes seen true) (get_or_default t.rows.items row d x l ∙ sym is) ∙ fails

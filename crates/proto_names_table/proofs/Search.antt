@@ -1,5 +1,5 @@
 -- One step outward: a number's name is a word more than the name above it (for the crates above).
-use Rattle.std.proofs.Common.{◌≡◌, ◌≢◌, ℕ, zero, suc, ◌<◌, ◌≤◌, Bool, false, List, [], ◌∷◌, ◌++◌, length, get_or, take, refl, sym, ◌∙◌, ap, subst, inl, inr, arith, append_assoc, string_bytes}
+use Rattle.std.proofs.Common.{◌≡◌, ◌≢◌, ℕ, zero, suc, ◌<◌, ◌≤◌, Bool, false, List, [], ◌∷◌, ◌++◌, length, get_or, take, refl, sym, ◌∙◌, ap, subst, inl, inr, arith, append_assoc}
 use Rattle.proto_base.proofs.Common.{both_ways, cases_eq, get_or-map, length-map}
 use Rattle.proto_names_table.specs.Common.{Row, Table, names_of, aboves_of, look, IsTable, passes, HitsAt, NoneAbove}
 use Rattle.proto_names_rules.proofs.Common.{joined, IsPlain, ArePlain, under, front, under_apart, under_pointed, name_some}
@@ -51,15 +51,15 @@ pub record Outward (t : Table) (path : List (List ℕ)) (k : ℕ) (above m : ℕ
 
 pub above_lower : (t : Table) → IsTable t → (m : ℕ) → m < length t.rows.items → (r : Row) → r ≡ get_or t.rows.items m r → r.above ≤ m
 above_lower t ok m l r is =
-    let n = length-map t.rows.items (λ z. string_bytes z.name) in
+    let n = length-map t.rows.items (λ z. z.name) in
     let g = ok.forest.grown m (omega (arith, l, n)) in
     let a : get_or (aboves_of t) m 0 ≡ r.above = get_or-map (λ z. z.above) t.rows.items m r 0 l ∙ ap (λ z. z.above) (sym is) in
     omega (arith, a, g.0)
 
 pub outward : (t : Table) → IsTable t → (m : ℕ) → m < length t.rows.items → (r : Row) → r ≡ get_or t.rows.items m r → (path : List (List ℕ)) → ArePlain path → (k : ℕ) → k ≤ length path → front (names_of t) (suc m) ≡ joined (take k path) → Outward t path k r.above m
-outward t ok m l r is path plain zero lk e = absurd (name_some (names_of t) (aboves_of t) (look t) ok.forest m (omega (arith, l, length-map t.rows.items (λ z. string_bytes z.name))) e)
+outward t ok m l r is path plain zero lk e = absurd (name_some (names_of t) (aboves_of t) (look t) ok.forest m (omega (arith, l, length-map t.rows.items (λ z. z.name))) e)
 outward t ok m l r is path plain (suc k) lk e =
-    let n = length-map t.rows.items (λ z. string_bytes z.name) in
+    let n = length-map t.rows.items (λ z. z.name) in
     let g = ok.forest.grown m (omega (arith, l, n)) in
     let a : get_or (aboves_of t) m 0 ≡ r.above = get_or-map (λ z. z.above) t.rows.items m r 0 l ∙ ap (λ z. z.above) (sym is) in
     let lk' : k < length path = omega (arith, lk) in

@@ -1,5 +1,5 @@
 -- The table after a row more.
-use Rattle.std.proofs.Common.{◌≡◌, ◌≢◌, ℕ, zero, suc, ◌+◌, ◌-◌, ◌<◌, ◌≤◌, Bool, true, false, ◌||◌, drop, List, [], ◌∷◌, ◌++◌, length, get_or, map, Option, Some, None, refl, sym, ◌∙◌, ap, subst, inl, inr, ◌⊎◌, arith, slice_get, slice_set, string_bytes, length-append, if◌then◌else◌, Bor, MatchOption, Result, Ok, Err, OnErr, option_and_then, position, ◌&&◌}
+use Rattle.std.proofs.Common.{◌≡◌, ◌≢◌, ℕ, zero, suc, ◌+◌, ◌-◌, ◌<◌, ◌≤◌, Bool, true, false, ◌||◌, drop, List, [], ◌∷◌, ◌++◌, length, get_or, map, Option, Some, None, refl, sym, ◌∙◌, ap, subst, inl, inr, ◌⊎◌, arith, slice_get, slice_set, length-append, if◌then◌else◌, Bor, MatchOption, Result, Ok, Err, OnErr, option_and_then, position, ◌&&◌}
 use Rattle.std.specs.Prelude.{◌==◌}
 use Rattle.std.specs.List.{list_any}
 use Rattle.std.specs.Str.{bytes_eq}
@@ -55,11 +55,11 @@ at_refusal (Ok x) P p = tt
 at_refusal (Err e) P p = p
 
 -- the text of a number past 0
-pub front_at : (t : Table) (number : ℕ) (r : Row) → number ≢ 0 → number ≤ length t.rows.items → r ≡ get_or t.rows.items (number - 1) r → string_bytes r.name ≡ front (names_of t) number
+pub front_at : (t : Table) (number : ℕ) (r : Row) → number ≢ 0 → number ≤ length t.rows.items → r ≡ get_or t.rows.items (number - 1) r → r.name ≡ front (names_of t) number
 front_at t zero r ne l e = absurd (ne refl)
 front_at t (suc k) r ne l e =
     let p : suc k - 1 ≡ k = omega arith in
-    ap (λ z. string_bytes z.name) (e ∙ ap (λ z. get_or t.rows.items z r) p) ∙ sym (get_or-map (λ z. string_bytes z.name) t.rows.items k r [] (omega (arith, l)))
+    ap (λ z. z.name) (e ∙ ap (λ z. get_or t.rows.items z r) p) ∙ sym (get_or-map (λ z. z.name) t.rows.items k r [] (omega (arith, l)))
 
 same_word : (v w : List ℕ) → (v ≡ w) ⊎ (v ≢ w)
 same_word v w = elim (cases_Bool (bytes_eq v w)) [
@@ -76,7 +76,7 @@ none_above t ok above v past = go (word_place t.below.words.keys v)
   where
     apart : (w k : ℕ) (d : Below) → k < length t.below.rows.keys → is_below_number above w (get_or t.below.rows.keys k d) ≡ false
     apart w k d l = first_false (above == (get_or t.below.rows.keys k d).above) (w == (get_or t.below.rows.keys k d).word) (false_from_ne_true (above == (get_or t.below.rows.keys k d).above) (λ q.
-        let n = length-map t.rows.items (λ z. string_bytes z.name) in
+        let n = length-map t.rows.items (λ z. z.name) in
         let g = ok.forest.grown k (omega (arith, l, ok.sized, n)) in
         let e : (get_or t.below.rows.keys k d).above ≡ get_or (aboves_of t) k 0 = sym (get_or-map (λ (b : Below). b.above) t.below.rows.keys k d 0 l) ∙ ap (λ z. get_or z k 0) ok.keyed in
         omega (arith, eqb-true above (get_or t.below.rows.keys k d).above q, e, g.0, l, ok.sized, past)))
@@ -86,15 +86,15 @@ none_above t ok above v past = go (word_place t.below.words.keys v)
     go (Some w) = nowhere (is_below_number above w) t.below.rows.keys (apart w)
 
 pub table_added : (t t' : Table) (p : ℕ) (word : List ℕ) (r : Row) → IsTable t → p ≤ length t.rows.items → IsPlain word → look t p word ≡ None
-    → t'.rows.items ≡ t.rows.items ++ r ∷ [] → string_bytes r.name ≡ under (front (names_of t) p) word → r.above ≡ p
+    → t'.rows.items ≡ t.rows.items ++ r ∷ [] → r.name ≡ under (front (names_of t) p) word → r.above ≡ p
     → ((q : ℕ) (v : List ℕ) → look t' q v ≡ (if (p == q) && bytes_eq word v then Some (length t.below.rows.keys) else look t q v))
     → aboves_in t'.below ≡ aboves_in t.below ++ p ∷ [] → length t'.below.rows.keys ≡ length t.below.rows.keys + 1 → HasWords t'.below → r.more.items ≡ [] → IsTable t'
 table_added t t' p word r ok lp plain none rows name above here keyed long words none_more =
     let names : names_of t' ≡ names_of t ++ under (front (names_of t) p) word ∷ [] =
-    ap (map (λ z. string_bytes z.name)) rows ∙ map_append (λ z. string_bytes z.name) t.rows.items (r ∷ []) ∙ ap (λ z. names_of t ++ z ∷ []) name in
+    ap (map (λ z. z.name)) rows ∙ map_append (λ z. z.name) t.rows.items (r ∷ []) ∙ ap (λ z. names_of t ++ z ∷ []) name in
     let aboves : aboves_of t' ≡ aboves_of t ++ p ∷ [] =
     ap (map (λ z. z.above)) rows ∙ map_append (λ z. z.above) t.rows.items (r ∷ []) ∙ ap (λ z. aboves_of t ++ z ∷ []) above in
-    let ln : length (names_of t) ≡ length t.rows.items = length-map t.rows.items (λ z. string_bytes z.name) in
+    let ln : length (names_of t) ≡ length t.rows.items = length-map t.rows.items (λ z. z.name) in
     let la : length (aboves_of t) ≡ length t.rows.items = length-map t.rows.items (λ z. z.above) in
     let lr = length-append t.rows.items (r ∷ []) in
     let size = ok.sized in

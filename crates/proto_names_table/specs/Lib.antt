@@ -2,6 +2,7 @@ pub mod Common
 pub mod Filling
 pub mod Indexes
 pub mod LastWords
+pub mod NameTexts
 pub mod Naming
 pub mod Resolved
 pub mod Search

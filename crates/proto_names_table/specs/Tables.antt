@@ -1,5 +1,5 @@
 -- The table of names as the forest that it holds.
-use Rattle.std.specs.Prelude.{◌≡◌, ℕ, Bool, true, false, ◌&&◌, if◌then◌else◌, List, [], ◌∷◌, length, map, Option, string_bytes}
+use Rattle.std.specs.Prelude.{◌≡◌, ℕ, Bool, true, false, ◌&&◌, if◌then◌else◌, List, [], ◌∷◌, length, map, Option}
 use Rattle.std.specs.List.{All}
 use Rattle.proto_names_table.specs.Indexes.{aboves_in, AreSameKeys, HasWords, keys_in, look_in}
 use Rattle.proto_names_table.specs.declared.table.Row.{Row}
@@ -10,7 +10,7 @@ use Rattle.proto_names_rules.specs.Linked.{is_package}
 
 -- the texts of the full names of a table, row by row
 abbrev pub names_of : Table → List (List ℕ)
-names_of t = map (λ r. string_bytes r.name) t.rows.items
+names_of t = map (λ r. r.name) t.rows.items
 
 -- for each row, the number of the name right above it
 abbrev pub aboves_of : Table → List ℕ
@@ -48,7 +48,7 @@ pub record IsTable (t : Table) : Type 0 where
 -- what a contract sees of a row: its text, its first declaration, the number above it, its further
 -- files, and whether a file declares it
 abbrev pub row_of : Row → List ℕ × Declaration × ℕ × List ℕ × Bool
-row_of r = (string_bytes r.name, r.symbol, r.above, r.more.items, r.is_declared)
+row_of r = (r.name, r.symbol, r.above, r.more.items, r.is_declared)
 
 -- a row with this first declaration, which a file has or had
 abbrev pub with_declaration : Declaration → Bool → Row → Row

@@ -14,6 +14,7 @@ ghost use Rattle.proto_names_table.specs.Tables.{AreDeclared, IsTable, names_of}
 ghost use Rattle.proto_names_table.specs.declared.filling.NameError.TheVariants.{NoMemory};
 
 use crate::index::Index;
+use crate::packages::package_text;
 use crate::spelled::Spelled;
 use crate::table::{Symbol, Table};
 use indexmap::IndexSet;
@@ -75,24 +76,30 @@ pub fn declare_all(
     ensures fault { IfErr result (IsNameError
         (ClashFault (all_named 0 (map (λ v. v.items) files.now)))) }
 {
-    let table = empty_table(alloc);
+    let table = empty_table(alloc, files)?;
     let packages = declare_packages(alloc, table, files)?;
     let named = declare_others(alloc, packages.0, files, packages.1)?;
     Ok(named)
 }
 
-/// A table of no names. Takes no memory.
-fn empty_table(alloc: Global) -> Table
-    ensures table { IsTable result }
-    ensures empty { result.rows.items ≡ [] }
+/// A table of no names, with room for those of these files. Fails only when out of memory.
+fn empty_table(alloc: Global, files: &[Vec<Spelled>]) -> Result<Table, NameError>
+    ensures table { IfOk result IsTable }
+    ensures empty { IfOk result (λ table. table.rows.items ≡ []) }
+    ensures fault { IfErr result (λ e. e ≡ NoMemory) }
 {
-    Table {
-        rows: Vec::new(alloc),
+    let mut count: usize = 0;
+    for spelled in files {
+        count = count.saturating_add(spelled.len());
+    }
+    Ok(Table {
+        rows: Vec::with_capacity(alloc, count)?,
         below: Index {
             words: IndexSet::new(alloc),
-            rows: IndexSet::new(alloc),
+            rows: IndexSet::with_capacity(alloc, count)?,
         },
-    }
+        begun: None,
+    })
 }
 
 /// Declares the packages of each file in an empty table; answers it and their rows. They do not
@@ -119,14 +126,10 @@ fn declare_packages(
     for file in 0..files.len() {
         let spelled = &files[file];
         let own = Vec::with_capacity(alloc, spelled.len())?;
-        let filled = fill(
-            alloc,
-            names,
-            file as u32,
-            spelled,
-            package_count(spelled),
-            own,
-        )?;
+        let count = package_count(spelled);
+        let text = package_text(alloc, spelled, count)?;
+        names.begin_package(text);
+        let filled = fill(alloc, names, file as u32, spelled, count, own)?;
         names = filled.0;
         rows.push(filled.1)?;
     }

@@ -6,6 +6,8 @@ pub mod ids;
 pub mod index;
 pub mod last_words;
 pub mod laws;
+pub mod name;
+mod packages;
 pub mod spelled;
 pub mod table;
 

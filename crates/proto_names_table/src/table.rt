@@ -17,10 +17,12 @@ ghost use Rattle.proto_names_table.specs.Undone.{TakesRow};
 ghost use Rattle.proto_names_table.specs.Tables.{AreAlike, IsTable, IsUnchanged, with_declaration, names_of, look, row_of};
 
 use crate::index::Index;
+use crate::name::Name;
 use proto_base::NoMemory;
 use proto_names_rules::Kind;
 use proto_names_rules::marks::is_marked;
 use std::alloc::Global;
+use std::sync::ArcStr;
 
 /// What declares a name: its kind, its file and the token that it stands at.
 #[derive(Clone, Copy)]
@@ -37,7 +39,7 @@ pub struct Symbol {
 #[derive(Drop)]
 pub struct Row {
     /// The full name, its words joined by `.`.
-    pub name: String,
+    pub name: Name,
     /// Its first declaration.
     pub symbol: Symbol,
     /// The number of the name that this one stands right below.
@@ -76,11 +78,11 @@ impl Row {
         self.is_declared
     }
 
-    /// The same row, with texts and files of its own. Fails only when out of memory.
+    /// The same row, with files of its own. Fails only when out of memory.
     fn copy(&self, alloc: Global) -> Result<Row, NoMemory>
         ensures { IfOk result (λ row. row_of row ≡ row_of self.now) }
     {
-        let name = String::from_str(alloc, self.name.as_str())?;
+        let name = self.name.copy(alloc)?;
         let mut more = Vec::new(alloc);
         more.extend_from_slice(&self.more)?;
         Ok(Row {
@@ -125,6 +127,8 @@ pub struct Table {
     pub rows: Vec<Row>,
     /// The same rows by the number of the name above them and their last word.
     pub below: Index,
+    /// The text of the package that is declared, for its prefixes to share; none before the first.
+    pub(crate) begun: Option<ArcStr>,
 }
 
 impl Table {
@@ -381,13 +385,13 @@ impl Table {
         ensures table { OnOk result (IsTable self.new) }
         ensures rows { IfOk result (λ k. (k ≡ length self.old.rows.items) ×
             ((r : Row) × (self.new.rows.items ≡ self.old.rows.items ++ r ∷ []) ×
-            (string_bytes r.name ≡ under (front (names_of self.old) above) word.now)
+            (r.name ≡ under (front (names_of self.old) above) word.now)
             × (r.symbol ≡ symbol) × (r.more.items ≡ []) × (r.is_declared ≡ true))) }
         ensures front { OnOk result (IsFrontOf self.old.below self.new.below) }
         ensures change { IfOk result (TakesRow self.old self.new symbol) }
         ensures kept { OnErr result (IsUnchanged self.old self.new) }
     {
-        let name = full_name(alloc, self.text(above), word)?;
+        let name = self.new_name(alloc, above, word, symbol.kind)?;
         let index = self.rows.len();
         self.rows.reserve(1)?;
         self.below.add(alloc, above, word)?;
@@ -401,6 +405,64 @@ impl Table {
             })
             .unwrap();
         Ok(index)
+    }
+
+    /// The name of a word right below the name with this number; a package's in the text of the
+    /// name above it, or of the package that is declared, where that goes on with the word. Fails
+    /// only when out of memory.
+    fn new_name(
+        &self,
+        alloc: Global,
+        above: usize,
+        word: &str,
+        kind: Kind,
+    ) -> Result<Name, NoMemory>
+        requires { above ≤ length self.now.rows.items }
+        ensures { IfOk result (λ name. name ≡ under (front (names_of self.now) above) word.now) }
+    {
+        if kind.is_package() {
+            if let Some(name) = self.shared_name(above, word) {
+                return Ok(name);
+            }
+        }
+        let text = full_name(alloc, self.text(above), word)?;
+        Ok(Name::own(text))
+    }
+
+    /// The same name in a text that is there already; none where no such text is known. Takes no
+    /// memory.
+    fn shared_name(&self, above: usize, word: &str) -> Option<Name>
+        requires { above ≤ length self.now.rows.items }
+        ensures { IfSome result (λ name. name ≡ under (front (names_of self.now) above) word.now) }
+    {
+        if let Some(name) = self.name_behind(above, word) {
+            return Some(name);
+        }
+        match &self.begun {
+            Some(text) => Name::in_text(text, self.text(above), word),
+            None => None,
+        }
+    }
+
+    /// The same name in the text of the name above it; none where that does not go on with the
+    /// word. Takes no memory.
+    fn name_behind(&self, above: usize, word: &str) -> Option<Name>
+        requires { above ≤ length self.now.rows.items }
+        ensures { IfSome result (λ name. name ≡ under (front (names_of self.now) above) word.now) }
+    {
+        if above == 0 {
+            None
+        } else {
+            self.rows[above - 1].name.below(word)
+        }
+    }
+
+    /// Says which package is declared next, by its text, which its prefixes may share.
+    pub(crate) fn begin_package(&mut self, text: ArcStr)
+        ensures rows { self.new.rows ≡ self.old.rows }
+        ensures below { self.new.below ≡ self.old.below }
+    {
+        self.begun = Some(text);
     }
 
     /// Takes the declaration of a row that is no package's away; answers what it was. The row
@@ -473,7 +535,11 @@ impl Table {
     {
         let rows = copied_rows(alloc, &self.rows)?;
         let below = self.below.copy(alloc)?;
-        Ok(Table { rows, below })
+        Ok(Table {
+            rows,
+            below,
+            begun: None,
+        })
     }
 }
 

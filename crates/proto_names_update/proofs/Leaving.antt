@@ -1,5 +1,5 @@
 -- Rows that no file declares any more, and the symbols that are left.
-use Rattle.std.proofs.Common.{◌≡◌, ◌≢◌, ◌⊎◌, ℕ, ◌<◌, List, [], ◌∷◌, ◌++◌, length, get_or, refl, sym, ◌∙◌, ap, subst, inl, inr, arith, slice_set, string_bytes, Contains}
+use Rattle.std.proofs.Common.{◌≡◌, ◌≢◌, ◌⊎◌, ℕ, ◌<◌, List, [], ◌∷◌, ◌++◌, length, get_or, refl, sym, ◌∙◌, ap, subst, inl, inr, arith, slice_set, Contains}
 use Rattle.std.proofs.lemmas.List.{get_or-map, get_or_default, get_or-set_other, get_or-set_same, length-map, length-set}
 use Rattle.proto_base.proofs.Common.{Contains-append_cases, Contains-append_left, Contains-append_right, cases_eq, contains_cases, contains_head}
 use Rattle.proto_names_rules.specs.declared.kind.Kind.TheVariants.{Package}
@@ -96,9 +96,9 @@ module _ (t t' : Table) (rows : List ℕ) (gone : AreForgotten rows t t') (ok : 
   pub name_same : (k : ℕ) → k < length t.rows.items → get_or (names_of t') k [] ≡ get_or (names_of t) k []
   name_same k l =
       let d = pick t.rows.items k l in
-      let e : string_bytes (get_or t'.rows.items k d).name ≡ string_bytes (get_or t.rows.items k d).name =
-      elim (gone.each k d l) [ inl p ↦ ap (λ (z : Row). string_bytes z.name) p.1 | inr p ↦ ap (λ (z : Row). string_bytes z.name) p.1 ] in
-      get_or-map (λ (z : Row). string_bytes z.name) t'.rows.items k d [] (omega (arith, l, gone.size)) ∙ e ∙ sym (get_or-map (λ (z : Row). string_bytes z.name) t.rows.items k d [] l)
+      let e : (get_or t'.rows.items k d).name ≡ (get_or t.rows.items k d).name =
+      elim (gone.each k d l) [ inl p ↦ ap (λ (z : Row). z.name) p.1 | inr p ↦ ap (λ (z : Row). z.name) p.1 ] in
+      get_or-map (λ (z : Row). z.name) t'.rows.items k d [] (omega (arith, l, gone.size)) ∙ e ∙ sym (get_or-map (λ (z : Row). z.name) t.rows.items k d [] l)
 
   pub row_same : (k : ℕ) (d : Row) → k < length t.rows.items → (Goes rows t k → ⊥) → get_or t'.rows.items k d ≡ get_or t.rows.items k d
   row_same k d l stays = elim (gone.each k d l) [ inl p ↦ absurd (stays p.0) | inr p ↦ p.1 ]
@@ -106,7 +106,7 @@ module _ (t t' : Table) (rows : List ℕ) (gone : AreForgotten rows t t') (ok : 
   -- a row that goes has another name than one that stays
   apart : (k : ℕ) → k < length t.rows.items → (Goes rows t k → ⊥) → (j : ℕ) → Goes rows t j → get_or (names_of t) k [] ≡ get_or (names_of t) j [] → ⊥
   apart k l stays j g e =
-      let n = length-map t.rows.items (λ (r : Row). string_bytes r.name) in
+      let n = length-map t.rows.items (λ (r : Row). r.name) in
       let lj = within j g.listed in
       stays (subst (Goes rows t) (sym (names_apart (names_of t) (aboves_of t) (look t) ok.forest k j (omega (arith, l, n)) (omega (arith, lj, n)) e)) g)
 

@@ -1,5 +1,5 @@
 -- One declaration of a file again in the table.
-use Rattle.std.proofs.Common.{◌≡◌, ◌≢◌, ℕ, ◌+◌, ◌<◌, ◌≤◌, List, [], ◌∷◌, ◌++◌, length, get_or, map, take, Option, Some, None, Result, Ok, Err, IfOk, IfSome, IfNone, OnOk, OnErr, refl, sym, ◌∙◌, ap, subst, inl, inr, arith, append_assoc, string_bytes, Contains}
+use Rattle.std.proofs.Common.{◌≡◌, ◌≢◌, ℕ, ◌+◌, ◌<◌, ◌≤◌, List, [], ◌∷◌, ◌++◌, length, get_or, map, take, Option, Some, None, Result, Ok, Err, IfOk, IfSome, IfNone, OnOk, OnErr, refl, sym, ◌∙◌, ap, subst, inl, inr, arith, append_assoc, Contains}
 use Rattle.std.proofs.lemmas.List.{length-map, map-append, take_more}
 use Rattle.std.specs.Cow.{cow_str_bytes}
 use Rattle.proto_base.specs.declared.no_memory.NoMemory.{NoMemory}
@@ -71,7 +71,7 @@ packages_declared t text symbol (Some row) kind there = package_declared t text 
 same_row : (old new : Table) (above : ℕ) (word : List ℕ) (symbol : Declaration) (row : ℕ) → IsTable old → above ≤ length old.rows.items → IsPlain word
     → IsRowOf old new (under (front (names_of old) above) word) symbol row → row < length old.rows.items → look old above word ≡ Some row
 same_row old new above word symbol row ok within plain there l =
-    let n = length-map old.rows.items (λ r. string_bytes r.name) in
+    let n = length-map old.rows.items (λ r. r.name) in
     ok.forest.complete above word row (omega (arith, within, n)) plain (omega (arith, l, n)) (sym (there.kept.names row l) ∙ there.name)
 
 module _ (log : NameLog) (old new : Table) (above : ℕ) (word : List ℕ) (symbol : Declaration) (fits : Fits log old) (ok : IsTable old) (within : above ≤ length old.rows.items) (plain : IsPlain word) (ne : symbol.kind ≢ Package)

@@ -1,5 +1,5 @@
 -- The table of the names of files, once those of some were put in again in place of what they were.
-use Rattle.std.proofs.Common.{◌≡◌, ◌≢◌, ◌⊎◌, ℕ, suc, ◌+◌, ◌<◌, ◌≤◌, ◌==◌, ◌||◌, Bool, true, false, cond, not, List, [], ◌∷◌, ◌++◌, length, get_or, map, refl, sym, ◌∙◌, ap, ap₂, subst, inl, inr, arith, flat_map, filter, string_bytes, All, Contains}
+use Rattle.std.proofs.Common.{◌≡◌, ◌≢◌, ◌⊎◌, ℕ, suc, ◌+◌, ◌<◌, ◌≤◌, ◌==◌, ◌||◌, Bool, true, false, cond, not, List, [], ◌∷◌, ◌++◌, length, get_or, map, refl, sym, ◌∙◌, ap, ap₂, subst, inl, inr, arith, flat_map, filter, All, Contains}
 use Rattle.std.proofs.lemmas.List.Kept.{AllPairs-filter}
 use Rattle.proto_case.specs.Camel.{entry_name}
 use Rattle.proto_base.proofs.Common.{Contains-append_cases, Contains-append_left, Contains-append_right, cases_Bool, contains_filter, contains_map, from_filter, from_map, get_or-map, get_or_default, length-map, list_any, both_ways, not-true, not_from_false, or_cases, or_parts, or_right}
@@ -118,7 +118,7 @@ module _ (before : List FileOf) (was : List ReadOf) (were : AreRead before was) 
   plain x c = index.plain (symbol_named x) (contains_map symbol_named olds x c)
 
   named : length (names_of t) ≡ length t.rows.items
-  named = length-map t.rows.items (λ (r : Row). string_bytes r.name)
+  named = length-map t.rows.items (λ (r : Row). r.name)
 
   -- the row with the name of a declaration has its kind
   kind_of : (x : Named) → Contains olds x → (row : ℕ) → row < length t.rows.items → get_or (names_of t) row [] ≡ joined x.name → (d : Row) → (get_or t.rows.items row d).symbol.kind ≡ x.kind

@@ -1,5 +1,5 @@
 -- A log of what was changed of a table of names, and the table as it was when the log began.
-use Rattle.std.specs.Prelude.{◌≡◌, ℕ, ◌≤◌, List, length, map, slice_set, string_bytes, String, take}
+use Rattle.std.specs.Prelude.{◌≡◌, ℕ, ◌≤◌, List, length, map, slice_set, String, take}
 use Rattle.std.specs.declared.alloc.Global.{Global}
 use Rattle.proto_base.specs.Undone.{AreWithin, undone}
 use Rattle.proto_names_table.specs.declared.index.Below.{Below}
@@ -14,7 +14,7 @@ standing_of r = record { symbol = r.symbol; is_declared = r.is_declared }
 
 -- what a contract sees of a row beside that: its text, the number above it, and its further files
 abbrev pub rest_of : Row → List ℕ × ℕ × List ℕ
-rest_of r = (string_bytes r.name, r.above, r.more.items)
+rest_of r = (r.name, r.above, r.more.items)
 
 -- what a contract sees of a table
 pub record SeenTable : Type 0 where

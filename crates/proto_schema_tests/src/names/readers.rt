@@ -146,3 +146,20 @@ fn names_that_files_declare(rt: HostRuntime) {
         ],
     );
 }
+
+#[test]
+fn packages_that_begin_alike(rt: HostRuntime) {
+    expect_told(
+        &rt,
+        "a.proto package p.qu.r;|b.proto package p.q.r; message A {}|c.proto package p.q.s.t;",
+        &[
+            (Ask::DeclaredIn(0), "", "p,p.qu,p.qu.r"),
+            (Ask::DeclaredIn(1), "", "p,p.q,p.q.r,p.q.r.A"),
+            (Ask::DeclaredIn(2), "", "p,p.q,p.q.s,p.q.s.t"),
+            (Ask::Name, "p.qu", "p.qu package nowhere"),
+            (Ask::Name, "p.q", "p.q package nowhere"),
+            (Ask::Name, "p.q.s", "p.q.s package nowhere"),
+            (Ask::Name, "p.q.r.A", "p.q.r.A message b.proto:23"),
+        ],
+    );
+}

@@ -24,9 +24,9 @@ returns-in_err-own-clause-fault c =
     let l : file < length c.args.files.now = omega (arith, c.loop-file-test.true, c.len-file-end.ensures.len) in
     let exit = err_from_is_err_and c.from_residual.result c.from_residual.ensures.1 in
     rw (exit.1, exit.2) (λ reads are linked.
-    least_error c.args.files.now reads are c.args.table.now c.requires.table (linked file l).index file l c.in_err-own.field-0.0
+    least_error c.args.files.now reads are c.args.declarations.now.table c.requires.table (linked file l).index file l c.in_err-own.field-0.0
     (c.in_err-own.ensures.fault reads are
-    (linked_at c.args.table.now c.args.seen.now c.args.rows.now c.args.files.now reads linked file l c.requires.seen c.requires.paired c.index-seen-file.result c.index-seen-file.is c.index-rows-file.result c.index-rows-file.is c.deref.result.now c.deref.ensures.value c.deref-in-loop-file.result.now c.deref-in-loop-file.ensures.value))
+    (linked_at c.args.declarations.now.table c.args.seen.now c.args.declarations.now.rows.items c.args.files.now reads linked file l c.requires.seen c.requires.paired c.index-seen-file.result c.index-seen-file.is c.index.result.now c.index.ensures c.deref.result.now c.deref.ensures.value c.deref-in-loop-file.result.now c.deref-in-loop-file.ensures.value))
     (λ k m. (c.loop-file.invariant.meant reads are linked k m).faultless))
 
 pub loop-file-preserved : goal.loop-file-preserved
@@ -38,11 +38,11 @@ loop-file-preserved c =
     record {
       len = omega (arith, ap length items, length-append c.loop-file.meant.items (c.in_ok-own.own ∷ []), c.loop-file.invariant.len);
       meant = λ reads are linked k m.
-          (subst (λ z. AreFileMeant c.args.table.now c.args.files.now reads k (get_or z k [])) (sym lists)
-          (pushed (AreFileMeant c.args.table.now c.args.files.now reads) (map (λ v. v.items) c.loop-file.meant.items) c.in_ok-own.own.items file (length-map c.loop-file.meant.items (λ v. v.items) ∙ c.loop-file.invariant.len)
+          (subst (λ z. AreFileMeant c.args.declarations.now.table c.args.files.now reads k (get_or z k [])) (sym lists)
+          (pushed (AreFileMeant c.args.declarations.now.table c.args.files.now reads) (map (λ v. v.items) c.loop-file.meant.items) c.in_ok-own.own.items file (length-map c.loop-file.meant.items (λ v. v.items) ∙ c.loop-file.invariant.len)
           (c.loop-file.invariant.meant reads are linked)
           (c.in_ok-own.ensures.meant reads are
-          (linked_at c.args.table.now c.args.seen.now c.args.rows.now c.args.files.now reads linked file l c.requires.seen c.requires.paired c.index-seen-file.result c.index-seen-file.is c.index-rows-file.result c.index-rows-file.is c.deref.result.now c.deref.ensures.value c.deref-in-loop-file.result.now c.deref-in-loop-file.ensures.value))
+          (linked_at c.args.declarations.now.table c.args.seen.now c.args.declarations.now.rows.items c.args.files.now reads linked file l c.requires.seen c.requires.paired c.index-seen-file.result c.index-seen-file.is c.index.result.now c.index.ensures c.deref.result.now c.deref.ensures.value c.deref-in-loop-file.result.now c.deref-in-loop-file.ensures.value))
           k m));
     }
 
@@ -52,7 +52,7 @@ returns-clause-within c = λ linked k d l.
     let are = c.are_read.ensures.1 in
     let n : k < length c.args.files.now = omega (arith, l, c.loop-file.invariant.len, c.loop-file-test.false, c.len-file-end.ensures.len, c.loop-file.auto.file-end) in
     let a = c.loop-file.invariant.meant reads are (linked reads are) k (omega (arith, l, c.loop-file.invariant.len)) in
-    subst (λ (z : List Meant). (i : ℕ) (m : Meant) → i < length z → (get_or z i m).row < length c.args.table.now.rows.items) (get_or-map (λ v. v.items) c.loop-file.meant.items k d [] l) a.within)
+    subst (λ (z : List Meant). (i : ℕ) (m : Meant) → i < length z → (get_or z i m).row < length c.args.declarations.now.table.rows.items) (get_or-map (λ v. v.items) c.loop-file.meant.items k d [] l) a.within)
 
 pub returns-clause-clean : goal.returns-clause-clean
 returns-clause-clean c = λ reads are linked.

@@ -1,4 +1,4 @@
-use Rattle.std.proofs.Common.{◌∷◌, [], get_or, option_map, is_some, None, sym, ◌∙◌, ap, subst, arith, string_bytes}
+use Rattle.std.proofs.Common.{◌∷◌, [], get_or, option_map, is_some, None, sym, ◌∙◌, ap, subst, arith}
 use Rattle.proto_base.proofs.Common.{length-map, MatchOption-from_none, map-map}
 use Rattle.proto_text.specs.Texts.{word_at}
 use Rattle.proto_names_rules.specs.Joined.{IsPlain, ArePlain}
@@ -19,7 +19,7 @@ returns-in_err-top-in-Some-clause-meant c = λ w r index marks plain scope words
 
 pub visible_type-requires-clause-within : goal.visible_type-requires-clause-within
 visible_type-requires-clause-within c =
-    let n = length-map c.args.table.now.rows.items (λ r. string_bytes r.name) in
+    let n = length-map c.args.table.now.rows.items (λ r. r.name) in
     let s = c.requires.table.forest.sound 0 c.get-first.result.now c.in_ok-top-in-Some.top (omega arith) (sym c.find.ensures ∙ c.in_ok-top-in-Some.was) in
     omega (arith, s.0, n)
 

@@ -1,4 +1,4 @@
-use Rattle.std.proofs.Common.{length, refl, ap, string_bytes}
+use Rattle.std.proofs.Common.{length, refl, ap}
 use Rattle.std.proofs.lemmas.Option.{slice_get_read}
 use Rattle.proto_names_table.specs.Tables.{row_of}
 use Rattle.proto_names_table.proofs.Tables.{at_refusal, map_set_same}
@@ -23,4 +23,4 @@ returns-in_err-push-clause-kept c =
     at_refusal c.from_residual.result _
     (map_set_same row_of c.args.rows.now.items c.args.row old (record { name = old.name; symbol = old.symbol; above = old.above; more = c.push.new.self; is_declared = old.is_declared })
     (slice_get_read c.args.rows.now.items (length c.args.rows.now.items) c.args.row old refl c.requires c.index_mut-row.ensures.value)
-    (ap (λ z. (string_bytes old.name, old.symbol, old.above, z, old.is_declared)) c.in_err-push.ensures.items))
+    (ap (λ z. (old.name, old.symbol, old.above, z, old.is_declared)) c.in_err-push.ensures.items))

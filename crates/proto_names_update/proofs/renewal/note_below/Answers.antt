@@ -1,4 +1,4 @@
-use Rattle.std.proofs.Common.{◌≡◌, ℕ, Some, None, sym, ◌∙◌, subst, arith, string_bytes}
+use Rattle.std.proofs.Common.{◌≡◌, ℕ, Some, None, sym, ◌∙◌, subst, arith}
 use Rattle.proto_base.proofs.Common.{length-map, on_ok_weaker, same_Some}
 use Rattle.proto_names_table.specs.Tables.{look}
 use Rattle.proto_names_update.specs.NameLogs.{IsNoted}
@@ -9,7 +9,7 @@ differ row e = cc
 
 pub note-requires-clause-within : goal.note-requires-clause-within
 note-requires-clause-within c =
-    let n = length-map c.args.table.now.rows.items (λ r. string_bytes r.name) in
+    let n = length-map c.args.table.now.rows.items (λ r. r.name) in
     let s = c.requires.table.forest.sound c.args.above c.args.word.now c.in-Some.row (omega (arith, c.requires.within, n)) (sym c.in-Some.ensures) in
     omega (arith, s.0, n)
 

@@ -1,4 +1,4 @@
-use Rattle.std.proofs.Common.{◌≡◌, ◌<◌, Bool, true, false, List, length, map, refl, sym, ◌∙◌, ap, subst, arith, inl, inr, All, AllPairs, IfSome}
+use Rattle.std.proofs.Common.{◌≡◌, ◌<◌, Bool, true, false, List, length, map, refl, sym, ◌∙◌, ap, subst, inl, inr, All, AllPairs, IfSome}
 use Rattle.proto_base.proofs.Common.{Vec, both_ways}
 use Rattle.proto_base.specs.declared.fault.SchemaFault.{SchemaFault}
 use Rattle.proto_base.specs.declared.fault.SchemaFault.TheVariants.{NoMemory}
@@ -10,7 +10,7 @@ use Rattle.proto_names_imports.specs.LinkErrors.{IsLinkError}
 use Rattle.proto_names.specs.Common.{Meant}
 use Rattle.proto_names.specs.Following.{HaveToLook, TellWhatToLook}
 use Rattle.proto_names.specs.LinkOfFiles.{IsLinkOf}
-use Rattle.proto_names.specs.Renewal.{link_of_parts}
+use Rattle.proto_names.specs.LinkOfParts.{link_of}
 use Rattle.proto_names_update.specs.Relinked.{IsCleanLink, WasLink}
 use Rattle.proto_names.proofs.WaysBack.{lists_rise, meant_back, names_unchanged, references_back, rows_back, size_unchanged, table_back}
 use Rattle.proto_names.proofs.link.Link.renew.Goals.{in-Ok-Some+in-Err-follow, in-Ok-None, in-Err}
@@ -19,39 +19,38 @@ use Rattle.proto_names.proofs.link.Link.renew.Goals as goal
 pub invariant_of-self : goal.invariant_of-self
 invariant_of-self g c =
     let is = c.in-Ok-Some.field-0-is in
-    let last = c.renew_parts-renewed.new in
+    let last = c.update-updated.new.self in
     let read = subst (λ o. IfSome o (λ (marks : Vec Bool). (reads : List ReadOf) × AreRead c.args.files.now reads)) is c.in-Ok-Some.ensures.read in
-    let paired = subst (λ o. IfSome o (λ (marks : Vec Bool). length last.references.items ≡ length last.table.rows.items)) is c.in-Ok-Some.ensures.paired in
-    let link = subst (λ o. IfSome o (λ (marks : Vec Bool). IsLinkOf c.args.files.now (link_of_parts last.table last.imports.items last.rows.items last.seen.items last.meant.items last.references.items))) is c.in-Ok-Some.ensures.link in (
-      c.renew_parts-renewed.ensures.table,
+    let paired = subst (λ o. IfSome o (λ (marks : Vec Bool). length last.resolutions.references.items ≡ length last.declarations.table.rows.items)) is c.in-Ok-Some.ensures.paired in
+    let link = subst (λ o. IfSome o (λ (marks : Vec Bool). IsLinkOf c.args.files.now (link_of last))) is c.in-Ok-Some.ensures.link in (
+      c.update-updated.ensures.table,
       paired,
-      lists_rise c.args.files.now read.0 _ read.1 link last.meant.items (λ i. map (λ v. v.items) last.meant.items),
+      lists_rise c.args.files.now read.0 _ read.1 link last.resolutions.meant.items (λ i. map (λ v. v.items) last.resolutions.meant.items),
     )
 
 pub invariant_of-self-in-Ok : goal.invariant_of-self-in-Ok
 invariant_of-self-in-Ok g c =
     let is = c.in-Ok-Some.field-0-is in
-    let last = c.renew_parts-renewed.new in
+    let last = c.update-updated.new.self in
     let read = subst (λ o. IfSome o (λ (marks : Vec Bool). (reads : List ReadOf) × AreRead c.args.files.now reads)) is c.in-Ok-Some.ensures.read in
-    let paired = subst (λ o. IfSome o (λ (marks : Vec Bool). length last.references.items ≡ length last.table.rows.items)) is c.in-Ok-Some.ensures.paired in
-    let link = subst (λ o. IfSome o (λ (marks : Vec Bool). IsLinkOf c.args.files.now (link_of_parts last.table last.imports.items last.rows.items last.seen.items last.meant.items last.references.items))) is c.in-Ok-Some.ensures.link in (
-      c.renew_parts-renewed.ensures.table,
+    let paired = subst (λ o. IfSome o (λ (marks : Vec Bool). length last.resolutions.references.items ≡ length last.declarations.table.rows.items)) is c.in-Ok-Some.ensures.paired in
+    let link = subst (λ o. IfSome o (λ (marks : Vec Bool). IsLinkOf c.args.files.now (link_of last))) is c.in-Ok-Some.ensures.link in (
+      c.update-updated.ensures.table,
       paired,
-      lists_rise c.args.files.now read.0 _ read.1 link last.meant.items (λ i. map (λ v. v.items) last.meant.items),
+      lists_rise c.args.files.now read.0 _ read.1 link last.resolutions.meant.items (λ i. map (λ v. v.items) last.resolutions.meant.items),
     )
 
-pub renew_parts-renewed-requires-clause-link : goal.renew_parts-renewed-requires-clause-link
-renew_parts-renewed-requires-clause-link g c =
+pub update-updated-requires-clause-link : goal.update-updated-requires-clause-link
+update-updated-requires-clause-link g c =
     let were = c.requires.were in
     subst (WasLink IsLinkOf c.args.files.now c.args.places.now) (sym c.self.view_is) (were.before, were.link, were.same)
 
 pub follow-requires-clause-was : goal.follow-requires-clause-was
 follow-requires-clause-was g c =
     let were = c.requires.were in
-    let was = c.self.inside in
     let files = c.args.files.now in
     let places = c.args.places.now in
-    let tell = subst (λ o. IfSome o (λ (marks : Vec Bool). TellWhatToLook places files (link_of_parts was.table was.imports.items was.rows.items was.seen.items was.meant.items was.references.items) marks.items)) c.in-Ok-Some.field-0-is c.in-Ok-Some.ensures.told in
+    let tell = subst (λ o. IfSome o (λ (marks : Vec Bool). TellWhatToLook places files (link_of c.self.inside.parts) marks.items)) c.in-Ok-Some.field-0-is c.in-Ok-Some.ensures.told in
     record {
       before = were.before;
       clean = were.link.clean;
@@ -64,37 +63,37 @@ follow-requires-clause-was g c =
 
 pub invariant_of-self-2 : goal.invariant_of-self-2
 invariant_of-self-2 g c =
-    let log = c.new-log.result in
-    let last = c.renew_parts-renewed.new in
-    let was = c.self.inside in
     let none = c.new-log.ensures in
-    let count : log.count ≡ length was.references.items = omega (arith, none.count, c.len-count.ensures, was.references.ok.0) in
-    let same = c.renew_parts-renewed.ensures.undone in
-    let table = table_back log last.log was.table last.table was.rows.items last.rows.items was.meant.items last.meant.items was.references.items last.references.items same none.rows none.meant none.references count none.names in
-    let meant = c.take_back.ensures.meant ∙ meant_back log last.log was.table last.table was.rows.items last.rows.items was.meant.items last.meant.items was.references.items last.references.items same none.rows none.meant none.references count in
-    let references = c.take_back.ensures.references ∙ references_back log last.log was.table last.table was.rows.items last.rows.items was.meant.items last.meant.items was.references.items last.references.items same none.rows none.meant none.references count in (
-      c.take_back.ensures.table was.table table c.self.invariant.0,
-      ap length references ∙ c.self.invariant.1 ∙ sym (size_unchanged was.table c.take_back.new.table (c.take_back.ensures.unchanged was.table table)),
+    let was = c.self.inside.parts in
+    let log = c.new-log.result.names in
+    let last = c.update-updated.new.log.names in
+    let now = c.update-updated.new.self in
+    let table = table_back log.declarations last.declarations was.declarations now.declarations c.update-updated.ensures.undeclared none.table in
+    let meant = c.roll_back.ensures.meant ∙ meant_back log.resolutions last.resolutions was.resolutions now.resolutions c.update-updated.ensures.unresolved none.meant in
+    let references = c.roll_back.ensures.references ∙ references_back log.resolutions last.resolutions was.resolutions now.resolutions c.update-updated.ensures.unresolved none.references none.count in (
+      c.roll_back.ensures.table was.declarations.table table c.self.invariant.0,
+      ap length references ∙ c.self.invariant.1 ∙ sym (size_unchanged was.declarations.table c.roll_back.new.self.declarations.table (c.roll_back.ensures.unchanged was.declarations.table table)),
       subst (All (λ (v : Vec Meant). AllPairs (λ m n. m.token < n.token) v.items)) (sym meant) c.self.invariant.2,
     )
 
 pub returns-clause-kept : goal.returns-clause-kept
 returns-clause-kept g c = λ other.
-    (let log = c.new-log.result in
-    let last = c.renew_parts-renewed.new in
-    let was = c.self.inside in
-    let none = c.new-log.ensures in
-    let count : log.count ≡ length was.references.items = omega (arith, none.count, c.len-count.ensures, was.references.ok.0) in
-    let same = c.renew_parts-renewed.ensures.undone in
-    let table = table_back log last.log was.table last.table was.rows.items last.rows.items was.meant.items last.meant.items was.references.items last.references.items same none.rows none.meant none.references count none.names in
-    let imports = ap (map (λ v. v.items)) (c.take_back.ensures.imports ∙ c.renew_parts-renewed.ensures.imports) in
-    let seen = ap (map (λ v. v.items)) (c.take_back.ensures.seen ∙ c.renew_parts-renewed.ensures.seen) in
-    let rows = ap (map (λ v. v.items)) (c.take_back.ensures.rows ∙ rows_back log last.log was.table last.table was.rows.items last.rows.items was.meant.items last.meant.items was.references.items last.references.items same none.rows none.meant none.references count) in
-    let meant = ap (map (λ v. v.items)) (c.take_back.ensures.meant ∙ meant_back log last.log was.table last.table was.rows.items last.rows.items was.meant.items last.meant.items was.references.items last.references.items same none.rows none.meant none.references count) in
-    let references = ap (map (λ v. v.items)) (c.take_back.ensures.references ∙ references_back log last.log was.table last.table was.rows.items last.rows.items was.meant.items last.meant.items was.references.items last.references.items same none.rows none.meant none.references count) in
-    let names = names_unchanged was.table c.take_back.new.table (c.take_back.ensures.unchanged was.table table) in (
+    (let none = c.new-log.ensures in
+    let was = c.self.inside.parts in
+    let log = c.new-log.result.names in
+    let last = c.update-updated.new.log.names in
+    let now = c.update-updated.new.self in
+    let undeclared = c.update-updated.ensures.undeclared in
+    let unresolved = c.update-updated.ensures.unresolved in
+    let table = table_back log.declarations last.declarations was.declarations now.declarations undeclared none.table in
+    let imports = ap (map (λ v. v.items)) (c.roll_back.ensures.imports ∙ c.update-updated.ensures.imports) in
+    let seen = ap (map (λ v. v.items)) (c.roll_back.ensures.seen ∙ c.update-updated.ensures.seen) in
+    let rows = ap (map (λ v. v.items)) (c.roll_back.ensures.rows ∙ rows_back log.declarations last.declarations was.declarations now.declarations undeclared none.rows) in
+    let meant = ap (map (λ v. v.items)) (c.roll_back.ensures.meant ∙ meant_back log.resolutions last.resolutions was.resolutions now.resolutions unresolved none.meant) in
+    let references = ap (map (λ v. v.items)) (c.roll_back.ensures.references ∙ references_back log.resolutions last.resolutions was.resolutions now.resolutions unresolved none.references none.count) in
+    let names = names_unchanged was.declarations.table c.roll_back.new.self.declarations.table (c.roll_back.ensures.unchanged was.declarations.table table) in (
       (λ i. record { names = names i; imports = imports i; rows = rows i; seen = seen i; meant = meant i; references = references i }) ∙ c.self.view_is,
-      elim c.match-renewed.branch [
+      elim c.match-updated.branch [
         | in-Ok-Some+in-Err-follow w ↦ w.made-is ∙ w.in-Err-follow.ensures.kept
         | in-Ok-None w ↦ w.made-is
         | in-Err w ↦ w.made-is
@@ -114,7 +113,7 @@ is_refused Rebuild = false
 
 pub returns-clause-refused : goal.returns-clause-refused
 returns-clause-refused g c = λ fault is.
-    elim c.match-renewed.branch [
+    elim c.match-updated.branch [
       | in-Ok-Some+in-Err-follow w ↦
           let same : w.in-Err-follow.fault ≡ fault = ap (fault_of fault) (sym w.answer-is ∙ is) in
           inr (subst (λ o. IfSome o (λ (marks : Vec Bool). HasNoFault (LinkFaults c.args.files.now))) w.in-Ok-Some.field-0-is w.in-Ok-Some.ensures.clean, subst (g.M.Derived.IsRefused c.args.files.now) same w.in-Err-follow.ensures.fault)

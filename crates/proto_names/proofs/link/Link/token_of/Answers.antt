@@ -3,9 +3,9 @@ use Rattle.proto_names.proofs.Linking.{own_known}
 use Rattle.proto_names.proofs.link.Link.token_of.Goals as goal
 
 pub returns : goal.returns
-returns c = own_known c.self.inside.table.rows.items c.args.self.now.names (ap (λ l. l.names) c.self.view_is) c.deref.result.now c.deref.ensures.value c.args.id.row (λ n. n.token) (Some c.in_ok-row.row.now) c.in_ok-row.ensures.exact
+returns c = own_known c.self.inside.parts.declarations.table.rows.items c.args.self.now.names (ap (λ l. l.names) c.self.view_is) c.deref.result.now c.deref.ensures.value c.args.id.row (λ n. n.token) (Some c.in_ok-row.row.now) c.in_ok-row.ensures.exact
 
 pub returns-in_err-row : goal.returns-in_err-row
 returns-in_err-row c =
     c.from_residual.ensures
-    ∙ own_known c.self.inside.table.rows.items c.args.self.now.names (ap (λ l. l.names) c.self.view_is) c.deref.result.now c.deref.ensures.value c.args.id.row (λ n. n.token) None c.in_err-row.ensures.exact
+    ∙ own_known c.self.inside.parts.declarations.table.rows.items c.args.self.now.names (ap (λ l. l.names) c.self.view_is) c.deref.result.now c.deref.ensures.value c.args.id.row (λ n. n.token) None c.in_err-row.ensures.exact

@@ -1,4 +1,4 @@
-use Rattle.std.proofs.Common.{[], get_or, map, option_map, None, sym, ◌∙◌, ap, subst, arith, string_bytes}
+use Rattle.std.proofs.Common.{[], get_or, map, option_map, None, sym, ◌∙◌, ap, subst, arith}
 use Rattle.std.proofs.lemmas.List.{length-map}
 use Rattle.proto_names_table.specs.Common.{IsTypeAt, under_all, names_of}
 use Rattle.proto_names_table.proofs.Resolved.{absolute_is, absolute_none}
@@ -12,7 +12,7 @@ returns-in_err-start c = λ w r index marks words abs. (
 
 pub visible_type-requires-clause-within : goal.visible_type-requires-clause-within
 visible_type-requires-clause-within c =
-    let n = length-map c.args.self.now.rows.items (λ r. string_bytes r.name) in
+    let n = length-map c.args.self.now.rows.items (λ r. r.name) in
     let s = c.requires.table.forest.sound 0 c.args.first.now c.in_ok-start.start (omega arith) (sym c.find.ensures ∙ c.in_ok-start.was) in
     omega (arith, s.0, n)
 

@@ -1,6 +1,5 @@
 use Rattle.std.proofs.Common.{◌≡◌, [], ◌∷◌, ◌++◌, refl, ◌∙◌, ap, if◌then◌else◌, is_ok, true}
 use Rattle.proto_names_table.specs.declared.table.Row.{Row}
-use Rattle.proto_names_rules.specs.Forest.{under}
 use Rattle.proto_names_table.specs.Undone.{new_row}
 use Rattle.proto_names_table.proofs.Tables.{table_added}
 use Rattle.proto_names_table.proofs.table.Table.add.Goals as goal
@@ -15,14 +14,14 @@ rows c =
 
 pub returns-clause-table : goal.returns-clause-table
 returns-clause-table c =
-    table_added c.args.self.now (record { rows = c.push.new.self; below = c.add.new.self }) c.args.above c.args.word.now (row c) c.requires.table c.requires.within c.requires.plain c.requires.new
-    (rows c) (c.in_ok-name.ensures ∙ ap (λ z. under z c.args.word.now) c.text.ensures) refl
+    table_added c.args.self.now (record { rows = c.push.new.self; below = c.add.new.self; begun = c.args.self.now.begun }) c.args.above c.args.word.now (row c) c.requires.table c.requires.within c.requires.plain c.requires.new
+    (rows c) c.in_ok-name.ensures refl
     c.in_ok-add.ensures.look c.in_ok-add.ensures.aboves c.in_ok-add.ensures.len c.add.ensures.words c.new.ensures.items
 
 pub returns-clause-rows : goal.returns-clause-rows
 returns-clause-rows c = (
   c.len-index.ensures ∙ c.args.self.now.rows.ok.0,
-  (row c, rows c, c.in_ok-name.ensures ∙ ap (λ z. under z c.args.word.now) c.text.ensures, refl, c.new.ensures.items, refl),
+  (row c, rows c, c.in_ok-name.ensures, refl, c.new.ensures.items, refl),
 )
 
 pub returns-clause-front : goal.returns-clause-front

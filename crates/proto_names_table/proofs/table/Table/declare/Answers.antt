@@ -1,4 +1,4 @@
-use Rattle.std.proofs.Common.{sym, subst, arith, string_bytes, IfNone, IfOk, IfSome}
+use Rattle.std.proofs.Common.{sym, subst, arith, IfNone, IfOk, IfSome}
 use Rattle.proto_base.proofs.Common.{length-map, IfOk-from_err}
 use Rattle.proto_names_rules.proofs.Common.{under, front}
 use Rattle.proto_names_table.specs.Common.{SymbolIsDeclared, IsRowOf, IsTaken, names_of}
@@ -20,7 +20,7 @@ returns-in_ok-row-in-None-clause-row c =
 
 pub declare_again-requires-clause-within : goal.declare_again-requires-clause-within
 declare_again-requires-clause-within c =
-    let n = length-map c.args.self.now.rows.items (λ r. string_bytes r.name) in
+    let n = length-map c.args.self.now.rows.items (λ r. r.name) in
     let s = c.requires.table.forest.sound c.args.above c.args.word.now c.in-Some.row (omega (arith, c.requires.within, n)) (sym c.in-Some.ensures) in
     omega (arith, s.0, n)
 
@@ -43,18 +43,18 @@ returns-in_err-row-in-None c =
 
 pub returns-in-Some-clause-index : goal.returns-in-Some-clause-index
 returns-in-Some-clause-index c =
-    let n = length-map c.args.self.now.rows.items (λ r. string_bytes r.name) in
+    let n = length-map c.args.self.now.rows.items (λ r. r.name) in
     let s = c.requires.table.forest.sound c.args.above c.args.word.now c.in-Some.row (omega (arith, c.requires.within, n)) (sym c.in-Some.ensures) in
     subst (λ z. IfOk c.declare_again.result (λ o. IfSome o (λ _. SymbolIsDeclared c.args.self.now c.declare_again.new.self z c.args.symbol))) s.1 c.declare_again.ensures.index
 
 pub returns-in-Some-clause-row : goal.returns-in-Some-clause-row
 returns-in-Some-clause-row c =
-    let n = length-map c.args.self.now.rows.items (λ r. string_bytes r.name) in
+    let n = length-map c.args.self.now.rows.items (λ r. r.name) in
     let s = c.requires.table.forest.sound c.args.above c.args.word.now c.in-Some.row (omega (arith, c.requires.within, n)) (sym c.in-Some.ensures) in
     subst (λ z. IfOk c.declare_again.result (λ o. IfSome o (IsRowOf c.args.self.now c.declare_again.new.self z c.args.symbol))) s.1 c.declare_again.ensures.row
 
 pub returns-in-Some-clause-clash : goal.returns-in-Some-clause-clash
 returns-in-Some-clause-clash c =
-    let n = length-map c.args.self.now.rows.items (λ r. string_bytes r.name) in
+    let n = length-map c.args.self.now.rows.items (λ r. r.name) in
     let s = c.requires.table.forest.sound c.args.above c.args.word.now c.in-Some.row (omega (arith, c.requires.within, n)) (sym c.in-Some.ensures) in
     subst (λ z. IfOk c.declare_again.result (λ o. IfNone o (IsTaken c.args.self.now z c.args.symbol))) s.1 c.declare_again.ensures.clash

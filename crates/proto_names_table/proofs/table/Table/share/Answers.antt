@@ -23,7 +23,7 @@ returns-in_ok-add_file-clause-table c =
     let same : c.index.result.now ≡ f.0 = c.index.ensures ∙ get_or_default c.args.self.now.rows.items c.args.row c.index.result.now f.0 c.requires.within ∙ sym f.2 in
     let alive : f.1.is_declared ≡ true = f.8 ∙ ap (λ (z : Row). z.is_declared) f.2 ∙ c.requires.declared f.0 in
     let shared : f.1.symbol.kind ≡ Package = ap (λ z. z.kind) f.5 ∙ ap (λ (z : Row). z.symbol.kind) (sym same) ∙ two in
-    table_same c.args.self.now (record { rows = c.add_file.new.rows; below = c.args.self.now.below }) c.args.row f.0 f.1 c.requires.within f.2 f.3 refl f.4 f.6
+    table_same c.args.self.now (record { rows = c.add_file.new.rows; below = c.args.self.now.below; begun = c.args.self.now.begun }) c.args.row f.0 f.1 c.requires.within f.2 f.3 refl f.4 f.6
     (λ h. absurd (both_ways (is_shared_row f.1) h (both_true f.1.is_declared (is_package f.1.symbol.kind) alive (ap is_package shared)))) c.requires.table
 
 pub returns-in_ok-add_file-clause-index : goal.returns-in_ok-add_file-clause-index
@@ -33,7 +33,7 @@ returns-in_ok-add_file-clause-index c =
     let two = package_from c.index.result.now.symbol.kind (sym c.is_package-then-is_package.ensures ∙ c.if-is_package-2.true) in
     let same : c.index.result.now ≡ f.0 = c.index.ensures ∙ get_or_default c.args.self.now.rows.items c.args.row c.index.result.now f.0 c.requires.within ∙ sym f.2 in
     let was : f.0.is_declared ≡ true = ap (λ (z : Row). z.is_declared) f.2 ∙ c.requires.declared f.0 in
-    declared_again c.args.self.now (record { rows = c.add_file.new.rows; below = c.args.self.now.below }) c.args.row f.0 f.1 c.args.symbol.file c.requires.within f.2 f.3 refl f.4 f.5 f.6 f.7 was (f.8 ∙ was)
+    declared_again c.args.self.now (record { rows = c.add_file.new.rows; below = c.args.self.now.below; begun = c.args.self.now.begun }) c.args.row f.0 f.1 c.args.symbol.file c.requires.within f.2 f.3 refl f.4 f.5 f.6 f.7 was (f.8 ∙ was)
     (get_or (names_of c.args.self.now) c.args.row []) c.args.symbol refl (one ∙ sym two ∙ ap (λ (z : Row). z.symbol.kind) same) refl
 
 pub returns-in_ok-add_file-clause-row : goal.returns-in_ok-add_file-clause-row
@@ -43,7 +43,7 @@ returns-in_ok-add_file-clause-row c =
     let two = package_from c.index.result.now.symbol.kind (sym c.is_package-then-is_package.ensures ∙ c.if-is_package-2.true) in
     let same : c.index.result.now ≡ f.0 = c.index.ensures ∙ get_or_default c.args.self.now.rows.items c.args.row c.index.result.now f.0 c.requires.within ∙ sym f.2 in
     let was : f.0.is_declared ≡ true = ap (λ (z : Row). z.is_declared) f.2 ∙ c.requires.declared f.0 in
-    row_again c.args.self.now (record { rows = c.add_file.new.rows; below = c.args.self.now.below }) c.args.row f.0 f.1 (get_or (names_of c.args.self.now) c.args.row []) c.args.symbol
+    row_again c.args.self.now (record { rows = c.add_file.new.rows; below = c.args.self.now.below; begun = c.args.self.now.begun }) c.args.row f.0 f.1 (get_or (names_of c.args.self.now) c.args.row []) c.args.symbol
     c.requires.within f.2 f.3 f.4 f.5 was (f.8 ∙ was) refl one (ap (λ (z : Row). z.symbol.kind) (sym same) ∙ two)
 
 pub returns-in_ok-add_file-clause-change : goal.returns-in_ok-add_file-clause-change

@@ -1,6 +1,6 @@
 use Rattle.std.proofs.Common.{◌<◌, length, All}
 use Rattle.proto_names.proofs.OtherMarks.{FirstStay}
-use Rattle.proto_names.proofs.renewed_imports.other_marks.Given as goal
+use Rattle.proto_names.proofs.updated_imports.other_marks.Given as goal
 
 abbrev pub invariant-loop-file : goal.invariant-loop-file
 invariant-loop-file l = record {

@@ -4,15 +4,15 @@ use Rattle.proto_names_rules.specs.Marked.{IsUnmarked}
 use Rattle.proto_base.specs.Undone.{AreWithin, undone}
 use Rattle.proto_names.specs.FileReferences.{AreFileMeant}
 use Rattle.proto_names.specs.Renewal.{AreMeantBelow, AreOfMarked}
-use Rattle.proto_names.proofs.renewal.resolve_again.Given as goal
+use Rattle.proto_names.proofs.updating.resolve_again.Given as goal
 
 abbrev pub invariant-loop-file : goal.invariant-loop-file
 invariant-loop-file l = record {
   undone : undone l.log.items l.meant.items ≡ undone l.fn.log.items l.fn.meant.items;
   within : AreWithin (length l.fn.meant.items) l.fn.log.items → AreWithin (length l.fn.meant.items) l.log.items;
   len : length l.meant.items ≡ length l.fn.meant.items;
-  below : AreMeantBelow (length l.table.rows.items) l.fn.log.items l.fn.meant.items → AreMeantBelow (length l.table.rows.items) l.log.items l.meant.items;
+  below : AreMeantBelow (length l.resolver.declarations.now.table.rows.items) l.fn.log.items l.fn.meant.items → AreMeantBelow (length l.resolver.declarations.now.table.rows.items) l.log.items l.meant.items;
   marked : AreOfMarked l.marks l.fn.log.items → AreOfMarked l.marks l.log.items;
-  meant : (reads : List ReadOf) → AreRead l.edited.files.now reads → (k : ℕ) → k < l.file → get_or l.marks k false ≡ true → AreFileMeant l.table l.edited.files.now reads k (get_or (map (λ v. v.items) l.meant.items) k []);
+  meant : (reads : List ReadOf) → AreRead l.resolver.files.now reads → (k : ℕ) → k < l.file → get_or l.marks k false ≡ true → AreFileMeant l.resolver.declarations.now.table l.resolver.files.now reads k (get_or (map (λ v. v.items) l.meant.items) k []);
   others : (k : ℕ) → IsUnmarked l.marks k → get_or (map (λ v. v.items) l.meant.items) k [] ≡ get_or (map (λ v. v.items) l.fn.meant.items) k [];
 }

@@ -1,8 +1,8 @@
 use Rattle.std.proofs.Common.{◌≡◌, ◌+◌, ◌<◌, Bool, ℕ, [], length, get_or, map, sym, ◌∙◌, ap, subst, arith, All}
 use Rattle.proto_base.proofs.Common.{All-push, Vec, get_or-map}
 use Rattle.proto_names.proofs.OtherMarks.{FirstStay, all_stay, one_same, one_told, same_marks}
-use Rattle.proto_names.proofs.renewed_imports.other_marks.Goals.{then-ne+in_ok-push, else-ne}
-use Rattle.proto_names.proofs.renewed_imports.other_marks.Goals as goal
+use Rattle.proto_names.proofs.updated_imports.other_marks.Goals.{then-ne+in_ok-push, else-ne}
+use Rattle.proto_names.proofs.updated_imports.other_marks.Goals as goal
 
 pub loop-file-preserved : goal.loop-file-preserved
 loop-file-preserved c =

@@ -1,0 +1,65 @@
+use Rattle.std.proofs.Common.{◌<◌, ℕ, List, length, map, sym, ◌∙◌, ap, subst, arith, All}
+use Rattle.proto_base.proofs.Common.{Vec}
+use Rattle.proto_names_affected.specs.ChangedFiles.{outer_rows_of}
+use Rattle.proto_names_affected.specs.Sight.{IsSightMarked}
+use Rattle.proto_names_affected.specs.declared.outer_rows.KindRow.{KindRow}
+use Rattle.proto_names.proofs.MarksMore.{marks_of_lists}
+use Rattle.proto_names.proofs.OuterRows.{outer_count, outer_within}
+use Rattle.proto_names.specs.Common.{Meant, RefId}
+use Rattle.proto_names.proofs.updating.affected_files.Goals as goal
+
+pub outer_rows_at-requires : goal.outer_rows_at-requires
+outer_rows_at-requires c = λ k d l. omega (arith, c.requires.places k d l, c.requires.rows, ap length c.deref.ensures.value)
+
+pub marks_of_changes-requires-clause-places : goal.marks_of_changes-requires-clause-places
+marks_of_changes-requires-clause-places c = λ k d l. omega (arith, c.requires.places k d l, c.requires.meant, ap length c.deref-3.ensures.value)
+
+pub marks_of_changes-requires-clause-now : goal.marks_of_changes-requires-clause-now
+marks_of_changes-requires-clause-now c =
+    let t = c.args.declarations.now.table in
+    let places = c.args.edited.places.now in
+    ap length c.deref-4.ensures.value ∙ outer_count t (map (λ v. v.items) c.args.declarations.now.rows.items) places c.in_ok-now.now.items (c.in_ok-now.ensures ∙ ap (λ (rs : List (Vec ℕ)). map (outer_rows_of t (map (λ v. v.items) rs)) places) c.deref.ensures.value)
+
+pub marks_of_changes-requires-clause-within : goal.marks_of_changes-requires-clause-within
+marks_of_changes-requires-clause-within c =
+    let t = c.args.declarations.now.table in
+    let places = c.args.edited.places.now in
+    subst (All (λ (v : Vec KindRow). All (λ p. p.row < length t.rows.items) v.items)) (sym c.deref-4.ensures.value)
+    (outer_within t (map (λ v. v.items) c.args.declarations.now.rows.items) places c.in_ok-now.now.items (c.in_ok-now.ensures ∙ ap (λ (rs : List (Vec ℕ)). map (outer_rows_of t (map (λ v. v.items) rs)) places) c.deref.ensures.value))
+
+pub marks_of_changes-requires-clause-references : goal.marks_of_changes-requires-clause-references
+marks_of_changes-requires-clause-references c =
+    subst (λ (ms : List (Vec Meant)). All (λ (v : Vec RefId). All (λ r. r.file < length ms) v.items) c.deref-2.result.now) (sym c.deref-3.ensures.value)
+    (subst (All (λ (v : Vec RefId). All (λ r. r.file < length c.args.resolutions.now.meant.items) v.items)) (sym c.deref-2.ensures.value) c.requires.references)
+
+pub mark_others-requires-clause-others : goal.mark_others-requires-clause-others
+mark_others-requires-clause-others c = λ k d l. omega (arith, c.requires.others k d l, c.in_ok-marks.ensures.len, ap length c.deref-3.ensures.value, c.requires.meant)
+
+pub mark_others-requires-clause-rows : goal.mark_others-requires-clause-rows
+mark_others-requires-clause-rows c = omega (arith, c.requires.rows, c.in_ok-marks.ensures.len, ap length c.deref-3.ensures.value, c.requires.meant)
+
+pub mark_others-requires-clause-meant : goal.mark_others-requires-clause-meant
+mark_others-requires-clause-meant c = omega (arith, ap length c.deref-5.ensures.value, c.in_ok-marks.ensures.len, ap length c.deref-3.ensures.value)
+
+pub mark_others-requires-clause-saw : goal.mark_others-requires-clause-saw
+mark_others-requires-clause-saw c = omega (arith, c.requires.saw, c.in_ok-marks.ensures.len, ap length c.deref-3.ensures.value, c.requires.meant)
+
+pub mark_others-requires-clause-seen : goal.mark_others-requires-clause-seen
+mark_others-requires-clause-seen c = omega (arith, c.requires.seen, c.in_ok-marks.ensures.len, ap length c.deref-3.ensures.value, c.requires.meant)
+
+pub returns-clause-len : goal.returns-clause-len
+returns-clause-len c = omega (arith, c.in_ok-mark_others.ensures.stay.count, c.in_ok-marks.ensures.len, ap length c.deref-3.ensures.value, c.requires.meant)
+
+pub returns-clause-changes : goal.returns-clause-changes
+returns-clause-changes c =
+    let t = c.args.declarations.now.table in
+    let places = c.args.edited.places.now in
+    marks_of_lists t c.in_ok-marks.marks.items c.mark_others.new.marks.items c.in_ok-mark_others.ensures.stay places (map (λ v. v.items) c.args.before.now)
+    (ap (map (λ (v : Vec RefId). v.items)) c.deref-2.ensures.value)
+    (ap (map (λ (v : Vec Meant). v.items)) c.deref-3.ensures.value)
+    (ap (map (λ (v : Vec KindRow). v.items)) c.deref-4.ensures.value ∙ c.in_ok-now.ensures ∙ ap (λ (rs : List (Vec ℕ)). map (outer_rows_of t (map (λ v. v.items) rs)) places) c.deref.ensures.value)
+    c.in_ok-marks.ensures.marked
+
+pub returns-clause-sight : goal.returns-clause-sight
+returns-clause-sight c =
+    subst (λ (vs : List (Vec Meant)). All (IsSightMarked c.mark_others.new.marks.items c.args.declarations.now.table (map (λ v. v.items) c.args.declarations.now.rows.items) (map (λ v. v.items) vs) (map (λ v. v.items) c.args.edited.saw.now) (map (λ v. v.items) c.args.edited.seen.now)) c.args.edited.others.now) c.deref-5.ensures.value c.in_ok-mark_others.ensures.marked
