@@ -9,6 +9,7 @@ mod journal;
 mod link_texts;
 mod locations;
 mod many_files;
+mod names_at;
 mod occurrences;
 mod opening;
 mod refused_growths;

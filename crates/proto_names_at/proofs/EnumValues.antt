@@ -1,0 +1,31 @@
+-- The value of an enum of a file, as the file is read.
+use Rattle.std.proofs.Common.{◌≡◌, ℕ, ◌<◌, List, length, find, Some, None, option_map, option_and_then, refl, sym, ap, ◌∙◌, bytes_eq}
+use Rattle.proto_text.proofs.Common.{Lexeme, word_at}
+use Rattle.proto_tree.specs.Tree.{Tree}
+use Rattle.proto_tree.specs.declared.tree.Value.{Value}
+use Rattle.proto_files.proofs.Common.{AreRead, FileOf, IsTreeOf, ReadOf, file_at, read_at, same_tree}
+use Rattle.proto_names_rules.specs.Grown.{at}
+use Rattle.proto_names_imports.specs.Links.{text_of}
+use Rattle.proto_ast.specs.Parts.{BlockOf, blocks_in, values_in}
+use Rattle.proto_resolved.specs.Blocks.{holders_in}
+use Rattle.proto_resolved.specs.SceneOf.{is_enum_at, lexemes_of}
+use Rattle.proto_resolved.proofs.Holders.{found_in_holders}
+use Rattle.proto_names_at.specs.Defaults.{value_in, value_of_enum}
+
+module _ (files : List FileOf) (reads : List ReadOf) (are : AreRead files reads) (file : ℕ) (within : file < length files) (tree : Tree) (of_file : IsTreeOf (file_at files file).bytes tree) (token : ℕ) (blocks : List BlockOf) (is : blocks ≡ holders_in tree) where
+  -- the enum is the first at the token of all blocks
+  enum_is : find (λ b. is_enum_at token b.header) blocks ≡ find (λ b. is_enum_at token b.header) (blocks_in (read_at reads file).tree)
+  enum_is =
+      ap (find (λ (b : BlockOf). is_enum_at token b.header)) is
+      ∙ found_in_holders (is_enum_at token) (λ h. refl) (λ s. refl) tree
+      ∙ ap (λ (t : Tree). find (λ b. is_enum_at token b.header) (blocks_in t)) (sym (same_tree files reads file tree are within of_file))
+
+  pub enum_value : (word : List ℕ) (b : BlockOf) → Some b ≡ find (λ b. is_enum_at token b.header) blocks → (lexemes : List Lexeme) → lexemes ≡ lexemes_of files reads file → (values : List Value) → values ≡ values_in b.within
+      → option_map (λ (v : Value). v.name) (find (λ v. bytes_eq (word_at lexemes v.name) word) values) ≡ value_of_enum (λ t. text_of files reads (at file t)) word token (blocks_in (read_at reads file).tree)
+  enum_value word b found lexemes same values all =
+      ap (λ (vs : List Value). option_map (λ (v : Value). v.name) (find (λ v. bytes_eq (word_at lexemes v.name) word) vs)) all
+      ∙ ap (λ (ls : List Lexeme). option_map (λ (v : Value). v.name) (find (λ v. bytes_eq (word_at ls v.name) word) (values_in b.within))) same
+      ∙ ap (option_and_then (λ (c : BlockOf). value_in (λ t. text_of files reads (at file t)) word c.within)) (found ∙ enum_is)
+
+  pub no_enum : (word : List ℕ) → None ≡ find (λ b. is_enum_at token b.header) blocks → None ≡ value_of_enum (λ t. text_of files reads (at file t)) word token (blocks_in (read_at reads file).tree)
+  no_enum word none = ap (option_and_then (λ (c : BlockOf). value_in (λ t. text_of files reads (at file t)) word c.within)) (none ∙ enum_is)

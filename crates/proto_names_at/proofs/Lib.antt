@@ -1,0 +1,10 @@
+mod DeclaredNames
+mod DefaultFields
+mod DefaultNames
+mod EnumValues
+mod ReferredNames
+mod StandingNames
+mod NamedTargets
+mod TokensAt
+mod ValueNames
+mod WordTurns

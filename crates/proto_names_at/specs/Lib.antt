@@ -1,0 +1,6 @@
+pub mod DeclaredAt
+pub mod Defaults
+pub mod NamesAt
+pub mod Occurring
+pub mod References
+pub mod Tokens
