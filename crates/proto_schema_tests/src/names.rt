@@ -1,5 +1,6 @@
 //! The link of files.
 
+mod all_faults;
 pub(crate) mod calls;
 mod clashes;
 mod extensions;

@@ -1,0 +1,8 @@
+use Rattle.std.proofs.Common.{◌≡◌, ℕ, List, map, take}
+use Rattle.std.specs.HashSet.{contains_text}
+use Rattle.std.specs.List.{list_any}
+use Rattle.proto_names_faults.specs.Common.{is_package_named, shown}
+use Rattle.proto_names_faults.proofs.clashing.package_names.Given as goal
+
+abbrev pub invariant-loop-one : goal.invariant-loop-one
+invariant-loop-one l = (text : List ℕ) → contains_text l.taken text ≡ list_any (is_package_named text) (take l.one-index (map shown l.all))

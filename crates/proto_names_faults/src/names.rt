@@ -1,0 +1,57 @@
+//! The names of files in a table.
+
+ghost use Rattle.std.specs.Prelude.{◌≡◌, ◌<◌, List, length, get_or, IfOk};
+ghost use Rattle.std.specs.List.{All};
+ghost use Rattle.proto_files.specs.FilesRead.{AreRead, Each, ReadOf};
+ghost use Rattle.proto_names_imports.specs.Links.{AreListings};
+ghost use Rattle.proto_names_outline.specs.declared.listing.Listing.{Listing};
+ghost use Rattle.proto_names_table.specs.Tables.{IsTable};
+ghost use Rattle.proto_names_faults.specs.NamesOfFiles.{AreRowsOf};
+
+use crate::listings::all_spelled;
+use proto_base::NoMemory;
+use proto_files::{Files, are_read};
+use proto_names_outline::listing::Listing;
+use proto_names_table::filling::{NameError, declare_all};
+use proto_names_table::table::Table;
+use std::alloc::Global;
+
+/// The names of files, and for each file the rows of what it declares, its package first.
+#[derive(Drop)]
+pub(crate) struct Names {
+    pub(crate) table: Table,
+    pub(crate) rows: Vec<Vec<usize>>,
+}
+
+/// The names of files whose names do not clash. Fails only when out of memory; it answers out of
+/// memory, too, where a name clashes.
+pub(crate) fn names_of_files(
+    alloc: Global,
+    files: &Files,
+    listings: &[Listing],
+) -> Result<Names, NoMemory>
+    requires { AreListings files.now listings.now }
+    ensures table { IfOk result (λ n. IsTable n.table) }
+    ensures names { IfOk result (λ n. (reads : List ReadOf)
+        → AreRead files.now reads → AreRowsOf files.now reads n.table n.rows.items) }
+    ensures paired { IfOk result (λ n. length n.rows.items ≡ length files.now) }
+    ensures rows { IfOk result (λ n. Each
+        (λ k v. (l : Listing) → length v.items ≡ length (get_or listings.now k l).declared.items)
+        n.rows.items) }
+    ensures within { IfOk result
+        (λ n. All (λ v. All (λ r. r < length n.table.rows.items) v.items) n.rows.items) }
+{
+    // The contracts of these say that each file is read, and that the files are those of a
+    // workspace.
+    are_read(files);
+    let _count = files.len();
+    let spelled = all_spelled(alloc, files, listings)?;
+    match declare_all(alloc, &spelled) {
+        Ok(names) => {
+            let (table, rows) = names;
+            Ok(Names { table, rows })
+        }
+        Err(NameError::Clash { .. }) => Err(NoMemory),
+        Err(NameError::NoMemory) => Err(NoMemory),
+    }
+}

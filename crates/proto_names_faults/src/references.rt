@@ -1,0 +1,142 @@
+//! All faults of references.
+
+ghost use Rattle.std.specs.Prelude.{◌≡◌, ◌<◌, ◌≤◌, ℕ, List, length, get_or, map, IfOk, OnOk};
+ghost use Rattle.std.specs.List.{All};
+ghost use Rattle.proto_files.specs.Faults.{HasNoFault, fault_at};
+ghost use Rattle.proto_files.specs.FilesRead.{AreRead, Each, ReadOf};
+ghost use Rattle.proto_files.specs.GivenFiles.{file_at};
+ghost use Rattle.proto_text.specs.Texts.{word_at};
+ghost use Rattle.proto_tree.specs.Reads.{Reads};
+ghost use Rattle.proto_tree.specs.References.{dotted};
+ghost use Rattle.proto_names_imports.specs.Links.{AreListings, IsListing, link_skeleton, text_of};
+ghost use Rattle.proto_names_outline.specs.Listing.{needs};
+ghost use Rattle.proto_names_outline.specs.declared.listing.Listing.{Listing};
+ghost use Rattle.proto_names_rules.specs.Faults.{ReferenceFault};
+ghost use Rattle.proto_names_rules.specs.Joined.{ArePlain};
+ghost use Rattle.proto_names_rules.specs.Names.{Workspace};
+ghost use Rattle.proto_names_table.specs.Tables.{IsTable};
+ghost use Rattle.proto_names.specs.FileReferences.{AreLinked, IsFileLinked};
+ghost use Rattle.proto_names.specs.Referring.{IsReadBy, reference_by};
+ghost use Rattle.proto_names_faults.specs.AllFaults.{AreAllOf, NameFaults, ReferenceFaults};
+ghost use Rattle.proto_names_faults.specs.Flaws.{AreAdded, AreFlawsOf};
+ghost use Rattle.proto_names_faults.specs.Resolving.{IsFaultIn, IsListedFault};
+
+use crate::flaw::{Flaw, add_flaw};
+use crate::listings::listings;
+use crate::located::listed;
+use crate::names::{Names, names_of_files};
+use crate::resolving::{View, kind_fault, resolved_kind, token_of};
+use crate::sight::all_sight;
+use proto_base::{Fault, NoMemory};
+use proto_files::{Files, Words, are_read};
+use proto_names_outline::listing::{Listing, Use};
+use std::alloc::Global;
+
+/// All faults of references of files whose names do not clash: 14 Unresolved, 15 WrongKind and
+/// 16 MapEntryRef, by path, offset and number, each once. Fails only when out of memory.
+pub fn reference_faults(alloc: Global, files: &Files) -> Result<Vec<Fault>, NoMemory>
+    requires names { HasNoFault (NameFaults files.now) }
+    ensures exact { IfOk result (λ v. AreAllOf (ReferenceFaults files.now)
+        (map fault_at v.items)) }
+{
+    // Each file has tokens and a tree.
+    are_read(files);
+    let flaws = reference_flaws(alloc, files)?;
+    listed(alloc, files, &flaws)
+}
+
+/// The flaws of all references.
+fn reference_flaws(alloc: Global, files: &Files) -> Result<Vec<Flaw>, NoMemory>
+    ensures { IfOk result (λ ws. (reads : List ReadOf) → AreRead files.now reads → AreFlawsOf
+        (ReferenceFault (text_of files.now reads) (link_skeleton files.now reads)) ws.items) }
+{
+    let seen = all_sight(alloc, files)?;
+    let listings = listings(alloc, files)?;
+    let names = names_of_files(alloc, files, &listings)?;
+    flaws_of_uses(alloc, files, &seen, &names, &listings)
+}
+
+/// The same by what the files see, their names and their listings.
+fn flaws_of_uses(
+    alloc: Global,
+    files: &Files,
+    seen: &[Vec<bool>],
+    names: &Names,
+    listings: &[Listing],
+) -> Result<Vec<Flaw>, NoMemory>
+    requires table { IsTable names.now.table }
+    requires listings { AreListings files.now listings.now }
+    requires seen { length seen.now ≡ length files.now }
+    requires paired { length names.now.rows.items ≡ length files.now }
+    requires rows { Each (λ k v. (d : Listing)
+        → length v.items ≡ length (get_or listings.now k d).declared.items)
+        names.now.rows.items }
+    requires within { All (λ v. All (λ r. r < length names.now.table.rows.items) v.items)
+        names.now.rows.items }
+    ensures { IfOk result (λ ws. (reads : List ReadOf) → AreRead files.now reads
+        → AreLinked names.now.table seen.now names.now.rows.items files.now reads → AreFlawsOf
+        (ReferenceFault (text_of files.now reads) (link_skeleton files.now reads)) ws.items) }
+{
+    are_read(files);
+    let mut found = Vec::new(alloc);
+    for file in 0..files.len() {
+        let view = View {
+            file: file as u32,
+            table: &names.table,
+            seen: &seen[file],
+            rows: &names.rows[file],
+        };
+        add_file_flaws(alloc, files, &view, &listings[file], &mut found)?;
+    }
+    Ok(found)
+}
+
+/// Adds the flaws of the references of one file.
+fn add_file_flaws(
+    alloc: Global,
+    files: &Files,
+    view: &View,
+    listing: &Listing,
+    found: &mut Vec<Flaw>,
+) -> Result<(), NoMemory>
+    requires file { view.now.file < length files.now }
+    requires table { IsTable view.now.table.now }
+    requires listing { (r : ReadOf)
+        × Reads (file_at files.now view.now.file).bytes r.tokens r.tree × IsListing r listing.now }
+    requires rows { length view.now.rows.now ≡ length listing.now.declared.items }
+    requires within { All (λ r. r < length view.now.table.now.rows.items) view.now.rows.now }
+    ensures { OnOk result ((reads : List ReadOf) → AreRead files.now reads
+        → IsFileLinked view.now.table.now view.now.seen.now view.now.rows.now files.now reads
+        view.now.file
+        → AreAdded (IsFaultIn files.now reads view.now.file) found.old.items found.new.items) }
+{
+    let words = Words::new(files, view.file);
+    add_use_flaws(alloc, view, &words, &listing.used, found)
+}
+
+/// Adds the flaws of these references of a file.
+fn add_use_flaws(
+    alloc: Global,
+    view: &View,
+    words: &Words,
+    uses: &[Use],
+    found: &mut Vec<Flaw>,
+) -> Result<(), NoMemory>
+    requires table { IsTable view.now.table.now }
+    requires rows { All (λ r. r < length view.now.table.now.rows.items) view.now.rows.now }
+    requires scopes { All (λ u. needs u.scope ≤ length view.now.rows.now) uses.now }
+    requires plain { All
+        (λ u. ArePlain (map (word_at words.now) (dotted u.reference.now.words))) uses.now }
+    ensures { OnOk result ((w : Workspace) (names : List (List (List ℕ)))
+        → IsReadBy view.now.table.now view.now.seen.now view.now.rows.now names view.now.file w
+        → AreAdded (IsListedFault w (reference_by view.now.file names (word_at words.now))
+        view.now.file uses.now) found.old.items found.new.items) }
+{
+    for used in uses {
+        let kind = resolved_kind(alloc, view, words, used)?;
+        let token = token_of(used.reference);
+        let fault = kind_fault(kind, used.wants_message);
+        add_flaw(found, view.file, token, fault)?;
+    }
+    Ok(())
+}
