@@ -7,6 +7,7 @@ import importlib.machinery
 import importlib.util
 import os
 import pathlib
+import re
 import shutil
 import subprocess
 import sys
@@ -117,6 +118,13 @@ def crates():
         if name.strip():
             found[name.split()[0]] = words.split()
     return found
+
+
+def time_of(command):
+    """How long a command takes where nothing was proved before, as docs/gate.md has it."""
+    page = (TOP / "docs/gate.md").read_text(encoding="utf-8")
+    found = re.search(rf"^\| `{re.escape(command)}` from nothing \| (.*) \|$", page, re.MULTILINE)
+    return found[1] if found else "some time"
 
 
 def module_at(name, path):
