@@ -4,9 +4,11 @@
 //! What is read are texts, each as its length in bytes, a colon, the text and a comma: how many
 //! files, for each its path and its text; then the steps, each as three texts: the kind of an edit
 //! with its two words, or `undo` with two empty ones, which takes back the last edit that stands.
-//! Where the text `library` stands first, the example of docs/library.md is run before the walk.
+//! Where the text `library` stands first, the example of docs/library.md is run before the walk; where
+//! `faults` does, all faults of the files are printed, and nothing is walked.
 #![tactic(auto)]
 
+mod all_faults;
 mod ever;
 mod input;
 mod library_example;
@@ -28,7 +30,14 @@ fn main(rt: HostRuntime) -> io::Result<()> {
             rt.println("")?;
             read(&rt, rest)
         }
-        None => read(&rt, &text),
+        None => read_or_list(&rt, &text),
+    }
+}
+
+fn read_or_list<R: Print + AllocGlobal>(rt: &R, text: &str) -> io::Result<()> {
+    match text.strip_prefix("6:faults,") {
+        Some(rest) => all_faults::run(rt, rest),
+        None => read(rt, text),
     }
 }
 

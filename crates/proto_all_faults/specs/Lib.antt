@@ -1,0 +1,5 @@
+pub mod AllFaults
+pub mod Common
+pub mod Laws
+pub mod ListedPaths
+pub mod Steps
