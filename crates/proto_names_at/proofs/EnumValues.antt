@@ -1,12 +1,11 @@
 -- The value of an enum of a file, as the file is read.
-use Rattle.std.proofs.Common.{◌≡◌, ℕ, ◌<◌, List, length, find, Some, None, option_map, option_and_then, refl, sym, ap, ◌∙◌, bytes_eq}
+use Rattle.std.proofs.Common.{◌≡◌, ℕ, ◌<◌, List, length, find, Option, Some, None, option_and_then, refl, sym, ap, ◌∙◌}
 use Rattle.proto_text.proofs.Common.{Lexeme, word_at}
 use Rattle.proto_tree.specs.Tree.{Tree}
-use Rattle.proto_tree.specs.declared.tree.Value.{Value}
 use Rattle.proto_files.proofs.Common.{AreRead, FileOf, IsTreeOf, ReadOf, file_at, read_at, same_tree}
 use Rattle.proto_names_rules.specs.Grown.{at}
 use Rattle.proto_names_imports.specs.Links.{text_of}
-use Rattle.proto_ast.specs.Parts.{BlockOf, blocks_in, values_in}
+use Rattle.proto_ast.specs.Parts.{BlockOf, blocks_in}
 use Rattle.proto_resolved.specs.Blocks.{holders_in}
 use Rattle.proto_resolved.specs.SceneOf.{is_enum_at, lexemes_of}
 use Rattle.proto_resolved.proofs.Holders.{found_in_holders}
@@ -20,11 +19,11 @@ module _ (files : List FileOf) (reads : List ReadOf) (are : AreRead files reads)
       ∙ found_in_holders (is_enum_at token) (λ h. refl) (λ s. refl) tree
       ∙ ap (λ (t : Tree). find (λ b. is_enum_at token b.header) (blocks_in t)) (sym (same_tree files reads file tree are within of_file))
 
-  pub enum_value : (word : List ℕ) (b : BlockOf) → Some b ≡ find (λ b. is_enum_at token b.header) blocks → (lexemes : List Lexeme) → lexemes ≡ lexemes_of files reads file → (values : List Value) → values ≡ values_in b.within
-      → option_map (λ (v : Value). v.name) (find (λ v. bytes_eq (word_at lexemes v.name) word) values) ≡ value_of_enum (λ t. text_of files reads (at file t)) word token (blocks_in (read_at reads file).tree)
-  enum_value word b found lexemes same values all =
-      ap (λ (vs : List Value). option_map (λ (v : Value). v.name) (find (λ v. bytes_eq (word_at lexemes v.name) word) vs)) all
-      ∙ ap (λ (ls : List Lexeme). option_map (λ (v : Value). v.name) (find (λ v. bytes_eq (word_at ls v.name) word) (values_in b.within))) same
+  pub enum_value : (word : List ℕ) (b : BlockOf) → Some b ≡ find (λ b. is_enum_at token b.header) blocks → (lexemes : List Lexeme) → lexemes ≡ lexemes_of files reads file → (value : Option ℕ) → value ≡ value_in (word_at lexemes) word b.within
+      → value ≡ value_of_enum (λ t. text_of files reads (at file t)) word token (blocks_in (read_at reads file).tree)
+  enum_value word b found lexemes same value its =
+      its
+      ∙ ap (λ (ls : List Lexeme). value_in (word_at ls) word b.within) same
       ∙ ap (option_and_then (λ (c : BlockOf). value_in (λ t. text_of files reads (at file t)) word c.within)) (found ∙ enum_is)
 
   pub no_enum : (word : List ℕ) → None ≡ find (λ b. is_enum_at token b.header) blocks → None ≡ value_of_enum (λ t. text_of files reads (at file t)) word token (blocks_in (read_at reads file).tree)

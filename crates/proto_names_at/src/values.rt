@@ -11,7 +11,7 @@ ghost use Rattle.proto_names.specs.Linking.{NameOf, name_at};
 ghost use Rattle.proto_ast.specs.Parts.{blocks_in};
 ghost use Rattle.proto_resolved.specs.Blocks.{block_of, enum_block};
 ghost use Rattle.proto_resolved.specs.SceneOf.{is_enum_at};
-ghost use Rattle.proto_names_at.specs.Defaults.{value_of_enum};
+ghost use Rattle.proto_names_at.specs.Defaults.{value_in, value_of_enum};
 ghost use Rattle.proto_names_at.specs.NamesAt.{at_place};
 
 use crate::place::Place;
@@ -79,6 +79,20 @@ fn enum_among<'a>(blocks: &[BlockAt<'a>], token: u32) -> Option<&'a Enum>
     None
 }
 
+/// The token of the first value of an enum that is the word.
+fn value_in(
+    alloc: Global,
+    words: &Words,
+    enumeration: &Enum,
+    word: &str,
+) -> Result<Option<u32>, NoMemory>
+    ensures { IfOk result (λ found. found
+        ≡ value_in (word_at words.now) word.now (enum_block enumeration.now).within) }
+{
+    let values = values(alloc, &enumeration.members)?;
+    Ok(value_with(words, &values, word))
+}
+
 /// The token of the first value that is the word, in the enum whose name is at the place.
 pub(crate) fn value_of_enum(
     alloc: Global,
@@ -92,10 +106,9 @@ pub(crate) fn value_of_enum(
         place.token (blocks_in (read_at reads place.file).tree)) }
 {
     let blocks = blocks_of(alloc, files.tree(place.file))?;
-    let Some(found) = enum_among(&blocks, place.token) else {
-        return Ok(None);
-    };
-    let values = values(alloc, &found.members)?;
     let words = Words::new(files, place.file);
-    Ok(value_with(&words, &values, word))
+    match enum_among(&blocks, place.token) {
+        Some(found) => value_in(alloc, &words, found, word),
+        None => Ok(None),
+    }
 }

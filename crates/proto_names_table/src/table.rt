@@ -42,13 +42,14 @@ pub struct Row {
     pub name: Name,
     /// Its first declaration.
     pub symbol: Symbol,
+    // Right behind the symbol, where it takes no room.
+    /// Whether a file declares it. Where none does any more, the row stays, with what declared it
+    /// last.
+    pub(crate) is_declared: bool,
     /// The number of the name that this one stands right below.
     pub above: usize,
     /// Further files that declare it, of a package.
     pub more: Vec<u32>,
-    /// Whether a file declares it. Where none does any more, the row stays, with what declared it
-    /// last.
-    pub(crate) is_declared: bool,
 }
 
 impl Row {
