@@ -98,7 +98,7 @@ _protoref() {
     local word=${COMP_WORDS[COMP_CWORD]} command=${COMP_WORDS[1]} root=${COMP_WORDS[2]} asked='' names=()
     COMPREPLY=()
     if [ "$COMP_CWORD" -eq 1 ]; then
-        mapfile -t COMPREPLY < <(compgen -W '@COMMANDS@ --help' -- "$word")
+        mapfile -t COMPREPLY < <(compgen -W '@COMMANDS@ --help --version' -- "$word")
         return
     fi
     case $command in
@@ -181,6 +181,7 @@ def fish_completion(program, helps, rules):
     lines += [f"complete -c protoref -n '{at(1)}' -a {name} -d {quoted(about)}" for name, about in program.rows("Commands")]
     lines += [f"complete -c protoref -n '{at(2)}' -a '(__fish_complete_directories)'"]
     lines += [f"complete -c protoref -n '{at(1)}; or {at(2)}' -s h -l help -d 'Print help'"]
+    lines += [f"complete -c protoref -n '{at(1)}' -l version -d 'Print the version'"]
     for help in helps:
         name = help.name.partition("-")[2]
         for place, argument in enumerate(help.arguments(), 2):

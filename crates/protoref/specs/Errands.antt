@@ -9,9 +9,10 @@ use Rattle.protoref.specs.declared.errand.Errand.TheVariants as errand
 use Rattle.protoref.specs.declared.errand.Way.{Way}
 use Rattle.protoref.specs.declared.errand.Way.TheVariants as way
 
--- the text that is asked for; or the command, and the root that it is asked for
+-- the text or the version that is asked for; or the command, and the root that it is asked for
 abbrev pub errand_of : Request → Errand
 errand_of (request.Help text) = errand.Print text
+errand_of request.Version = errand.PrintVersion
 errand_of (request.Compile root) = errand.Run command.Compile root
 errand_of (request.Lint root rules) = errand.Run (command.Lint rules) root
 errand_of (request.Rename root name to) = errand.Run (command.Edit (edit.Rename name to)) root

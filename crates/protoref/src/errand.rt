@@ -11,6 +11,8 @@ use protoref_commands::{Command, Edit};
 pub enum Errand {
     /// Print this text.
     Print(String),
+    /// Print the version of the program.
+    PrintVersion,
     /// Run a command over the folder at a path.
     Run(Command, String),
 }
@@ -26,12 +28,13 @@ pub enum Way {
     Recovers,
 }
 
-/// The text that is asked for; or the command, and the root that it is asked for.
+/// The text or the version that is asked for; or the command, and the root that it is asked for.
 pub fn errand_for(request: Request) -> Errand
     ensures { result ≡ errand_of request }
 {
     match request {
         Request::Help(text) => Errand::Print(text),
+        Request::Version => Errand::PrintVersion,
         Request::Compile { root } => Errand::Run(Command::Compile, root),
         Request::Lint { root, rules } => Errand::Run(Command::Lint(rules), root),
         Request::Rename { root, name, to } => edit_over(Edit::Rename { name, to }, root),

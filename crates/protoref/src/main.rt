@@ -18,6 +18,9 @@ use std::{env, io, mem};
 
 const BAD_COMMAND_LINE: &str = "protoref: bad command line";
 
+/// What `protoref --version` prints. `VERSION`, at the top of the repository, has the same number.
+const VERSION: &str = "protoref 0.1.0\n";
+
 fn main(rt: HostRuntime) -> ExitCode {
     match answer(&rt) {
         Ok(code) => ExitCode::from(code),
@@ -48,11 +51,17 @@ fn carry_out<R: Files<File = File> + Clock + Print + AllocGlobal>(
     errand: Errand,
 ) -> Result<u8, &'static str> {
     match errand {
-        Errand::Print(text) => match write_text(&mut io::writer(rt), text.as_str().as_bytes()) {
-            Ok(()) => Ok(0),
-            Err(_) => Err(fault_line(&RunFault::Output)),
-        },
+        Errand::Print(text) => print_text(rt, text.as_str()),
+        Errand::PrintVersion => print_text(rt, VERSION),
         Errand::Run(command, root) => run_over(rt, command, root.as_str()),
+    }
+}
+
+// Prints a text on standard output.
+fn print_text<R: Print>(rt: &R, text: &str) -> Result<u8, &'static str> {
+    match write_text(&mut io::writer(rt), text.as_bytes()) {
+        Ok(()) => Ok(0),
+        Err(_) => Err(fault_line(&RunFault::Output)),
     }
 }
 

@@ -40,6 +40,7 @@ answer_read a ws found r (refused x y) none is answer = let no : are_refusals []
 
 no_memory : (a : AskedCommand) (k : ErrorKind) (r : Result Request UsageError) → k ≡ kind.OutOfMemory → IsHelpOf k r → IsAnswerTo a r
 no_memory a k (Ok (request.Help text)) e is = cc
+no_memory a k (Ok request.Version) e is = absurd is
 no_memory a k (Ok (request.Compile root)) e is = absurd is
 no_memory a k (Ok (request.Lint root set)) e is = absurd is
 no_memory a k (Ok (request.Rename root name to)) e is = absurd is
@@ -55,6 +56,7 @@ no_memory a k (Err fault.NoMemory) e is = tt
 
 is_help : (a : AskedCommand) (k : ErrorKind) (r : Result Request UsageError) → a ≡ help → k ≡ kind.DisplayHelp → IsHelpOf k r → IsAnswerTo a r
 is_help a k (Ok (request.Help text)) asks e is = asks
+is_help a k (Ok request.Version) asks e is = absurd is
 is_help a k (Ok (request.Compile root)) asks e is = absurd is
 is_help a k (Ok (request.Lint root set)) asks e is = absurd is
 is_help a k (Ok (request.Rename root name to)) asks e is = absurd is
@@ -70,6 +72,7 @@ is_help a k (Err fault.NoMemory) asks e is = tt
 
 is_bad : (a : AskedCommand) (k : ErrorKind) (r : Result Request UsageError) → a ≡ bad_line → is_refusal k ≡ true → IsHelpOf k r → IsAnswerTo a r
 is_bad a k (Ok (request.Help text)) asks e is = let no : is_refusal kind.DisplayHelp ≡ true = ap is_refusal (sym is) ∙ e in cc
+is_bad a k (Ok request.Version) asks e is = absurd is
 is_bad a k (Ok (request.Compile root)) asks e is = absurd is
 is_bad a k (Ok (request.Lint root set)) asks e is = absurd is
 is_bad a k (Ok (request.Rename root name to)) asks e is = absurd is

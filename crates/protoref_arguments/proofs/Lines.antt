@@ -13,7 +13,7 @@ use Rattle.clap.proofs.FaultLemmas.{stopped_fault}
 use Rattle.clap.proofs.WalkLemmas.{both, walk_stopped}
 use Rattle.clap.proofs.SimpleLemmas.{is_false}
 use Rattle.clap.proofs.OnLiterals.{clap_on_literals}
-use Rattle.protoref_arguments.specs.Common.{AskedCommand, Command, asked_by_line, asked_by_command, asks_help, bad_line, command_named, commands, help, command_name, taken, compile, lint, rename, delete_field, add_import, drop_import, undo, log, recover, begins_dashed, is_dashed, marked_first, words_marked, asked_of, program, migrate}
+use Rattle.protoref_arguments.specs.Common.{AskedCommand, Command, asked_by_words, asked_by_command, asks_help, bad_line, command_named, commands, help, command_name, taken, compile, lint, rename, delete_field, add_import, drop_import, undo, log, recover, begins_dashed, is_dashed, marked_first, words_marked, asked_of, program, migrate}
 
 pub simple : is_simple_and_free program ≡ true
 unfolding clap_on_literals
@@ -364,7 +364,7 @@ behind c n (t ∷ ts) few = go (asks_help t) refl
 
 -- ---- whole lines
 
-asked_at : (c : Command) (ts : List Text) → asked_by_line (command_name c ∷ ts) ≡ asked_by_command c ts
+asked_at : (c : Command) (ts : List Text) → asked_by_words (command_name c ∷ ts) ≡ asked_by_command c ts
 asked_at compile ts = refl
 asked_at lint ts = refl
 asked_at rename ts = refl
@@ -433,21 +433,21 @@ right : (a b : Bool) → (a && not b) ≡ false → b ≡ false → a ≡ false
 right true b e f = cc
 right false b e f = refl
 
-whole : (n w : Text) (ts : List Text) → length ts ≤ usize_max → is_dashed w ≡ false → EndsAt (words_marked (n ∷ w ∷ ts)) (asked_by_line (w ∷ ts))
+whole : (n w : Text) (ts : List Text) → length ts ≤ usize_max → is_dashed w ≡ false → EndsAt (words_marked (n ∷ w ∷ ts)) (asked_by_words (w ∷ ts))
 whole n w ts few plain = go (asks_help w) refl
   where
     first_is : (v : Text) → w ≡ v → words_marked (n ∷ w ∷ ts) ≡ n ∷ v ∷ marked_behind ts
     first_is v e = marked_is n w ts ∙ ap (λ x. n ∷ x ∷ marked_behind ts) e
 
-    by_command : (o : Option Command) → command_named w ≡ o → asks_help w ≡ false → EndsAt (words_marked (n ∷ w ∷ ts)) (asked_by_line (w ∷ ts))
+    by_command : (o : Option Command) → command_named w ≡ o → asks_help w ≡ false → EndsAt (words_marked (n ∷ w ∷ ts)) (asked_by_words (w ∷ ts))
     by_command None none e =
         let kinds = ap (fault_of program) (marked_is n w ts) ∙ stray n w (marked_behind ts) (right _ _ plain e) none in
         refused (ap are_refusals kinds) (rw (e, none) refl)
     by_command (Some c) is e =
         let same : w ≡ command_name c = sym ((bytes_eq-Decides (command_name c) w).0 (named commands w c is)) in
-        ends_at _ (n ∷ command_name c ∷ marked_behind ts) _ (asked_by_command c ts) (first_is (command_name c) same) (ap (λ x. asked_by_line (x ∷ ts)) same ∙ asked_at c ts) (behind c n ts few)
+        ends_at _ (n ∷ command_name c ∷ marked_behind ts) _ (asked_by_command c ts) (first_is (command_name c) same) (ap (λ x. asked_by_words (x ∷ ts)) same ∙ asked_at c ts) (behind c n ts few)
 
-    go : (b : Bool) → asks_help w ≡ b → EndsAt (words_marked (n ∷ w ∷ ts)) (asked_by_line (w ∷ ts))
+    go : (b : Bool) → asks_help w ≡ b → EndsAt (words_marked (n ∷ w ∷ ts)) (asked_by_words (w ∷ ts))
     go false e = by_command (command_named w) refl e
     go true e = elim (help_words w e) [
       | inl s ↦ helped (ap (fault_of program) (first_is (codes "-h") s) ∙ top_short n (marked_behind ts)) (rw e refl)
@@ -455,13 +455,13 @@ whole n w ts few plain = go (asks_help w) refl
     ]
 
 -- each line but one whose first word begins with `-` and asks for no help
-pub line : (ws : List Text) → length ws ≤ usize_max → begins_dashed ws ≡ false → EndsAt (words_marked ws) (asked_by_line (drop 1 ws))
+pub line : (ws : List Text) → length ws ≤ usize_max → begins_dashed ws ≡ false → EndsAt (words_marked ws) (asked_by_words (drop 1 ws))
 unfolding clap_on_literals
 line [] few plain = refused refl refl
 line (n ∷ []) few plain = refused refl refl
 line (n ∷ w ∷ ts) few plain = whole n w ts (omega arith) plain
 
-pub dashed : (ws : List Text) → begins_dashed ws ≡ true → asked_by_line (drop 1 ws) ≡ bad_line
+pub dashed : (ws : List Text) → begins_dashed ws ≡ true → asked_by_words (drop 1 ws) ≡ bad_line
 dashed [] e = cc
 dashed (n ∷ []) e = cc
 dashed (n ∷ [] ∷ ts) e = cc

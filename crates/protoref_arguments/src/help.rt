@@ -6,7 +6,8 @@ pub(crate) const PROGRAM: &str =
 the edit or the journal; 2 with a line on standard error.
 What the numbers mean stands in the help of each command: protoref rename --help
 
-There is no --version: the file's checksum (sha256sum) tells one build from another.";
+protoref --version prints the version; the file's checksum (sha256sum) tells one build from
+another.";
 
 /// Of `compile`.
 pub(crate) const COMPILE: &str = "Status: 0; 1 with the least fault of the schemas,

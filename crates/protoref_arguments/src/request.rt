@@ -12,6 +12,8 @@ use thiserror::Error;
 pub enum Request {
     /// This text.
     Help(String),
+    /// The version of the program.
+    Version,
     /// The descriptors of the schemas in a folder.
     Compile {
         root: String,

@@ -51,6 +51,7 @@ fn asks_for<R: Abort>(rt: &R, request: &Request, wanted: &str) -> bool {
     let (asked, root, name, more) = match request {
         Request::Help(text) if command == "help" => return text.as_str().contains(first),
         Request::Help(text) => return command == "rules" && tells_of_each_rule(text.as_str()),
+        Request::Version => return command == "version",
         Request::Lint { root, rules } => {
             return command == "lint" && root.as_str() == first && *rules == rules_named(rt, second);
         }
@@ -122,7 +123,10 @@ const REFUSED: &[Row] = &[
     ("protoref -hx", REFUSAL),
     ("protoref --help=x", REFUSAL),
     ("protoref -- compile .", REFUSAL),
-    ("protoref --version", REFUSAL),
+    ("protoref --version .", REFUSAL),
+    ("protoref --version --version", REFUSAL),
+    ("protoref --versions", REFUSAL),
+    ("protoref -V", REFUSAL),
     ("protoref lint", REFUSAL),
     ("protoref lint . NO_SUCH", REFUSAL),
     ("protoref lint . IMPORT_USED NO_SUCH", REFUSAL),
@@ -255,7 +259,7 @@ const HELPS: &[Row] = &[
     ("protoref recover -h", "help|Example: protoref recover "),
     ("protoref migrate -h", "help|Example: protoref migrate "),
     // What the numbers and the statuses mean.
-    ("protoref -h", "help|There is no --version"),
+    ("protoref -h", "help|protoref --version prints the version"),
     (
         "protoref compile -h",
         "help|   1 TooLarge           a file of more than",
