@@ -1,7 +1,6 @@
 -- The faults of files, each of which has at most one of its phase.
-use Rattle.std.proofs.Common.{◌≡◌, ◌⊎◌, ℕ, ◌+◌, ◌<◌, ◌≤◌, List, [], ◌∷◌, ◌++◌, length, get_or, take, Option, Some, None, option_map, refl, sym, ap, ◌∙◌, subst, inl, inr, arith, take_all, Contains, String, Global, string_bytes}
+use Rattle.std.proofs.Common.{◌≡◌, ◌⊎◌, ℕ, ◌+◌, ◌<◌, ◌≤◌, List, [], ◌∷◌, ◌++◌, length, get_or, take, Option, Some, None, refl, sym, ap, ◌∙◌, subst, inl, inr, arith, take_all, append-nil, Contains, String, Global, string_bytes}
 use Rattle.proto_base.proofs.Common.{Contains-append_cases, Contains-append_left, Contains-append_right, Vec, contains_cases, contains_head, contains_map, taken_more}
-use Rattle.proto_base.specs.declared.fault.Fault.{Fault}
 use Rattle.proto_base.specs.declared.fault.FaultKind.{FaultKind}
 use Rattle.proto_base.specs.declared.fault.FaultKind.TheVariants as kind
 use Rattle.proto_base.specs.declared.fault.SchemaFault.{SchemaFault}
@@ -9,7 +8,7 @@ use Rattle.proto_text.specs.declared.fault.TextFault.{TextFault}
 use Rattle.proto_text.specs.declared.fault.TextFault.TheVariants as text
 use Rattle.proto_text.specs.SourceFacts.{NewSource}
 use Rattle.proto_files.specs.Common.{FaultAt, FaultsOf, FileOf, HasNoFault, HasNone, IsFileError, IsTextFault, TextFaults, fault_at, file_of, files_of, text_error}
-use Rattle.proto_all_faults.specs.Common.{AreFound, IsFaultIfAny, IsThatFault, as_list}
+use Rattle.proto_all_faults.specs.Common.{AddsIfAny, AreFound, IsAdded, IsFaultIfAny, as_list}
 use Rattle.std.proofs.Common.{Err}
 
 -- ---- one file
@@ -41,10 +40,13 @@ no_source path file text.NotUtf8 at h = record { at_file = at; is_fault = (refl,
 no_source path file (text.At offset fault) at h = absurd h
 no_source path file text.NoMemory at h = absurd h
 
--- the fault of an error, if it is none of memory
-pub that_one : (says : List ℕ → ℕ → FaultKind → Type 0) (file : FileOf) (e : SchemaFault) (o : Option Fault) → IsFileError says file e → IsThatFault e o → IsFaultIfAny says file (option_map fault_at o)
-that_one says file e None h is = absurd is
-that_one says file e (Some f) h is = subst (IsFileError says file) is h
+-- the fault of an error, which was added
+pub added_one : (says : List ℕ → ℕ → FaultKind → Type 0) (file : FileOf) (e : SchemaFault) (old new : List FaultAt) → IsFileError says file e → IsAdded e old new → AddsIfAny says file old new
+added_one says file e old new h is = (Some (fault_at is.0), subst (IsFileError says file) is.1 h, is.2)
+
+-- there is none
+pub added_none : (says : List ℕ → ℕ → FaultKind → Type 0) (file : FileOf) (found : List FaultAt) → HasNone says file.bytes → AddsIfAny says file found found
+added_none says file found none = (None, none, sym (append-nil found))
 
 -- ---- one file more
 
@@ -92,14 +94,14 @@ module _ (says : List ℕ → ℕ → FaultKind → Type 0) where
       none x c = omega (arith, c.1)
 
   module _ (given : List (String Global × Vec ℕ)) (i : ℕ) where
-    pub read_turn : (x : String Global × Vec ℕ) (path bytes : List ℕ) (o : Option FaultAt) (found next : List FaultAt) → i < length given → x ≡ get_or given i x → path ≡ string_bytes x.0 → bytes ≡ x.1.items
-        → IsFaultIfAny says (record { path = path; bytes = bytes }) o → next ≡ found ++ as_list o → AreFound (FaultsOf says (files_of (take i given))) found → AreFound (FaultsOf says (files_of (take (i + 1) given))) next
-    read_turn x path bytes o found next l at p b is new are =
+    pub read_turn : (x : String Global × Vec ℕ) (path bytes : List ℕ) (found next : List FaultAt) → i < length given → x ≡ get_or given i x → path ≡ string_bytes x.0 → bytes ≡ x.1.items
+        → AddsIfAny says (record { path = path; bytes = bytes }) found next → AreFound (FaultsOf says (files_of (take i given))) found → AreFound (FaultsOf says (files_of (take (i + 1) given))) next
+    read_turn x path bytes found next l at p b adds are =
         let one : FileOf = record { path = path; bytes = bytes } in
         let same : one ≡ file_of x = λ j. record { path = p j; bytes = b j } in
-        let more = found_more (files_of (take i given)) (file_of x) found o are (subst (λ (f : FileOf). IsFaultIfAny says f o) same is) in
+        let more = found_more (files_of (take i given)) (file_of x) found adds.0 are (subst (λ (f : FileOf). IsFaultIfAny says f adds.0) same adds.1) in
         subst (λ (fs : List FileOf). AreFound (FaultsOf says fs) next) (taken_more file_of given i x x l at)
-        (subst (AreFound (FaultsOf says (files_of (take i given) ++ file_of x ∷ []))) (sym new) more)
+        (subst (AreFound (FaultsOf says (files_of (take i given) ++ file_of x ∷ []))) (sym adds.2) more)
 
     pub read_end : (found : List FaultAt) → length given ≤ i → AreFound (FaultsOf says (files_of (take i given))) found → AreFound (FaultsOf says (files_of given)) found
     read_end found l are = subst (λ (fs : List (String Global × Vec ℕ)). AreFound (FaultsOf says (files_of fs)) found) (take_all i given l) are

@@ -4,4 +4,4 @@ pub use Rattle.proto_all_faults.specs.AllFaults.{CheckFaultsUpTo, FaultsUpTo, Fi
 pub use Rattle.proto_all_faults.specs.Laws.{AreAllFaults, CapsKeepAllElse, FirstIsLeast, HasLower, NoneIsListed}
 pub use Rattle.proto_all_faults.specs.ListedPaths.{fault_if, faults_at, path_fault}
 unfoldable pub use Rattle.proto_all_faults.specs.ListedPaths.{path_faults_from}
-pub use Rattle.proto_all_faults.specs.Steps.{AreFound, AreSortedOf, HasSorted, IsFaultIfAny, IsThatFault, as_list, faults_before, faults_in}
+pub use Rattle.proto_all_faults.specs.Steps.{AddsIfAny, AreFound, AreSortedOf, HasSorted, IsAdded, IsFaultIfAny, as_list, faults_before, faults_in}

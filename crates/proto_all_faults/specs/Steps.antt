@@ -6,7 +6,7 @@ use Rattle.proto_base.specs.declared.fault.FaultKind.{FaultKind}
 use Rattle.proto_base.specs.declared.fault.SchemaFault.{SchemaFault}
 use Rattle.proto_base.specs.declared.fault.SchemaFault.TheVariants.{Schema}
 use Rattle.proto_base.specs.Texts.{Text}
-use Rattle.proto_files.specs.Faults.{FaultAt, HasNoFault}
+use Rattle.proto_files.specs.Faults.{FaultAt, HasNoFault, fault_at}
 use Rattle.proto_files.specs.FilesRead.{ReadOf}
 use Rattle.proto_files.specs.GivenFiles.{AreWorkspaceFiles, FileOf, paths_of}
 use Rattle.proto_files.specs.PathFaults.{PathFaults}
@@ -34,15 +34,20 @@ abbrev pub IsFaultIfAny : (Text → ℕ → FaultKind → Type 0) → FileOf →
 IsFaultIfAny says file None = HasNone says file.bytes
 IsFaultIfAny says file (Some x) = IsOnlyFault says file x
 
--- the error is this fault
-abbrev pub IsThatFault : SchemaFault → Option Fault → Type 0
-IsThatFault e None = ⊥
-IsThatFault e (Some f) = e ≡ Schema f
-
 -- a fault, if there is one, as a list
 abbrev pub as_list : Option FaultAt → List FaultAt
 as_list None = []
 as_list (Some x) = x ∷ []
+
+-- the error is a fault, and that was added
+abbrev pub IsAdded : SchemaFault → List FaultAt → List FaultAt → Type 0
+IsAdded e old new = (f : Fault) × (e ≡ Schema f) × (new ≡ old ++ fault_at f ∷ [])
+
+-- the one fault of its phase that a file has was added, if it has one
+abbrev pub AddsIfAny : (Text → ℕ → FaultKind → Type 0) → FileOf → List FaultAt → List FaultAt
+    → Type 0
+AddsIfAny says file old new =
+    (x : Option FaultAt) × IsFaultIfAny says file x × (new ≡ old ++ as_list x)
 
 -- the flaws of the file at a place as faults, with numbers up to a cap
 abbrev pub faults_in : Option ℕ → List FileOf → List ReadOf → ℕ → List FaultAt

@@ -21,7 +21,7 @@ fn copy_files(
 ) -> Result<Vec<(String, Vec<u8>)>, NoMemory>
     ensures { IfOk result (λ copies. files_of copies.items ≡ files_of given.now) }
 {
-    let mut copies = Vec::with_capacity(alloc, given.len())?;
+    let mut copies = Vec::new(alloc);
     for file in given {
         let path = String::from_str(alloc, file.0.as_str())?;
         copies.push((path, Vec::from_slice(alloc, &file.1)?))?;

@@ -17,7 +17,7 @@ use std::alloc::Global;
 fn given_paths<'a>(alloc: Global, given: &'a [(String, Vec<u8>)]) -> Result<Vec<&'a str>, NoMemory>
     ensures { IfOk result (λ paths. map (λ p. p.now) paths.items ≡ paths_of (files_of given.now)) }
 {
-    let mut paths = Vec::with_capacity(alloc, given.len())?;
+    let mut paths = Vec::new(alloc);
     for file in given {
         paths.push(file.0.as_str())?;
     }

@@ -1,14 +1,14 @@
 //! All faults of texts, and all of their grammar.
 
-ghost use Rattle.std.specs.Prelude.{map, option_map, IfOk};
+ghost use Rattle.std.specs.Prelude.{map, IfOk, OnOk};
 ghost use Rattle.proto_files.specs.Faults.{HasNoFault, fault_at};
 ghost use Rattle.proto_files.specs.GivenFiles.{files_of};
 ghost use Rattle.proto_files.specs.ReadFaults.{GrammarFaults, IsGrammarFault, IsTextFault, TextFaults};
 ghost use Rattle.proto_files.specs.Reading.{HasNone};
 ghost use Rattle.proto_names_faults.specs.AllFaults.{AreAllOf};
-ghost use Rattle.proto_all_faults.specs.Steps.{IsFaultIfAny};
+ghost use Rattle.proto_all_faults.specs.Steps.{AddsIfAny};
 
-use crate::found::{add_fault, that_fault};
+use crate::found::add_error;
 use proto_base::{Fault, NoMemory};
 use proto_files::{grammar_error, text_error};
 use proto_names_faults::in_order;
@@ -16,19 +16,24 @@ use proto_text::{Source, lex};
 use proto_tree::parse;
 use std::alloc::Global;
 
-/// The fault of the text of a file, if it has one.
-fn text_fault(alloc: Global, path: &str, bytes: &[u8]) -> Result<Option<Fault>, NoMemory>
-    ensures { IfOk result (λ fault. IsFaultIfAny IsTextFault
-        (record { path = path.now; bytes = bytes.now }) (option_map fault_at fault)) }
+/// Adds the fault of the text of a file, if it has one.
+fn add_text_fault(
+    alloc: Global,
+    found: &mut Vec<Fault>,
+    path: &str,
+    bytes: &[u8],
+) -> Result<(), NoMemory>
+    ensures { OnOk result (AddsIfAny IsTextFault (record { path = path.now; bytes = bytes.now })
+        (map fault_at found.old.items) (map fault_at found.new.items)) }
 {
     let path = String::from_str(alloc, path)?;
     let source = match Source::new(Vec::from_slice(alloc, bytes)?) {
         Ok(source) => source,
-        Err(fault) => return that_fault(text_error(path, fault)),
+        Err(fault) => return add_error(found, text_error(path, fault)),
     };
     match lex(alloc, &source) {
-        Ok(_) => Ok(None),
-        Err(fault) => that_fault(text_error(path, fault)),
+        Ok(_) => Ok(()),
+        Err(fault) => add_error(found, text_error(path, fault)),
     }
 }
 
@@ -42,31 +47,51 @@ pub(crate) fn text_faults(
 {
     let mut found = Vec::new(alloc);
     for file in given {
-        add_fault(&mut found, text_fault(alloc, file.0.as_str(), &file.1)?)?;
+        add_text_fault(alloc, &mut found, file.0.as_str(), &file.1)?;
     }
     Ok(in_order(found))
 }
 
-/// The fault of the grammar of a file whose text has none, if it has one.
-fn grammar_fault(alloc: Global, path: &str, bytes: &[u8]) -> Result<Option<Fault>, NoMemory>
+/// Adds the fault of the grammar of a file whose text has none, if it has one.
+fn add_grammar_fault(
+    alloc: Global,
+    found: &mut Vec<Fault>,
+    path: &str,
+    bytes: &[u8],
+) -> Result<(), NoMemory>
     requires { HasNone IsTextFault bytes.now }
-    ensures { IfOk result (λ fault. IsFaultIfAny IsGrammarFault
-        (record { path = path.now; bytes = bytes.now }) (option_map fault_at fault)) }
+    ensures { OnOk result (AddsIfAny IsGrammarFault (record { path = path.now; bytes = bytes.now })
+        (map fault_at found.old.items) (map fault_at found.new.items)) }
 {
-    let path = String::from_str(alloc, path)?;
     // The text has no fault, so that only memory can be wanting.
-    let Ok(source) = Source::new(Vec::from_slice(alloc, bytes)?) else {
+    match Source::new(Vec::from_slice(alloc, bytes)?) {
+        Ok(source) => add_fault_of_source(alloc, found, path, &source),
+        Err(_fault) => Err(NoMemory),
+    }
+}
+
+/// The same of its text.
+fn add_fault_of_source(
+    alloc: Global,
+    found: &mut Vec<Fault>,
+    path: &str,
+    source: &Source,
+) -> Result<(), NoMemory>
+    ensures { OnOk result (AddsIfAny IsGrammarFault (record { path = path.now; bytes = source.now })
+        (map fault_at found.old.items) (map fault_at found.new.items)) }
+{
+    let Ok(tokens) = lex(alloc, source) else {
         return Err(NoMemory);
     };
-    let Ok(tokens) = lex(alloc, &source) else {
-        return Err(NoMemory);
-    };
-    match parse(alloc, &source, &tokens) {
+    match parse(alloc, source, &tokens) {
         Ok(tree) => {
             tree.release();
-            Ok(None)
+            Ok(())
         }
-        Err(fault) => that_fault(grammar_error(path, fault)),
+        Err(fault) => {
+            let path = String::from_str(alloc, path)?;
+            add_error(found, grammar_error(path, fault))
+        }
     }
 }
 
@@ -82,7 +107,7 @@ pub(crate) fn grammar_faults(
 {
     let mut found = Vec::new(alloc);
     for file in given {
-        add_fault(&mut found, grammar_fault(alloc, file.0.as_str(), &file.1)?)?;
+        add_grammar_fault(alloc, &mut found, file.0.as_str(), &file.1)?;
     }
     Ok(in_order(found))
 }

@@ -1,6 +1,6 @@
 -- What a token declares is among what its file declares, in a row of the link.
 use Rattle.std.proofs.Common.{◌≡◌, ◌≢◌, ◌↔◌, ℕ, ◌+◌, ◌<◌, ◌≤◌, ◌==◌, Bool, true, false, if◌then◌else◌, List, [], length, get_or, Option, Some, None, is_some, option_map, option_and_then, refl, sym, ap, subst, ◌∙◌, inl, inr, arith, Contains, eq-eqb, true≢false}
-use Rattle.proto_base.proofs.Common.{cases_lt, cond-true, contains_map, from_map, get_or_default, none-some}
+use Rattle.proto_base.proofs.Common.{cases_lt, cond-true, contains_map, from_map, get_or_default, none-some, same_Some}
 use Rattle.proto_case.specs.Camel.{entry_name}
 use Rattle.proto_files.proofs.Common.{FileOf, file_at, ReadOf, AreRead, read_at}
 use Rattle.proto_names_outline.proofs.Common.{items_in, package_first, same_declared, tree_span, whole}
@@ -152,6 +152,21 @@ none_at_all files l link rows count file token same all none reads are n d =
     let inside = c.1 in
     let at_k : get_or rows c.0 0 ≡ r.row = get_or_default rows c.0 0 r.row c.1 ∙ c.2 in
     none reads are n d c.0 (omega (arith, inside, all)) (ap (λ (j : ℕ). text_declared_at l j token) at_k ∙ r.said)
+
+-- ---- a name that the token may declare
+
+module _ (files : List FileOf) (reads : List ReadOf) (a : At) (name : Option (List ℕ)) (n : List ℕ) where
+  -- there is none
+  pub no_text : name ≡ None → ◌≡◌ {A = Option (List ℕ)} None (Some n) ↔ ((name ≡ Some n) × DeclaresName files reads a n)
+  no_text is = (λ e. absurd (none-some n e), λ h. absurd (none-some n (sym is ∙ h.0)))
+
+  -- the token declares what has it
+  pub its_text : (text : List ℕ) → name ≡ Some text → DeclaresName files reads a text → (Some text ≡ Some n) ↔ ((name ≡ Some n) × DeclaresName files reads a n)
+  its_text text is d = (λ e. (is ∙ e, subst (DeclaresName files reads a) (same_Some text n e) d), λ h. sym is ∙ h.0)
+
+  -- it does not
+  pub not_its_text : (text : List ℕ) → name ≡ Some text → (DeclaresName files reads a text → ⊥) → ◌≡◌ {A = Option (List ℕ)} None (Some n) ↔ ((name ≡ Some n) × DeclaresName files reads a n)
+  not_its_text text is never = (λ e. absurd (none-some n e), λ h. absurd (never (subst (DeclaresName files reads a) (sym (same_Some text n (sym is ∙ h.0))) h.1)))
 
 -- what was found is the one name that the token declares, where each that it declares is that one
 pub found_here : (files : List FileOf) (reads : List ReadOf) → AreRead files reads → (file token : ℕ) (name found : Option (List ℕ)) → ((n : List ℕ) → (found ≡ Some n) ↔ ((name ≡ Some n) × DeclaresName files reads (at file token) n)) → (m : List ℕ) → found ≡ Some m → (n : List ℕ) → (found ≡ Some n) ↔ DeclaresName files reads (at file token) n

@@ -1,5 +1,6 @@
 -- The value of an enum of a file, as the file is read.
-use Rattle.std.proofs.Common.{◌≡◌, ℕ, ◌<◌, List, length, find, Option, Some, None, option_and_then, refl, sym, ap, ◌∙◌}
+use Rattle.std.proofs.Common.{◌≡◌, ℕ, ◌<◌, Bool, true, false, if◌then◌else◌, List, length, find, Option, Some, None, option_and_then, refl, sym, ap, ◌∙◌}
+use Rattle.proto_base.proofs.Common.{none-some, same_Some}
 use Rattle.proto_text.proofs.Common.{Lexeme, word_at}
 use Rattle.proto_tree.specs.Tree.{Tree}
 use Rattle.proto_files.proofs.Common.{AreRead, FileOf, IsTreeOf, ReadOf, file_at, read_at, same_tree}
@@ -28,3 +29,13 @@ module _ (files : List FileOf) (reads : List ReadOf) (are : AreRead files reads)
 
   pub no_enum : (word : List ℕ) → None ≡ find (λ b. is_enum_at token b.header) blocks → None ≡ value_of_enum (λ t. text_of files reads (at file t)) word token (blocks_in (read_at reads file).tree)
   no_enum word none = ap (option_and_then (λ (c : BlockOf). value_in (λ t. text_of files reads (at file t)) word c.within)) (none ∙ enum_is)
+
+-- ---- a block that is looked at
+
+pub if_none : (b : Bool) (x : BlockOf) → None ≡ (if b then Some x else None) → b ≡ false
+if_none true x e = absurd (none-some x e)
+if_none false x e = refl
+
+pub if_some : (b : Bool) (x y : BlockOf) → Some y ≡ (if b then Some x else None) → (b ≡ true) × (y ≡ x)
+if_some true x y e = (refl, same_Some y x e)
+if_some false x y e = absurd (none-some y (sym e))

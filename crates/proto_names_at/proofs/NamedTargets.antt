@@ -1,5 +1,5 @@
 -- What a name aims at, and the token that declares it.
-use Rattle.std.proofs.Common.{◌≡◌, ◌↔◌, ℕ, Bool, false, List, [], ◌∷◌, ◌++◌, IsTrue, sym, ap, ap₂, subst, ◌∙◌, inl, inr, Contains, true≢false}
+use Rattle.std.proofs.Common.{◌≡◌, ◌↔◌, ℕ, Bool, List, [], ◌∷◌, ◌++◌, IsTrue, sym, ap, ap₂, subst, ◌∙◌, inl, inr, Contains, true≢false}
 use Rattle.proto_base.proofs.Common.{contains_map}
 use Rattle.proto_case.specs.Camel.{entry_name}
 use Rattle.proto_files.proofs.Common.{HasNoFault, FileOf, ReadOf, AreRead}
@@ -43,10 +43,6 @@ declared_here files clean name a is named place b test reads are =
       λ d. (let e : at a.file a.token ≡ place = t.1.token ∙ ap (λ (z : Target). z.token) (targets_are_one files reads name t.0 d.0 are clean mine d.1) ∙ d.2 in
           test.1 (ap (λ (z : At). z.file) e, ap (λ (z : At). z.token) e)),
     )
-
--- a test that is false, of what does not hold
-pub false_of_none : {P : Type 0} → (P → ⊥) → IsTrue false ↔ P
-false_of_none never = (λ h. absurd (true≢false (sym h)), λ p. absurd (never p))
 
 -- ---- one token declares one name
 

@@ -1,5 +1,5 @@
 -- The words behind one of a reference, as they are gone through.
-use Rattle.std.proofs.Common.{◌≡◌, ◌≢◌, ◌↔◌, ℕ, ◌+◌, ◌<◌, ◌≤◌, ◌==◌, true, false, List, [], ◌∷◌, ◌++◌, length, get_or, drop, map, Option, Some, None, option_map, refl, sym, ap, ap₂, ◌∙◌}
+use Rattle.std.proofs.Common.{◌≡◌, ◌≢◌, ◌↔◌, ℕ, ◌+◌, ◌<◌, ◌≤◌, ◌==◌, true, false, List, [], ◌∷◌, ◌++◌, length, get_or, drop, map, Option, Some, None, IfNone, IfSome, Bor, option_map, refl, sym, ap, ap₂, ◌∙◌}
 use Rattle.proto_base.proofs.Common.{append_cancel_right, cond-true, cond-false, drop_all, front_element, none-some, option_or, same_Some}
 use Rattle.proto_tree.specs.References.{dotted}
 use Rattle.proto_tree.specs.declared.tree.Behind.{Behind}
@@ -55,11 +55,16 @@ words_each word [] = refl
 words_each word (b ∷ bs) = ap (λ ws. word b.item ∷ ws) (words_each word bs)
 
 module _ (whole tail text end : List ℕ) (same : whole ≡ text) (ends : tail ≡ end) where
-  pub its_front : (before : List ℕ) → whole ≡ before ++ tail → (found : List ℕ) → found ≡ before → (front : List ℕ) → (Some found ≡ Some front) ↔ (text ≡ front ++ end)
+  its_front : (before : List ℕ) → whole ≡ before ++ tail → (found : List ℕ) → found ≡ before → (front : List ℕ) → (Some found ≡ Some front) ↔ (text ≡ front ++ end)
   its_front before is found here front = (
     λ e. sym same ∙ is ∙ ap₂ (λ (x y : List ℕ). x ++ y) (sym here ∙ same_Some found front e) ends,
     λ h. ap (λ (z : List ℕ). Some z) (here ∙ append_cancel_right before front tail (sym is ∙ same ∙ h ∙ ap (λ z. front ++ z) (sym ends))),
   )
 
-  pub no_front : ((front : List ℕ) → whole ≢ front ++ tail) → (front : List ℕ) → ◌≡◌ {A = Option (List ℕ)} None (Some front) ↔ (text ≡ front ++ end)
+  no_front : ((front : List ℕ) → whole ≢ front ++ tail) → (front : List ℕ) → ◌≡◌ {A = Option (List ℕ)} None (Some front) ↔ (text ≡ front ++ end)
   no_front never front = (λ e. absurd (none-some front e), λ h. absurd (never front (same ∙ h ∙ ap (λ z. front ++ z) (sym ends))))
+
+  -- what was found before the end, or that there is nothing
+  pub its_end : (o : Option (Bor (List ℕ))) → IfSome o (λ b. whole ≡ b.now ++ tail) → IfNone o ((front : List ℕ) → whole ≢ front ++ tail) → (front : List ℕ) → (option_map (λ (b : Bor (List ℕ)). b.now) o ≡ Some front) ↔ (text ≡ front ++ end)
+  its_end None some none front = no_front none front
+  its_end (Some b) some none front = its_front b.now some b.now refl front

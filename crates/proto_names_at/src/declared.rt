@@ -1,7 +1,6 @@
 //! The name that a token declares.
 
 ghost use Rattle.std.specs.Prelude.{◌≡◌, ◌↔◌, ◌<◌, ℕ, List, IfOk, Some, get_or, length, option_map};
-ghost use Rattle.std.specs.String.{string_bytes};
 ghost use Rattle.proto_files.specs.Faults.{HasNoFault};
 ghost use Rattle.proto_files.specs.FilesRead.{AreRead, ReadOf};
 ghost use Rattle.proto_names_imports.specs.Links.{LinkFaults};
@@ -10,7 +9,7 @@ ghost use Rattle.proto_names_at.specs.DeclaredAt.{text_declared_at};
 ghost use Rattle.proto_names_at.specs.NamesAt.{DeclaresName, IsOnlyName, at_place};
 
 use crate::place::Place;
-use crate::targets::declares;
+use crate::targets::{aim, is_at};
 use proto_base::NoMemory;
 use proto_files::Files;
 use proto_names::{DeclaredNames, Link, SymbolId};
@@ -39,41 +38,47 @@ fn text_declared_at(link: &Link, id: SymbolId, token: u32) -> Option<&str>
 }
 
 /// The name, if there is one and the token declares what has it.
-fn if_declared(
+fn if_declared<'a>(
     alloc: Global,
     files: &Files,
     link: &Link,
-    name: Option<&str>,
+    name: Option<&'a str>,
     place: Place,
-) -> Result<Option<String>, NoMemory>
+) -> Result<Option<&'a str>, NoMemory>
     requires link { IsLinkOf files.now link.now }
     requires linked { HasNoFault (LinkFaults files.now) }
     ensures { IfOk result (λ found. (reads : List ReadOf) → AreRead files.now reads → (n : List ℕ)
-        → (option_map string_bytes found ≡ Some n) ↔ ((option_map (λ text. text.now) name.entry
+        → (option_map (λ text. text.now) found ≡ Some n) ↔ ((option_map (λ text. text.now) name.entry
         ≡ Some n) × DeclaresName files.now reads (at_place place) n)) }
 {
     let Some(name) = name else {
         return Ok(None);
     };
-    if declares(alloc, files, link, name, place)? {
-        Ok(Some(name.to_string(alloc)?))
-    } else {
-        Ok(None)
+    match aim(alloc, files, link, name)? {
+        Some(aim) => {
+            if is_at(aim, place) {
+                Ok(Some(name))
+            } else {
+                Ok(None)
+            }
+        }
+        None => Ok(None),
     }
 }
 
 /// The name of what the token declares, if that may be renamed. Where a map field's entry, with its
 /// key and its value, is declared at the same token, it is the field's.
-pub(crate) fn declared_name(
+pub(crate) fn declared_name<'a>(
     alloc: Global,
     files: &Files,
-    link: &Link,
+    link: &'a Link,
     place: Place,
-) -> Result<Option<String>, NoMemory>
+) -> Result<Option<&'a str>, NoMemory>
     requires link { IsLinkOf files.now link.now }
     requires linked { HasNoFault (LinkFaults files.now) }
     ensures { IfOk result (λ found. IsOnlyName files.now
-        (λ reads. DeclaresName files.now reads (at_place place)) (option_map string_bytes found)) }
+        (λ reads. DeclaresName files.now reads (at_place place))
+        (option_map (λ text. text.now) found)) }
 {
     let declared = link.declared_in(place.file);
     for index in 0..declared.len() {

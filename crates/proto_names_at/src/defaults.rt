@@ -1,7 +1,6 @@
 //! The value that a default means.
 
 ghost use Rattle.std.specs.Prelude.{◌≡◌, ◌↔◌, ◌<◌, ℕ, List, IfOk, Some, length, option_map};
-ghost use Rattle.std.specs.String.{string_bytes};
 ghost use Rattle.proto_files.specs.Faults.{HasNoFault};
 ghost use Rattle.proto_files.specs.FilesRead.{AreRead, ReadOf};
 ghost use Rattle.proto_names_imports.specs.Links.{LinkFaults, text_of};
@@ -36,18 +35,18 @@ fn type_meant(link: &Link, file: u32, kind: &FieldType) -> Option<SymbolId>
 }
 
 /// The name of the value that is the word, of the enum that is this symbol.
-fn value_name(
+fn value_name<'a>(
     alloc: Global,
     files: &Files,
-    link: &Link,
+    link: &'a Link,
     id: SymbolId,
     word: &str,
-) -> Result<Option<String>, NoMemory>
+) -> Result<Option<&'a str>, NoMemory>
     requires link { IsLinkOf files.now link.now }
     requires linked { HasNoFault (LinkFaults files.now) }
     ensures { IfOk result (λ found. (reads : List ReadOf) → AreRead files.now reads
         → (enum : List (List ℕ)) → ArePlain enum → name_text link.now id.row ≡ Some (joined enum)
-        → (n : List ℕ) → (option_map string_bytes found ≡ Some n)
+        → (n : List ℕ) → (option_map (λ text. text.now) found ≡ Some n)
         ↔ ((t : Target) × IsNamed files.now reads n t × (t.enum ≡ Some enum)
         × (text_of files.now reads t.token ≡ word.now))) }
 {
@@ -63,18 +62,18 @@ fn value_name(
 }
 
 /// The name of the value that the token means, if it is a default.
-pub(crate) fn default_name(
+pub(crate) fn default_name<'a>(
     alloc: Global,
     files: &Files,
-    link: &Link,
+    link: &'a Link,
     place: Place,
-) -> Result<Option<String>, NoMemory>
+) -> Result<Option<&'a str>, NoMemory>
     requires file { place.file < length files.now }
     requires link { IsLinkOf files.now link.now }
     requires linked { HasNoFault (LinkFaults files.now) }
     ensures { IfOk result (λ found. IsOnlyName files.now
         (λ reads. DefaultsToName files.now reads (at_place place))
-        (option_map string_bytes found)) }
+        (option_map (λ text. text.now) found)) }
 {
     let Some(kind) = defaulted_type(alloc, files, place)? else {
         return Ok(None);

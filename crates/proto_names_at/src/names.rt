@@ -6,7 +6,7 @@ ghost use Rattle.proto_files.specs.Faults.{HasNoFault};
 ghost use Rattle.proto_names_imports.specs.Links.{LinkFaults};
 ghost use Rattle.proto_names_rules.specs.Grown.{at};
 ghost use Rattle.proto_names.specs.LinkOfFiles.{IsLinkOf};
-ghost use Rattle.proto_names_at.specs.NamesAt.{IsNameAt, IsOnlyName, UsesName, at_place};
+ghost use Rattle.proto_names_at.specs.NamesAt.{IsNameAt, at_place};
 
 use crate::declared::declared_name;
 use crate::defaults::default_name;
@@ -17,44 +17,29 @@ use proto_files::Files;
 use proto_names::Link;
 use std::alloc::Global;
 
-/// The name for which the token stands as a word of a reference or as a default.
-fn used_name(
+/// The name for which a token of one of the files stands: it declares it, is a word of a reference to
+/// it, or a default that means it.
+fn name_in_file<'a>(
     alloc: Global,
     files: &Files,
-    link: &Link,
+    link: &'a Link,
     place: Place,
-) -> Result<Option<String>, NoMemory>
+) -> Result<Option<&'a str>, NoMemory>
     requires file { place.file < length files.now }
     requires link { IsLinkOf files.now link.now }
     requires linked { HasNoFault (LinkFaults files.now) }
-    ensures { IfOk result (λ found. IsOnlyName files.now
-        (λ reads. UsesName files.now reads (at_place place)) (option_map string_bytes found)) }
+    ensures { IfOk result (λ found.
+        IsNameAt files.now (at_place place) (option_map (λ text. text.now) found)) }
 {
+    let declared = declared_name(alloc, files, link, place)?;
+    if declared.is_some() {
+        return Ok(declared);
+    }
     let found = referred_name(alloc, files, link, place)?;
     if found.is_some() {
         return Ok(found);
     }
     default_name(alloc, files, link, place)
-}
-
-/// The same of a token of one of the files, whether it declares the name or uses it.
-fn name_in_file(
-    alloc: Global,
-    files: &Files,
-    link: &Link,
-    place: Place,
-) -> Result<Option<String>, NoMemory>
-    requires file { place.file < length files.now }
-    requires link { IsLinkOf files.now link.now }
-    requires linked { HasNoFault (LinkFaults files.now) }
-    ensures { IfOk result (λ found.
-        IsNameAt files.now (at_place place) (option_map string_bytes found)) }
-{
-    let found = declared_name(alloc, files, link, place)?;
-    if found.is_some() {
-        return Ok(found);
-    }
-    used_name(alloc, files, link, place)
 }
 
 /// The full name, without a leading dot, that stands at the token with this index of the file with
@@ -76,5 +61,8 @@ pub fn name_at(
     if file as usize >= files.len() {
         return Ok(None);
     }
-    name_in_file(alloc, files, link, Place { file, token })
+    match name_in_file(alloc, files, link, Place { file, token })? {
+        Some(name) => Ok(Some(name.to_string(alloc)?)),
+        None => Ok(None),
+    }
 }

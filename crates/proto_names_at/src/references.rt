@@ -15,7 +15,7 @@ ghost use Rattle.proto_names_at.specs.NamesAt.{HasTarget, IsOnlyName, RefersToNa
 ghost use Rattle.proto_names_at.specs.References.{behind_token, word_meant, word_of};
 
 use crate::place::Place;
-use crate::targets::has_target;
+use crate::targets::aim;
 use proto_base::NoMemory;
 use proto_files::{Files, Words, are_read};
 use proto_names::{Link, Meant};
@@ -94,39 +94,36 @@ fn before<'a>(text: &'a str, end: &str) -> Option<&'a str>
 }
 
 /// What the name that a reference means has before the words behind one of its words.
-fn front_of(
+fn front_of<'a>(
     alloc: Global,
-    link: &Link,
+    link: &'a Link,
     words: &Words,
     word: WordMeant,
-) -> Result<Option<String>, NoMemory>
+) -> Result<Option<&'a str>, NoMemory>
     ensures { IfOk result (λ found. (text : List ℕ) → name_text link.now word.entry.meant.row ≡ Some text
-        → (front : List ℕ) → (option_map string_bytes found ≡ Some front)
+        → (front : List ℕ) → (option_map (λ t. t.now) found ≡ Some front)
         ↔ (text ≡ front ++ dotted_text (map (word_at words.now) (word_of word.entry).behind))) }
 {
     let Some(text) = link.name_of(word.meant.symbol()) else {
         return Ok(None);
     };
     let end = dotted_text(alloc, words, word.behind)?;
-    match before(text, end.as_str()) {
-        Some(front) => Ok(Some(front.to_string(alloc)?)),
-        None => Ok(None),
-    }
+    Ok(before(text, end.as_str()))
 }
 
 /// The name for which the token stands as a word of a reference, if what has the name may be
 /// renamed.
-fn name_of_word(
+fn name_of_word<'a>(
     alloc: Global,
     files: &Files,
-    link: &Link,
+    link: &'a Link,
     place: Place,
-) -> Result<Option<String>, NoMemory>
+) -> Result<Option<&'a str>, NoMemory>
     requires file { place.file < length files.now }
     requires link { IsLinkOf files.now link.now }
     requires linked { HasNoFault (LinkFaults files.now) }
     ensures { IfOk result (λ found. (reads : List ReadOf) → AreRead files.now reads → (n : List ℕ)
-        → ((option_map string_bytes found ≡ Some n) × HasTarget files.now reads n)
+        → ((option_map (λ text. text.now) found ≡ Some n) × HasTarget files.now reads n)
         ↔ RefersToName files.now reads (at_place place) n) }
 {
     are_read(files);
@@ -141,24 +138,24 @@ fn name_of_word(
 
 /// The name for which the token stands as a word of a reference. A reference that means a name
 /// stands for it with its last word, and each word before that for the name before.
-pub(crate) fn referred_name(
+pub(crate) fn referred_name<'a>(
     alloc: Global,
     files: &Files,
-    link: &Link,
+    link: &'a Link,
     place: Place,
-) -> Result<Option<String>, NoMemory>
+) -> Result<Option<&'a str>, NoMemory>
     requires file { place.file < length files.now }
     requires link { IsLinkOf files.now link.now }
     requires linked { HasNoFault (LinkFaults files.now) }
     ensures { IfOk result (λ found. IsOnlyName files.now
-        (λ reads. RefersToName files.now reads (at_place place)) (option_map string_bytes found)) }
+        (λ reads. RefersToName files.now reads (at_place place))
+        (option_map (λ text. text.now) found)) }
 {
     let Some(name) = name_of_word(alloc, files, link, place)? else {
         return Ok(None);
     };
-    if has_target(alloc, files, link, name.as_str())? {
-        Ok(Some(name))
-    } else {
-        Ok(None)
+    match aim(alloc, files, link, name)? {
+        Some(_) => Ok(Some(name)),
+        None => Ok(None),
     }
 }

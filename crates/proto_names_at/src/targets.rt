@@ -5,8 +5,8 @@ ghost use Rattle.proto_files.specs.Faults.{HasNoFault};
 ghost use Rattle.proto_files.specs.FilesRead.{AreRead, ReadOf};
 ghost use Rattle.proto_names_imports.specs.Links.{LinkFaults};
 ghost use Rattle.proto_names.specs.LinkOfFiles.{IsLinkOf};
-ghost use Rattle.proto_edit_captures.specs.Aims.{IsAimOf, IsNoTarget};
-ghost use Rattle.proto_names_at.specs.NamesAt.{DeclaresName, HasTarget, at_place};
+ghost use Rattle.proto_edit_captures.specs.Aims.{IsAimOf};
+ghost use Rattle.proto_names_at.specs.NamesAt.{HasTarget};
 
 use crate::place::Place;
 use proto_base::NoMemory;
@@ -15,22 +15,8 @@ use proto_files::Files;
 use proto_names::Link;
 use std::alloc::Global;
 
-/// That a name aims at nothing, where memory was there to see it.
-fn no_target(files: &Files, name: &str, cause: NoTarget) -> Result<(), NoMemory>
-    requires linked { HasNoFault (LinkFaults files.now) }
-    requires cause { IsNoTarget files.now name.now cause }
-    ensures { IfOk result (λ _. (reads : List ReadOf) → AreRead files.now reads
-        → HasTarget files.now reads name.now → ⊥) }
-{
-    match cause {
-        NoTarget::Unknown => Ok(()),
-        NoTarget::NotAllowed => Ok(()),
-        NoTarget::NoMemory => Err(NoMemory),
-    }
-}
-
 /// What the name aims at, if it is that of a symbol that may be renamed.
-fn aim<'a>(
+pub(crate) fn aim<'a>(
     alloc: Global,
     files: &Files,
     link: &Link,
@@ -45,52 +31,15 @@ fn aim<'a>(
 {
     match target(alloc, files, link, name) {
         Ok(aim) => Ok(Some(aim)),
-        Err(cause) => {
-            no_target(files, name, cause)?;
-            Ok(None)
-        }
+        Err(NoTarget::Unknown) => Ok(None),
+        Err(NoTarget::NotAllowed) => Ok(None),
+        Err(NoTarget::NoMemory) => Err(NoMemory),
     }
 }
 
-/// Whether the name is that of a symbol that may be renamed.
-pub(crate) fn has_target(
-    alloc: Global,
-    files: &Files,
-    link: &Link,
-    name: &str,
-) -> Result<bool, NoMemory>
-    requires link { IsLinkOf files.now link.now }
-    requires linked { HasNoFault (LinkFaults files.now) }
-    ensures { IfOk result (λ is. (reads : List ReadOf) → AreRead files.now reads
-        → IsTrue is ↔ HasTarget files.now reads name.now) }
-{
-    match aim(alloc, files, link, name)? {
-        Some(_) => Ok(true),
-        None => Ok(false),
-    }
-}
-
-fn is_at(aim: Aim, place: Place) -> bool
+/// Whether the aim stands at the token.
+pub(crate) fn is_at(aim: Aim, place: Place) -> bool
     ensures { IsTrue result ↔ ((aim.entry.file ≡ place.file) × (aim.entry.token ≡ place.token)) }
 {
     aim.file == place.file && aim.token == place.token
-}
-
-/// Whether the token declares what has the name, and that may be renamed.
-pub(crate) fn declares(
-    alloc: Global,
-    files: &Files,
-    link: &Link,
-    name: &str,
-    place: Place,
-) -> Result<bool, NoMemory>
-    requires link { IsLinkOf files.now link.now }
-    requires linked { HasNoFault (LinkFaults files.now) }
-    ensures { IfOk result (λ is. (reads : List ReadOf) → AreRead files.now reads
-        → IsTrue is ↔ DeclaresName files.now reads (at_place place) name.now) }
-{
-    match aim(alloc, files, link, name)? {
-        Some(aim) => Ok(is_at(aim, place)),
-        None => Ok(false),
-    }
 }

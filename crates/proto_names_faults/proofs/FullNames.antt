@@ -1,5 +1,5 @@
 -- The full names of declarations as text.
-use Rattle.std.proofs.Common.{◌≡◌, ℕ, suc, ◌+◌, ◌<◌, List, [], ◌∷◌, ◌++◌, length, get_or, map, take, drop, string_bytes, refl, sym, ◌∙◌, ap, subst, inl, inr, arith, All, Contains, take-append-drop, length-take-le}
+use Rattle.std.proofs.Common.{◌≡◌, ℕ, zero, suc, ◌+◌, ◌<◌, List, [], ◌∷◌, ◌++◌, append_assoc, length, get_or, map, take, drop, string_bytes, refl, sym, ◌∙◌, ap, subst, inl, inr, arith, All, Contains, take-append-drop, length-take-le}
 use Rattle.std.specs.Cow.{cow_str_bytes}
 use Rattle.std.proofs.Math.ListN.{get_or-map}
 use Rattle.proto_base.proofs.Common.{All-contains, Contains-append_cases, Contains-append_left, Contains-get_or, cases_lt, contains_cases, contains_head, contains_later, get_or-map as get_or-map_within, get_or_past, length-map, map-append, Vec}
@@ -74,7 +74,7 @@ above_text xs ds (Below k) e =
     ∙ ap (λ (ts : List (List ℕ)). get_or ts k []) (map_map name_at (λ x. x.text) ds ∙ sym (map_map (λ d. d.name) joined ds))
     ∙ get_or-map joined (map (λ d. d.name) ds) k []
 
-pub text_turn : (file : ℕ) (ss : List Spelled) (i : ℕ) (s : Spelled) (own next : List NamedText) (n : NamedText) → AreSpelled ss → i < length ss → s ≡ get_or ss i s → map shown own ≡ map name_at (named_on file [] (take i ss)) → next ≡ own ++ n ∷ []
+text_turn : (file : ℕ) (ss : List Spelled) (i : ℕ) (s : Spelled) (own next : List NamedText) (n : NamedText) → AreSpelled ss → i < length ss → s ≡ get_or ss i s → map shown own ≡ map name_at (named_on file [] (take i ss)) → next ≡ own ++ n ∷ []
     → string_bytes n.text ≡ under (text_above (map shown own) s.above) (cow_str_bytes s.word) → n.kind ≡ s.kind → n.file ≡ file → n.token ≡ s.token → map shown next ≡ map name_at (named_on file [] (take (i + 1) ss))
 text_turn file ss i s own next n ok l is before new text kind at_file token =
     let ds = named_on file [] (take i ss) in
@@ -91,13 +91,34 @@ text_turn file ss i s own next n ok l is before new text kind at_file token =
 pub text_at : (before : List NamedText) (k : ℕ) (d : NamedText) → k < length before → get_or (map (λ x. x.text) (map shown before)) k [] ≡ string_bytes (get_or before k d).text
 text_at before k d l = ap (λ (ts : List (List ℕ)). get_or ts k []) (map_map shown (λ (x : NameAt). x.text) before) ∙ get_or-map_within (λ (n : NamedText). string_bytes n.text) before k d [] l
 
+-- those that were added of the file
+drop_shown : (n : ℕ) (xs : List NamedText) → map shown (drop n xs) ≡ drop n (map shown xs)
+drop_shown zero xs = refl
+drop_shown (suc n) [] = refl
+drop_shown (suc n) (x ∷ xs) = drop_shown n xs
+
+behind_front : (old : List NamedText) (more : List NameAt) → drop (length old) (map shown old ++ more) ≡ more
+behind_front [] more = refl
+behind_front (x ∷ old) more = behind_front old more
+
+-- one declaration more, behind those of other files
+pub texts_turn : (file : ℕ) (ss : List Spelled) (i : ℕ) (s : Spelled) (old all next own : List NamedText) (n : NamedText) → AreSpelled ss → i < length ss → s ≡ get_or ss i s → own ≡ drop (length old) all
+    → map shown all ≡ map shown old ++ map name_at (named_on file [] (take i ss)) → next ≡ all ++ n ∷ []
+    → string_bytes n.text ≡ under (text_above (map shown own) s.above) (cow_str_bytes s.word) → n.kind ≡ s.kind → n.file ≡ file → n.token ≡ s.token → map shown next ≡ map shown old ++ map name_at (named_on file [] (take (i + 1) ss))
+texts_turn file ss i s old all next own n ok l is at_end before new text kind at_file token =
+    let done = map name_at (named_on file [] (take i ss)) in
+    let here : map shown own ≡ done = ap (map shown) at_end ∙ drop_shown (length old) all ∙ ap (drop (length old)) before ∙ behind_front old done in
+    let turn : map shown (own ++ n ∷ []) ≡ map name_at (named_on file [] (take (i + 1) ss)) = text_turn file ss i s own (own ++ n ∷ []) n ok l is here refl text kind at_file token in
+    ap (map shown) new ∙ map-append shown all (n ∷ []) ∙ ap (λ (xs : List NameAt). xs ++ shown n ∷ []) before ∙ append_assoc (map shown old) done (shown n ∷ [])
+    ∙ ap (λ (xs : List NameAt). map shown old ++ xs) (ap (λ (xs : List NameAt). xs ++ shown n ∷ []) (sym here) ∙ sym (map-append shown own (n ∷ [])) ∙ turn)
+
 -- the declarations of one file more
-pub file_texts_turn : (fs : List (List Spelled)) (k : ℕ) (all next own : List NamedText) → k < length fs → map shown all ≡ map name_at (all_named 0 (take k fs)) → next ≡ all ++ own → map shown own ≡ map name_at (named_in k (get_or fs k []))
+pub file_texts_turn : (fs : List (List Spelled)) (k : ℕ) (all next : List NamedText) → k < length fs → map shown all ≡ map name_at (all_named 0 (take k fs)) → map shown next ≡ map shown all ++ map name_at (named_in k (get_or fs k []))
     → map shown next ≡ map name_at (all_named 0 (take (k + 1) fs))
-file_texts_turn fs k all next own l before new here =
+file_texts_turn fs k all next l before new =
     let n : 0 + length (take k fs) ≡ k = let q = length-take-le k fs (omega (arith, l)) in omega (arith, q) in
-    ap (map shown) new ∙ map-append shown all own
-    ∙ ap (λ (xs : List NameAt). xs ++ map shown own) before ∙ ap (λ (xs : List NameAt). map name_at (all_named 0 (take k fs)) ++ xs) (here ∙ ap (λ (m : ℕ). map name_at (named_in m (get_or fs k []))) (sym n))
+    new
+    ∙ ap (λ (xs : List NameAt). xs ++ map name_at (named_in k (get_or fs k []))) before ∙ ap (λ (m : ℕ). map name_at (all_named 0 (take k fs)) ++ map name_at (named_in m (get_or fs k []))) (sym n)
     ∙ sym (map-append name_at (all_named 0 (take k fs)) (named_in (0 + length (take k fs)) (get_or fs k [])))
     ∙ ap (map name_at) (sym (all_more 0 (take k fs) (get_or fs k [])) ∙ ap (all_named 0) (sym (take_more fs k [] l)))
 

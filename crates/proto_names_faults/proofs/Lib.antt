@@ -4,6 +4,7 @@ mod CycleFaults
 mod EachFile
 mod FileFaults
 mod FullNames
+mod ImportTurns
 mod InOrder
 mod KindFaults
 mod Listed

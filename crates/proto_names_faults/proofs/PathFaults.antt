@@ -2,13 +2,11 @@
 use Rattle.std.proofs.Common.{◌≡◌, ◌↔◌, ◌⊎◌, ◌||◌, ℕ, zero, suc, ◌+◌, ◌<◌, Bool, true, false, not, List, [], ◌∷◌, ◌++◌, length, get_or, take, map, string_bytes, Option, Some, None, refl, sym, ap, subst, ◌∙◌, inl, inr, arith, Contains, bytes_eq, append_assoc, append-nil, is_some, length-take-le, true≢false}
 use Rattle.std.specs.List.{list_any}
 use Rattle.proto_base.proofs.Common.{Contains-append_cases, Contains-append_left, Contains-append_right, any_from, any_to, contains_cases, contains_head, contains_later, contains_map, from_map, list_any_more, map-append, none-some, same_from_word, word_from_same}
-use Rattle.proto_base.specs.declared.fault.FaultKind.TheVariants.{DoubleImport, UnknownImport}
 use Rattle.proto_names_rules.proofs.Common.{AskedImport, Fault, Follows, after_follows, at, fault, file_with_path, follows_after}
 use Rattle.proto_names_imports.specs.Common.{PathFault, all_asked, asked_by, double, unknown}
 use Rattle.proto_names_imports.specs.declared.import.WrittenImport.{WrittenImport}
 use Rattle.proto_names_imports.proofs.Common.{take_more}
-use Rattle.proto_names_faults.specs.Common.{AreAdded, Flaw, kind_if}
-use Rattle.proto_names_faults.proofs.Added.{IsNew, added_as, added_both, new_if}
+use Rattle.proto_names_faults.specs.Common.{IsDouble, IsUnknown}
 
 -- an earlier import of the same file with the same path
 abbrev Earlier : AskedImport → AskedImport → Type 0
@@ -96,20 +94,18 @@ module _ (paths : List (List ℕ)) where
     abbrev own : AskedImport
     own = asked_by file w
 
-    abbrev IsUnknown : Fault → Type 0
-    IsUnknown f = (file_with_path paths own.path ≡ None) × (f ≡ fault own.place 10)
+    -- an import before it has its path
+    abbrev IsAgain : Fault → Type 0
+    IsAgain f = ((v : WrittenImport) × Contains (take i ws) v × (string_bytes v.path ≡ string_bytes w.path)) × (f ≡ fault own.place 11)
 
-    abbrev IsDouble : Fault → Type 0
-    IsDouble f = ((v : WrittenImport) × Contains (take i ws) v × (string_bytes v.path ≡ string_bytes w.path)) × (f ≡ fault own.place 11)
-
-    one : (f : Fault) → Faults (own ∷ []) f → IsUnknown f
+    one : (f : Fault) → Faults (own ∷ []) f → IsUnknown paths file w f
     one f (unknown a c n) = elim (contains_cases own a [] c) [
       | inl e ↦ (ap (λ (z : AskedImport). file_with_path paths z.path) e ∙ n, ap (λ (z : AskedImport). fault z.place 10) (sym e))
       | inr d ↦ absurd (omega (arith, d.1))
     ]
     one f (double a h) = absurd (let b = h.3 in let m = h.4 in omega (arith, b, m))
 
-    first_cases : (f : Fault) → Faults (before ++ own ∷ []) f → (Faults before f ⊎ IsUnknown f) ⊎ IsDouble f
+    first_cases : (f : Fault) → Faults (before ++ own ∷ []) f → (Faults before f ⊎ IsUnknown paths file w f) ⊎ IsAgain f
     first_cases f h = elim (faults_cases before (own ∷ []) f h) [
       | inl b ↦ inl (inl b)
       | inr (inl o) ↦ inl (inr (one f o))
@@ -121,7 +117,7 @@ module _ (paths : List (List ℕ)) where
       ]
     ]
 
-    first_from : (f : Fault) → (Faults before f ⊎ IsUnknown f) ⊎ IsDouble f → Faults (before ++ own ∷ []) f
+    first_from : (f : Fault) → (Faults before f ⊎ IsUnknown paths file w f) ⊎ IsAgain f → Faults (before ++ own ∷ []) f
     first_from f (inl (inl b)) = faults_left before (own ∷ []) f b
     first_from f (inl (inr u)) = subst (Faults (before ++ own ∷ [])) (sym u.1) (unknown own (Contains-append_right before (own ∷ []) own (contains_head own [])) u.0)
     first_from f (inr d) =
@@ -131,32 +127,22 @@ module _ (paths : List (List ℕ)) where
     list_is : map (asked_by file) (take (i + 1) ws) ≡ before ++ own ∷ []
     list_is = ap (map (asked_by file)) (take_more ws i w l ∙ ap (λ z. take i ws ++ z ∷ []) (sym is)) ∙ map-append (asked_by file) (take i ws) (w ∷ [])
 
-    pub import_turn : (token : ℕ) → token ≡ w.token → (is_unknown is_double : Bool) → ((is_unknown ≡ true) ↔ (file_with_path paths (string_bytes w.path) ≡ None)) → is_double ≡ list_any (λ v. bytes_eq (string_bytes v.path) (string_bytes w.path)) (take i ws)
-        → (old found mid next : List Flaw) → AreAdded (Faults before) old found → AreAdded (IsNew file token (kind_if is_unknown UnknownImport)) found mid → AreAdded (IsNew file token (kind_if is_double DoubleImport)) mid next
-        → AreAdded (Faults (map (asked_by file) (take (i + 1) ws))) old next
-    import_turn token t is_unknown is_double u d old found mid next first second third =
-        subst (λ (xs : List AskedImport). AreAdded (Faults xs) old next) (sym list_is)
-        (added_both (λ f. Faults before f ⊎ IsUnknown f) IsDouble (Faults (before ++ own ∷ [])) old mid next (λ f. (first_from f, first_cases f))
-        (added_both (Faults before) IsUnknown (λ f. Faults before f ⊎ IsUnknown f) old found mid (λ f. (λ h. h, λ h. h)) first (added_as (IsNew file token (kind_if is_unknown UnknownImport)) IsUnknown found mid as_unknown second))
-        (added_as (IsNew file token (kind_if is_double DoubleImport)) IsDouble mid next as_double third))
-      where
-        as_unknown : (f : Fault) → IsNew file token (kind_if is_unknown UnknownImport) f ↔ IsUnknown f
-        as_unknown f =
-            let n = new_if file token is_unknown UnknownImport f in (
-              λ h. (let k = n.0 h in (u.0 k.0, k.1 ∙ ap (λ (z : ℕ). fault (at file z) 10) t)),
-              λ h. n.1 (u.1 h.0, h.1 ∙ ap (λ (z : ℕ). fault (at file z) 10) (sym t)),
-            )
+    module _ (is_double : Bool) (d : is_double ≡ list_any (λ v. bytes_eq (string_bytes v.path) (string_bytes w.path)) (take i ws)) where
+      abbrev has_path : WrittenImport → Bool
+      has_path v = bytes_eq (string_bytes v.path) (string_bytes w.path)
 
-        as_double : (f : Fault) → IsNew file token (kind_if is_double DoubleImport) f ↔ IsDouble f
-        as_double f =
-            let n = new_if file token is_double DoubleImport f in
-            let test = λ (v : WrittenImport). bytes_eq (string_bytes v.path) (string_bytes w.path) in (
-              λ h.
-                  (let k = n.0 h in
-                  let v = any_to test (take i ws) (sym d ∙ k.0) in
-                  ((v.0, v.1, word_from_same (string_bytes v.0.path) (string_bytes w.path) v.2), k.1 ∙ ap (λ (z : ℕ). fault (at file z) 11) t)),
-              λ h. n.1 (d ∙ any_from test (take i ws) h.0.0 h.0.1 (same_from_word (string_bytes h.0.0.path) (string_bytes w.path) h.0.2), h.1 ∙ ap (λ (z : ℕ). fault (at file z) 11) (sym t)),
-            )
+      again : (f : Fault) → IsDouble file w is_double f → IsAgain f
+      again f h = (let v = any_to has_path (take i ws) (sym d ∙ h.0) in ((v.0, v.1, word_from_same (string_bytes v.0.path) (string_bytes w.path) v.2), h.1))
+
+      from_again : (f : Fault) → IsAgain f → IsDouble file w is_double f
+      from_again f h = (d ∙ any_from has_path (take i ws) h.0.0 h.0.1 (same_from_word (string_bytes h.0.0.path) (string_bytes w.path) h.0.2), h.1)
+
+      -- the faults of paths with one import more
+      pub path_more : (f : Fault) → (Faults before f ⊎ (IsUnknown paths file w f ⊎ IsDouble file w is_double f)) ↔ Faults (map (asked_by file) (take (i + 1) ws)) f
+      path_more f = (
+        λ h. subst (λ (xs : List AskedImport). Faults xs f) (sym list_is) (first_from f (elim h [ inl b ↦ inl (inl b) | inr (inl u) ↦ inl (inr u) | inr (inr g) ↦ inr (again f g) ])),
+        λ h. elim (first_cases f (subst (λ (xs : List AskedImport). Faults xs f) list_is h)) [ inl (inl b) ↦ inl b | inl (inr u) ↦ inr (inl u) | inr g ↦ inr (inr (from_again f g)) ],
+      )
 
   no_import : (f : Fault) → Faults [] f → ⊥
   no_import f (unknown a c n) = omega (arith, c.1)
@@ -206,22 +192,20 @@ asked_of n (suc k) (ws ∷ fs) a l c =
     let z : n + suc k ≡ suc n + k = omega arith in
     Contains-append_right (map (asked_by n) ws) (all_asked (suc n) fs) a (asked_of (suc n) k fs a (omega (arith, l)) (subst (λ m. Contains (map (asked_by m) (get_or fs k [])) a) z c))
 
-pub file_turn : (paths : List (List ℕ)) (fs : List (List WrittenImport)) (k : ℕ) → k < length fs → (old found next : List Flaw) → AreAdded (PathFault paths (all_asked 0 (take k fs))) old found → AreAdded (PathFault paths (map (asked_by k) (get_or fs k []))) found next
-    → AreAdded (PathFault paths (all_asked 0 (take (k + 1) fs))) old next
-file_turn paths fs k l old found next first second =
+-- the faults of paths with one file more
+pub path_file : (paths : List (List ℕ)) (fs : List (List WrittenImport)) (k : ℕ) → k < length fs → (f : Fault) → (PathFault paths (all_asked 0 (take k fs)) f ⊎ PathFault paths (map (asked_by k) (get_or fs k [])) f) ↔ PathFault paths (all_asked 0 (take (k + 1) fs)) f
+path_file paths fs k l f =
     let front = all_asked 0 (take k fs) in
     let own = map (asked_by k) (get_or fs k []) in
     let n : 0 + length (take k fs) ≡ k = let q = length-take-le k fs (omega (arith, l)) in omega (arith, q) in
     let e : all_asked 0 (take (k + 1) fs) ≡ front ++ own = ap (all_asked 0) (take_more fs k [] l) ∙ asked_more 0 (take k fs) (get_or fs k []) ∙ ap (λ (m : ℕ). front ++ map (asked_by m) (get_or fs k [])) n in
-    subst (λ (xs : List AskedImport). AreAdded (PathFault paths xs) old next) (sym e)
-    (added_both (PathFault paths front) (PathFault paths own) (PathFault paths (front ++ own)) old found next
+    subst (λ (xs : List AskedImport). (PathFault paths front f ⊎ PathFault paths own f) ↔ PathFault paths xs f) (sym e)
     (apart_faults paths front own (λ x y cx cy same.
     (let r = asked_in 0 (take k fs) x cx in
     let lr = r.1 in
     let fx = r.2 in
     let fy = in_file k (get_or fs k []) y cy in
-    omega (arith, lr, fx, fy, same, n))))
-    first second)
+    omega (arith, lr, fx, fy, same, n))) f)
 
 -- there is none
 pub none_is : {X : Type 0} (b : Bool) (o : Option X) → is_some o ≡ not b → (b ≡ true) ↔ (o ≡ None)

@@ -1,6 +1,6 @@
 -- Flaws: faults by the file and the token that they stand at, before they have a path and an
 -- offset.
-use Rattle.std.specs.Prelude.{◌≡◌, ◌↔◌, ◌⊎◌, ℕ, Bool, if◌then◌else◌, List, [], ◌∷◌, length, get_or, map, Option, Some, None}
+use Rattle.std.specs.Prelude.{◌≡◌, ◌↔◌, ◌⊎◌, ℕ, Bool, if◌then◌else◌, List, [], ◌∷◌, ◌++◌, length, get_or, map, Option, Some, None}
 use Rattle.std.specs.List.{AllPairs, Contains}
 use Rattle.proto_base.specs.FaultTable.{kind_number}
 use Rattle.proto_base.specs.declared.fault.Fault.{Fault as FoundFault}
@@ -39,6 +39,11 @@ AreAdded Says old new =
 -- the fault stands where the flaw does
 abbrev pub StandsAtFlaw : List FileOf → Flaw → FaultAt → Type 0
 StandsAtFlaw files w x = StandsAtToken files w.file w.token w.kind x
+
+-- the fault that stands where the flaw does was added
+abbrev pub AddsThere : List FileOf → Flaw → List FoundFault → List FoundFault → Type 0
+AddsThere files w old new =
+    (x : FoundFault) × (new ≡ old ++ x ∷ []) × StandsAtFlaw files w (fault_at x)
 
 -- for each flaw, the fault that stands there
 pub record AreLocated (files : List FileOf) (flaws : List Flaw) (faults : List FoundFault)

@@ -54,8 +54,8 @@ fn clash_flaws(alloc: Global, files: &[Vec<Spelled>]) -> Result<Vec<Flaw>, NoMem
         (ClashFault (all_named 0 (map (λ v. v.items) files.now))) ws.items) }
 {
     let all = named_texts(alloc, files)?;
-    let packages = package_names(alloc, &all)?;
-    clashes(alloc, &all, packages)
+    let mut taken = package_names(alloc, &all)?;
+    clashes(alloc, &all, &mut taken)
 }
 
 /// The names of the packages, as text.
@@ -73,21 +73,21 @@ fn package_names(alloc: Global, all: &[NamedText]) -> Result<HashSet<String>, No
 }
 
 /// The flaws of all that is no package and has the name of a package, or of what stands before it.
+/// The names of packages are taken.
 fn clashes(
     alloc: Global,
     all: &[NamedText],
-    packages: HashSet<String>,
+    taken: &mut HashSet<String>,
 ) -> Result<Vec<Flaw>, NoMemory>
     requires { (text : List ℕ)
-        → contains_text packages text ≡ list_any (is_package_named text) (map shown all.now) }
+        → contains_text taken.old text ≡ list_any (is_package_named text) (map shown all.now) }
     ensures { IfOk result (λ ws. AreFlawsOf (IsClash (map shown all.now) (map shown all.now))
         ws.items) }
 {
-    let mut taken = packages;
     let mut found = Vec::new(alloc);
     for one in all {
         if !one.kind.is_package() {
-            let is_taken = take_name(alloc, &mut taken, one.text.as_str())?;
+            let is_taken = take_name(alloc, taken, one.text.as_str())?;
             add_flaw(
                 &mut found,
                 one.file,

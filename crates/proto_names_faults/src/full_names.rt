@@ -1,6 +1,6 @@
 //! The full names of declarations as text.
 
-ghost use Rattle.std.specs.Prelude.{◌≡◌, ◌≤◌, ◌^◌, length, map, string_bytes, IfOk, OnOk};
+ghost use Rattle.std.specs.Prelude.{◌≡◌, ◌++◌, ◌≤◌, ◌^◌, length, map, string_bytes, IfOk, OnOk};
 ghost use Rattle.std.specs.Cow.{cow_str_bytes};
 ghost use Rattle.std.specs.List.{All};
 ghost use Rattle.proto_names_outline.specs.Listing.{needs};
@@ -36,28 +36,34 @@ pub(crate) fn named_texts(alloc: Global, files: &[Vec<Spelled>]) -> Result<Vec<N
 {
     let mut all = Vec::new(alloc);
     for file in 0..files.len() {
-        let mut own = file_texts(alloc, file as u32, &files[file])?;
-        all.append(&mut own)?;
+        add_file_texts(alloc, file as u32, &files[file], &mut all)?;
     }
     Ok(all)
 }
 
-/// The declarations of one file.
-fn file_texts(alloc: Global, file: u32, spelled: &[Spelled]) -> Result<Vec<NamedText>, NoMemory>
+/// Adds the declarations of one file.
+fn add_file_texts(
+    alloc: Global,
+    file: u32,
+    spelled: &[Spelled],
+    all: &mut Vec<NamedText>,
+) -> Result<(), NoMemory>
     requires { AreSpelled spelled.now }
-    ensures { IfOk result (λ own. map shown own.items ≡ map name_at (named_in file spelled.now)) }
+    ensures { OnOk result (map shown all.new.items
+        ≡ map shown all.old.items ++ map name_at (named_in file spelled.now)) }
 {
-    let mut own = Vec::with_capacity(alloc, spelled.len())?;
+    let first = all.len();
     for one in spelled {
-        let text = full_text(alloc, &own, one)?;
-        own.push(NamedText {
+        let (_, own) = all.as_slice().split_at(first);
+        let text = full_text(alloc, own, one)?;
+        all.push(NamedText {
             text,
             kind: one.kind,
             file,
             token: one.token,
         })?;
     }
-    Ok(own)
+    Ok(())
 }
 
 /// The full name of a declaration, given those before it.

@@ -1,20 +1,17 @@
 //! The imports that lead back to their files.
 
-ghost use Rattle.std.specs.Prelude.{◌≡◌, ◌↔◌, ◌<◌, ◌≤◌, ◌^◌, ℕ, List, [], false, get_or, length, map, IfOk, OnOk};
+ghost use Rattle.std.specs.Prelude.{◌≡◌, ◌↔◌, ◌<◌, ◌≤◌, ◌^◌, ℕ, List, [], false, get_or, length, map, IfOk};
 ghost use Rattle.std.specs.List.{All};
 ghost use Rattle.std.specs.Option.{option_map_or};
 ghost use Rattle.indexmap.specs.IndexMap.{get_by_text};
-ghost use Rattle.proto_names_imports.specs.ImportSteps.{IsFileIndex};
 ghost use Rattle.proto_names_imports.specs.Importing.{all_imports};
 ghost use Rattle.proto_names_imports.specs.Walks.{IsMarked, Walks};
-ghost use Rattle.proto_names_faults.specs.Flaws.{AreAdded};
-ghost use Rattle.proto_names_faults.specs.Imports.{IsCycleBefore, IsCycleIn, MarksCycles};
+ghost use Rattle.proto_names_faults.specs.Imports.{MarksCycles};
 
-use crate::flaw::{Flaw, add_flaw, kind_if};
 use indexmap::IndexMap;
-use proto_base::{FaultKind, NoMemory};
+use proto_base::NoMemory;
 use proto_names_imports::first_places::place_of;
-use proto_names_imports::import::{FileImport, WrittenImport, all_targets};
+use proto_names_imports::import::{FileImport, all_targets};
 use proto_names_imports::import_cycles::has_no_cycle;
 use proto_names_imports::walk::reached_files;
 use proto_names_rules::marks::is_marked;
@@ -54,46 +51,13 @@ fn all_reached(alloc: Global, next: &[Vec<u32>]) -> Result<Vec<Vec<bool>>, NoMem
     Ok(marks)
 }
 
-/// Adds the flaws of imports that name a file that leads to their own, by these marks.
-pub(crate) fn add_cycle_flaws(
-    index: &IndexMap<String, u32>,
-    files: &[Vec<WrittenImport>],
-    marks: &[Vec<bool>],
-    found: &mut Vec<Flaw>,
-) -> Result<(), NoMemory>
-    requires { length files.now ≤ 2 ^ 32 }
-    ensures { OnOk result ((paths : List (List ℕ)) → IsFileIndex index.now paths → AreAdded
-        (IsCycleBefore paths (map (λ v. v.items) marks.now) (map (λ v. v.items) files.now)
-        (length files.now)) found.old.items found.new.items) }
-{
-    for file in 0..files.len() {
-        add_cycle_flaws_in(index, file as u32, &files[file], marks, found)?;
-    }
-    Ok(())
-}
-
-/// The same of one file.
-fn add_cycle_flaws_in(
-    index: &IndexMap<String, u32>,
-    file: u32,
-    written: &[WrittenImport],
-    marks: &[Vec<bool>],
-    found: &mut Vec<Flaw>,
-) -> Result<(), NoMemory>
-    ensures { OnOk result ((paths : List (List ℕ)) → IsFileIndex index.now paths → AreAdded
-        (IsCycleIn paths (map (λ v. v.items) marks.now) file written.now)
-        found.old.items found.new.items) }
-{
-    for import in written {
-        let is_cycle = leads_to(index, marks, import.path.as_str(), file);
-        let cycle = kind_if(is_cycle, FaultKind::ImportCycle);
-        add_flaw(found, file, import.token, cycle)?;
-    }
-    Ok(())
-}
-
 /// Whether the file with a path leads to this one.
-fn leads_to(index: &IndexMap<String, u32>, marks: &[Vec<bool>], path: &str, file: u32) -> bool
+pub(crate) fn leads_to(
+    index: &IndexMap<String, u32>,
+    marks: &[Vec<bool>],
+    path: &str,
+    file: u32,
+) -> bool
     ensures { result ≡ option_map_or
         (λ to. get_or (get_or (map (λ v. v.items) marks.now) to []) file false)
         (get_by_text index.now path.now) false }

@@ -4,23 +4,24 @@ ghost use Rattle.std.specs.Prelude.{◌≡◌, ◌≤◌, ◌^◌, ℕ, List, le
 ghost use Rattle.proto_files.specs.Faults.{fault_at};
 ghost use Rattle.proto_files.specs.FilesRead.{AreRead, ReadOf};
 ghost use Rattle.proto_files.specs.GivenFiles.{paths_of};
-ghost use Rattle.proto_names_imports.specs.ImportSteps.{IsFileIndex, PathFault};
-ghost use Rattle.proto_names_imports.specs.Importing.{all_asked, asked_by};
+ghost use Rattle.proto_names_imports.specs.ImportSteps.{IsFileIndex};
+ghost use Rattle.proto_names_imports.specs.Importing.{all_asked};
 ghost use Rattle.proto_names_imports.specs.Links.{all_wanted, text_of};
-ghost use Rattle.proto_names_rules.specs.Faults.{ImportFault};
+ghost use Rattle.proto_names_rules.specs.Faults.{ImportFault, imports_of};
 ghost use Rattle.proto_names_faults.specs.AllFaults.{AreAllOf, ImportFaults};
 ghost use Rattle.proto_names_faults.specs.Flaws.{AreAdded, AreFlawsOf};
+ghost use Rattle.proto_names_faults.specs.Imports.{IsFlawOf, IsImportIn, MarksCycles};
 
 use crate::flaw::{Flaw, add_flaw, kind_if};
-use crate::import_cycles::{add_cycle_flaws, leading_marks};
+use crate::import_cycles::{leading_marks, leads_to};
 use crate::located::listed;
-use crate::sight::resolved_imports;
+use crate::sight::{file_index, resolved_imports};
 use crate::taken::take_name;
 use indexmap::IndexMap;
 use proto_base::{Fault, FaultKind, NoMemory};
-use proto_files::{Files, all_paths, are_read};
+use proto_files::{Files, are_read};
 use proto_names::all_written;
-use proto_names_imports::first_places::{first_places, place_of};
+use proto_names_imports::first_places::place_of;
 use proto_names_imports::import::WrittenImport;
 use std::alloc::Global;
 use std::collections::HashSet;
@@ -44,9 +45,8 @@ fn import_flaws(alloc: Global, files: &Files) -> Result<Vec<Flaw>, NoMemory>
 {
     // Its contract says that there are at most 4,096.
     let _count = files.len();
+    let index = file_index(alloc, files)?;
     let written = all_written(alloc, files)?;
-    let paths = all_paths(alloc, files)?;
-    let index = first_places(alloc, &paths)?;
     flaws_by_index(alloc, &index, &written)
 }
 
@@ -62,52 +62,99 @@ fn flaws_by_index(
     ensures { IfOk result (λ ws. (paths : List (List ℕ)) → IsFileIndex index.now paths → AreFlawsOf
         (ImportFault paths (all_asked 0 (map (λ v. v.items) files.now))) ws.items) }
 {
-    let imports = resolved_imports(alloc, index, files)?;
-    let marks = leading_marks(alloc, &imports)?;
-    let mut found = Vec::new(alloc);
-    add_path_flaws(alloc, index, files, &mut found)?;
-    add_cycle_flaws(index, files, &marks, &mut found)?;
-    Ok(found)
+    let marks = cycle_marks(alloc, index, files)?;
+    let graph = Graph {
+        index,
+        marks: &marks,
+    };
+    flaws_by_graph(alloc, &graph, files)
 }
 
-/// Adds the flaws of imports whose path no file has, or an earlier import of the file.
-fn add_path_flaws(
+/// For each file, marks of the files that it leads to, as far as an import leads back to its file.
+fn cycle_marks(
     alloc: Global,
     index: &IndexMap<String, u32>,
     files: &[Vec<WrittenImport>],
-    found: &mut Vec<Flaw>,
-) -> Result<(), NoMemory>
-    requires { length files.now ≤ 2 ^ 32 }
-    ensures { OnOk result ((paths : List (List ℕ)) → IsFileIndex index.now paths → AreAdded
-        (PathFault paths (all_asked 0 (map (λ v. v.items) files.now)))
-        found.old.items found.new.items) }
+) -> Result<Vec<Vec<bool>>, NoMemory>
+    requires count { length files.now ≤ 2 ^ 32 }
+    requires index { (paths : List (List ℕ))
+        × IsFileIndex index.now paths × (length paths ≡ length files.now) }
+    ensures { IfOk result (λ marks. (paths : List (List ℕ)) → IsFileIndex index.now paths
+        → MarksCycles (imports_of paths (all_asked 0 (map (λ v. v.items) files.now)))
+        (map (λ v. v.items) marks.items)) }
 {
-    for file in 0..files.len() {
-        add_path_flaws_in(alloc, index, file as u32, &files[file], found)?;
-    }
-    Ok(())
+    let imports = resolved_imports(alloc, index, files)?;
+    leading_marks(alloc, &imports)
 }
 
-/// The same of one file.
-fn add_path_flaws_in(
+/// By what imports are told to be faulty.
+#[derive(Clone, Copy)]
+struct Graph<'a> {
+    /// The places of the paths of the files.
+    index: &'a IndexMap<String, u32>,
+    /// For each file, marks of the files that it leads to.
+    marks: &'a [Vec<bool>],
+}
+
+/// The flaws of all imports by these.
+fn flaws_by_graph(
     alloc: Global,
-    index: &IndexMap<String, u32>,
+    graph: &Graph,
+    files: &[Vec<WrittenImport>],
+) -> Result<Vec<Flaw>, NoMemory>
+    requires { length files.now ≤ 2 ^ 32 }
+    ensures { IfOk result (λ ws. (paths : List (List ℕ)) → IsFileIndex graph.now.index.now paths
+        → MarksCycles (imports_of paths (all_asked 0 (map (λ v. v.items) files.now)))
+        (map (λ v. v.items) graph.now.marks.now) → AreFlawsOf
+        (ImportFault paths (all_asked 0 (map (λ v. v.items) files.now))) ws.items) }
+{
+    let mut found = Vec::new(alloc);
+    for file in 0..files.len() {
+        add_file_flaws(alloc, graph, file as u32, &files[file], &mut found)?;
+    }
+    Ok(found)
+}
+
+/// Adds the flaws of the imports of one file.
+fn add_file_flaws(
+    alloc: Global,
+    graph: &Graph,
     file: u32,
     written: &[WrittenImport],
     found: &mut Vec<Flaw>,
 ) -> Result<(), NoMemory>
-    ensures { OnOk result ((paths : List (List ℕ)) → IsFileIndex index.now paths → AreAdded
-        (PathFault paths (map (asked_by file) written.now)) found.old.items found.new.items) }
+    ensures { OnOk result ((paths : List (List ℕ)) → IsFileIndex graph.now.index.now paths
+        → AreAdded (IsImportIn paths (map (λ v. v.items) graph.now.marks.now) file written.now)
+        found.old.items found.new.items) }
 {
     let mut named = HashSet::new(alloc);
     for import in written {
-        let path = import.path.as_str();
-        let is_unknown = place_of(index, path).is_none();
-        let is_double = take_name(alloc, &mut named, path)?;
-        let unknown = kind_if(is_unknown, FaultKind::UnknownImport);
-        add_flaw(found, file, import.token, unknown)?;
-        let double = kind_if(is_double, FaultKind::DoubleImport);
-        add_flaw(found, file, import.token, double)?;
+        let is_double = take_name(alloc, &mut named, import.path.as_str())?;
+        add_import_flaws(graph, file, import, is_double, found)?;
     }
     Ok(())
+}
+
+/// Adds the flaws of one import: that no file has its path, that an earlier one of its file has it,
+/// and that what it names leads back.
+fn add_import_flaws(
+    graph: &Graph,
+    file: u32,
+    import: &WrittenImport,
+    is_double: bool,
+    found: &mut Vec<Flaw>,
+) -> Result<(), NoMemory>
+    ensures { OnOk result ((paths : List (List ℕ)) → IsFileIndex graph.now.index.now paths
+        → AreAdded (IsFlawOf paths (map (λ v. v.items) graph.now.marks.now) file import.now is_double)
+        found.old.items found.new.items) }
+{
+    let path = import.path.as_str();
+    let is_unknown = place_of(graph.index, path).is_none();
+    let unknown = kind_if(is_unknown, FaultKind::UnknownImport);
+    let double = kind_if(is_double, FaultKind::DoubleImport);
+    let is_cycle = leads_to(graph.index, graph.marks, path, file);
+    let cycle = kind_if(is_cycle, FaultKind::ImportCycle);
+    add_flaw(found, file, import.token, unknown)?;
+    add_flaw(found, file, import.token, double)?;
+    add_flaw(found, file, import.token, cycle)
 }

@@ -23,7 +23,7 @@ use std::alloc::Global;
 pub(crate) fn listings<'a>(alloc: Global, files: &'a Files) -> Result<Vec<Listing<'a>>, NoMemory>
     ensures { IfOk result (λ ls. AreListings files.now ls.items) }
 {
-    let mut listings = Vec::with_capacity(alloc, files.len())?;
+    let mut listings = Vec::new(alloc);
     for file in 0..files.len() as u32 {
         listings.push(list_file(alloc, files.tree(file))?)?;
     }

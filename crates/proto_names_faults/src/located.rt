@@ -1,9 +1,9 @@
 //! Flaws as faults of the files that they stand in.
 
-ghost use Rattle.std.specs.Prelude.{◌<◌, length, map, IfOk};
+ghost use Rattle.std.specs.Prelude.{◌<◌, length, map, IfOk, OnOk};
 ghost use Rattle.std.specs.List.{All};
 ghost use Rattle.proto_files.specs.Faults.{fault_at};
-ghost use Rattle.proto_names_faults.specs.Flaws.{AreListed, AreLocated, StandsAtFlaw};
+ghost use Rattle.proto_names_faults.specs.Flaws.{AddsThere, AreListed, AreLocated};
 
 use crate::flaw::Flaw;
 use crate::ordering::in_order;
@@ -29,18 +29,26 @@ fn located(alloc: Global, files: &Files, flaws: &[Flaw]) -> Result<Vec<Fault>, N
 {
     let mut faults = Vec::new(alloc);
     for flaw in flaws {
-        faults.push(fault_there(alloc, files, flaw)?)?;
+        add_fault_there(alloc, files, flaw, &mut faults)?;
     }
     Ok(faults)
 }
 
-/// The fault that stands at a flaw.
-fn fault_there(alloc: Global, files: &Files, flaw: &Flaw) -> Result<Fault, NoMemory>
+/// Adds the fault that stands at a flaw.
+fn add_fault_there(
+    alloc: Global,
+    files: &Files,
+    flaw: &Flaw,
+    faults: &mut Vec<Fault>,
+) -> Result<(), NoMemory>
     requires { flaw.now.file < length files.now }
-    ensures { IfOk result (λ x. StandsAtFlaw files.now flaw.now (fault_at x)) }
+    ensures { OnOk result (AddsThere files.now flaw.now faults.old.items faults.new.items) }
 {
     match fault_at_token(alloc, files, flaw.file, flaw.token, flaw.kind) {
-        SchemaFault::Schema(fault) => Ok(fault),
+        SchemaFault::Schema(fault) => {
+            faults.push(fault)?;
+            Ok(())
+        }
         SchemaFault::NoMemory => Err(NoMemory),
     }
 }

@@ -3,6 +3,7 @@
 ghost use Rattle.std.specs.Prelude.{◌≡◌, ℕ, ◌<◌, ◌≤◌, ◌^◌, List, [], get_or, length, map, IfOk};
 ghost use Rattle.std.specs.List.{All};
 ghost use Rattle.proto_files.specs.FilesRead.{AreRead, ReadOf};
+ghost use Rattle.proto_files.specs.GivenFiles.{paths_of};
 ghost use Rattle.proto_names_imports.specs.ImportSteps.{IsFileIndex};
 ghost use Rattle.proto_names_imports.specs.Importing.{all_asked, all_imports, asked_by, import_from};
 ghost use Rattle.proto_names_imports.specs.Links.{link_imports, names_of_files};
@@ -40,12 +41,19 @@ fn imports_of_files(alloc: Global, files: &Files) -> Result<Vec<Vec<FileImport>>
     ensures imports { IfOk result (λ imports. (reads : List ReadOf) → AreRead files.now reads
         → all_imports 0 (map (λ v. v.items) imports.items) ≡ link_imports files.now reads) }
 {
+    let index = file_index(alloc, files)?;
+    let written = all_written(alloc, files)?;
+    resolved_imports(alloc, &index, &written)
+}
+
+/// The places of the paths of the files. Fails only when out of memory.
+pub(crate) fn file_index(alloc: Global, files: &Files) -> Result<IndexMap<String, u32>, NoMemory>
+    ensures { IfOk result (λ index. IsFileIndex index (paths_of files.now)) }
+{
     // Its contract says that there are at most 4,096.
     let _count = files.len();
-    let written = all_written(alloc, files)?;
     let paths = all_paths(alloc, files)?;
-    let index = first_places(alloc, &paths)?;
-    resolved_imports(alloc, &index, &written)
+    first_places(alloc, &paths)
 }
 
 /// The imports of each file that name a file, by the places of the paths. Fails only when out of

@@ -1,4 +1,4 @@
-use Rattle.std.proofs.Common.{map, option_map, ap, arith}
+use Rattle.std.proofs.Common.{map, ap, arith}
 use Rattle.proto_files.specs.Common.{IsGrammarFault, GrammarFaults, fault_at, files_of}
 use Rattle.proto_all_faults.proofs.FirstPhases.{in_their_order}
 use Rattle.proto_all_faults.proofs.TextLists.{no_text_fault_at, none_yet, read_end, read_turn}
@@ -7,13 +7,13 @@ use Rattle.proto_all_faults.proofs.texts.grammar_faults.Goals as goal
 pub loop-file-init : goal.loop-file-init
 loop-file-init c = none_yet IsGrammarFault _ (ap (map fault_at) c.new-found.ensures.items)
 
-pub grammar_fault-requires : goal.grammar_fault-requires
-grammar_fault-requires c = no_text_fault_at c.args.given.now c.loop-file.file-index c.file-item.result c.deref.result.now c.requires c.loop-file-test.true c.file-item.is c.deref.ensures.value
+pub add_grammar_fault-requires : goal.add_grammar_fault-requires
+add_grammar_fault-requires c = no_text_fault_at c.args.given.now c.loop-file.file-index c.file-item.result c.deref.result.now c.requires c.loop-file-test.true c.file-item.is c.deref.ensures.value
 
 pub loop-file-preserved : goal.loop-file-preserved
 loop-file-preserved c =
-    read_turn IsGrammarFault c.args.given.now c.loop-file.file-index c.file-item.result c.as_str.result.now c.deref.result.now (option_map fault_at c.in_ok-grammar_fault.field-0) (map fault_at c.loop-file.found.items) (map fault_at c.add_fault.new.found.items)
-    c.loop-file-test.true c.file-item.is c.as_str.ensures.value c.deref.ensures.value c.in_ok-grammar_fault.ensures c.in_ok-add_fault.ensures c.loop-file.invariant
+    read_turn IsGrammarFault c.args.given.now c.loop-file.file-index c.file-item.result c.as_str.result.now c.deref.result.now (map fault_at c.loop-file.found.items) (map fault_at c.add_grammar_fault.new.found.items)
+    c.loop-file-test.true c.file-item.is c.as_str.ensures.value c.deref.ensures.value c.in_ok-add_grammar_fault.ensures c.loop-file.invariant
 
 pub returns : goal.returns
 returns c =

@@ -1,4 +1,4 @@
-use Rattle.std.proofs.Common.{map, option_map, ap, arith}
+use Rattle.std.proofs.Common.{map, ap, arith}
 use Rattle.proto_files.specs.Common.{IsTextFault, TextFaults, fault_at, files_of}
 use Rattle.proto_all_faults.proofs.FirstPhases.{in_their_order}
 use Rattle.proto_all_faults.proofs.TextLists.{none_yet, read_end, read_turn}
@@ -9,8 +9,8 @@ loop-file-init c = none_yet IsTextFault _ (ap (map fault_at) c.new-found.ensures
 
 pub loop-file-preserved : goal.loop-file-preserved
 loop-file-preserved c =
-    read_turn IsTextFault c.args.given.now c.loop-file.file-index c.file-item.result c.as_str.result.now c.deref.result.now (option_map fault_at c.in_ok-text_fault.field-0) (map fault_at c.loop-file.found.items) (map fault_at c.add_fault.new.found.items)
-    c.loop-file-test.true c.file-item.is c.as_str.ensures.value c.deref.ensures.value c.in_ok-text_fault.ensures c.in_ok-add_fault.ensures c.loop-file.invariant
+    read_turn IsTextFault c.args.given.now c.loop-file.file-index c.file-item.result c.as_str.result.now c.deref.result.now (map fault_at c.loop-file.found.items) (map fault_at c.add_text_fault.new.found.items)
+    c.loop-file-test.true c.file-item.is c.as_str.ensures.value c.deref.ensures.value c.in_ok-add_text_fault.ensures c.loop-file.invariant
 
 pub returns : goal.returns
 returns c =

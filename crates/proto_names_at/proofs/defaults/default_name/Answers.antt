@@ -1,4 +1,4 @@
-use Rattle.std.proofs.Common.{List, Bor, option_map, string_bytes, sym, ap, ◌∙◌}
+use Rattle.std.proofs.Common.{ℕ, List, Bor, option_map, sym, ap, ◌∙◌}
 use Rattle.std.proofs.lemmas.Result.{IfOk-weaker}
 use Rattle.proto_text.proofs.Common.{Lexeme, word_at}
 use Rattle.proto_tree.specs.declared.tree.FieldType.{FieldType}
@@ -24,4 +24,4 @@ returns c = IfOk-weaker c.value_name.result _ _ (λ found h. λ reads are name.
     c.in-Some.kind.now (sym (ap (option_map (λ (x : Bor FieldType). x.now)) c.in-Some.is) ∙ c.in_ok-kind.ensures reads are)
     c.in-Some-type_meant.id.row (sym (ap (option_map (λ (i : SymbolId). i.row)) c.in-Some-type_meant.is) ∙ c.type_meant.ensures)
     c.get-word.result.now (c.get-word.ensures ∙ ap (λ (ls : List Lexeme). word_at ls c.args.place.token) (c.new.ensures.words (read_at reads c.args.place.file).tokens (are.tokens c.args.place.file c.requires.file)))
-    (option_map string_bytes found) (h reads are) name) c.value_name.ensures
+    (option_map (λ (x : Bor (List ℕ)). x.now) found) (h reads are) name) c.value_name.ensures

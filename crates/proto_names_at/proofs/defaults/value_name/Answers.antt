@@ -1,4 +1,4 @@
-use Rattle.std.proofs.Common.{option_map, string_bytes, sym, ◌∙◌}
+use Rattle.std.proofs.Common.{ℕ, List, Bor, option_map, sym, ◌∙◌}
 use Rattle.std.proofs.lemmas.Result.{IfOk-weaker}
 use Rattle.proto_names_at.specs.NamesAt.{at_place}
 use Rattle.proto_names_at.proofs.ValueNames.{inside, of_no_value, of_package, of_value}
@@ -20,7 +20,7 @@ returns-in-Some-2 c =
     let e = c.in-Some.ensures.some in
     IfOk-weaker c.declared_name.result _ _ (λ found h. λ reads are enum plain said name.
     of_value c.args.files.now reads are c.requires.linked c.args.link.now (c.requires.link reads are) c.args.id.row enum plain said name e.0 e.1 e.2 (at_place c.in-Some.place) e.3 c.args.word.now
-    c.in-Some-2.token (sym c.in-Some-2.is ∙ c.in_ok-token.ensures reads are) (option_map string_bytes found) (h reads are)) c.declared_name.ensures
+    c.in-Some-2.token (sym c.in-Some-2.is ∙ c.in_ok-token.ensures reads are) (option_map (λ (x : Bor (List ℕ)). x.now) found) (h reads are)) c.declared_name.ensures
 
 pub returns-in-None : goal.returns-in-None
 returns-in-None c =

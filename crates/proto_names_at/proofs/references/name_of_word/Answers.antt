@@ -1,4 +1,4 @@
-use Rattle.std.proofs.Common.{◌≡◌, ◌↔◌, ◌++◌, ℕ, List, [], None, Some, get_or, length, map, option_map, string_bytes, sym, ap, subst, ◌∙◌}
+use Rattle.std.proofs.Common.{◌≡◌, ◌↔◌, ◌++◌, ℕ, List, [], Bor, None, Some, get_or, length, map, option_map, sym, ap, subst, ◌∙◌}
 use Rattle.std.proofs.lemmas.Result.{IfOk-weaker}
 use Rattle.proto_text.proofs.Common.{Lexeme, word_at}
 use Rattle.proto_tree.specs.File.{tree_of_file}
@@ -27,6 +27,7 @@ returns-in-Some c = IfOk-weaker c.front_of.result _ _ (λ found h. λ reads are 
     let l = c.args.link.now in
     let file = c.args.place.file in
     let token = c.args.place.token in
+    let said = λ (x : Bor (List ℕ)). x.now in
     let listing = c.in_ok-listing.listing in
     let uses = c.in_ok-listing.ensures.used ∙ uses_are files reads are file c.requires.file (tree_of_file c.tree.result.now) (c.tree.ensures (read_at reads file).tokens (are.tokens file c.requires.file)) in
     let x : WordOf = word_of c.in-Some.word in
@@ -34,8 +35,8 @@ returns-in-Some c = IfOk-weaker c.front_of.result _ _ (λ found h. λ reads are 
     ap (λ (us : List Use). word_meant token us (get_or l.meant file [])) (sym c.deref.ensures.value)
     ∙ ap (word_meant token c.deref.result.now) (sym c.meant_in-meant.ensures.exact) ∙ sym c.in-Some.ensures in
     let words = c.new-words.ensures.words (read_at reads file).tokens (are.tokens file c.requires.file) in
-    word_named files reads are c.requires.linked l (c.requires.link reads are) file c.requires.file (read listing.declared.items) token listing.used.items uses x e (option_map string_bytes found)
-    (subst (λ (ls : List Lexeme). (text : List ℕ) → name_text l x.meant.row ≡ Some text → (front : List ℕ) → (option_map string_bytes found ≡ Some front) ↔ (text ≡ front ++ dotted_text (map (word_at ls) x.behind))) words h) n))
+    word_named files reads are c.requires.linked l (c.requires.link reads are) file c.requires.file (read listing.declared.items) token listing.used.items uses x e (option_map said found)
+    (subst (λ (ls : List Lexeme). (text : List ℕ) → name_text l x.meant.row ≡ Some text → (front : List ℕ) → (option_map said found ≡ Some front) ↔ (text ≡ front ++ dotted_text (map (word_at ls) x.behind))) words h) n))
     c.front_of.ensures
 
 pub returns : goal.returns

@@ -8,7 +8,7 @@ use Rattle.proto_names_faults.proofs.FullNames.{files_plain}
 use Rattle.proto_names_faults.proofs.clashing.clash_flaws.Goals as goal
 
 pub clashes-requires : goal.clashes-requires
-clashes-requires c = λ text. c.in_ok-packages.ensures text ∙ ap (λ xs. list_any (is_package_named text) (map shown xs)) (c.deref.ensures.value ∙ sym c.deref-2.ensures.value)
+clashes-requires c = λ text. c.in_ok-taken.ensures text ∙ ap (λ xs. list_any (is_package_named text) (map shown xs)) (c.deref.ensures.value ∙ sym c.deref-2.ensures.value)
 
 pub returns : goal.returns
 returns c = IfOk-weaker c.clashes.result _ _

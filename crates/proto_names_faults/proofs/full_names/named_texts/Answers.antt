@@ -1,12 +1,12 @@
-use Rattle.std.proofs.Common.{◌<◌, [], length, map, sym, ◌∙◌, ap, subst, arith, take_all}
+use Rattle.std.proofs.Common.{◌<◌, ◌++◌, [], length, map, sym, ◌∙◌, ap, subst, arith, take_all}
 use Rattle.proto_base.proofs.Common.{get_or-map, length-map}
 use Rattle.proto_names_table.specs.Spelled.{AreSpelled, all_named, named_in}
-use Rattle.proto_names_faults.specs.Common.{name_at}
+use Rattle.proto_names_faults.specs.Common.{name_at, shown}
 use Rattle.proto_names_faults.proofs.FullNames.{file_texts_turn}
 use Rattle.proto_names_faults.proofs.full_names.named_texts.Goals as goal
 
-pub file_texts-requires : goal.file_texts-requires
-file_texts-requires c = subst AreSpelled (sym (c.deref.ensures.value ∙ ap (λ v. v.items) c.index-files-file.is)) (c.requires.spelled c.loop-file.file c.index-files-file.result c.loop-file-test.true)
+pub add_file_texts-requires : goal.add_file_texts-requires
+add_file_texts-requires c = subst AreSpelled (sym (c.deref.ensures.value ∙ ap (λ v. v.items) c.index-files-file.is)) (c.requires.spelled c.loop-file.file c.index-files-file.result c.loop-file-test.true)
 
 pub loop-file-preserved : goal.loop-file-preserved
 loop-file-preserved c =
@@ -14,8 +14,7 @@ loop-file-preserved c =
     let file = c.loop-file.file in
     let l : file < length fs = omega (arith, c.loop-file-test.true, length-map c.args.files.now (λ v. v.items)) in
     let own = c.deref.ensures.value ∙ ap (λ v. v.items) c.index-files-file.is ∙ sym (get_or-map (λ v. v.items) c.args.files.now file c.index-files-file.result [] c.loop-file-test.true) in
-    file_texts_turn fs file c.loop-file.all.items c.append.new.self.items c.in_ok-own.own.items l c.loop-file.invariant c.in_ok-append.ensures.items
-    (c.in_ok-own.ensures ∙ ap (λ ss. map name_at (named_in file ss)) own)
+    file_texts_turn fs file c.loop-file.all.items c.add_file_texts.new.all.items l c.loop-file.invariant (c.in_ok-add_file_texts.ensures ∙ ap (λ ss. map shown c.loop-file.all.items ++ map name_at (named_in file ss)) own)
 
 pub returns : goal.returns
 returns c =
