@@ -5,7 +5,7 @@ ghost use Rattle.std.specs.HashSet.{contains_text};
 ghost use Rattle.std.specs.List.{All, list_any};
 ghost use Rattle.proto_files.specs.Faults.{fault_at};
 ghost use Rattle.proto_files.specs.FilesRead.{AreRead, ReadOf};
-ghost use Rattle.proto_names_imports.specs.Links.{link_skeleton, text_of};
+ghost use Rattle.proto_names_imports.specs.Links.{AreListings, link_skeleton, text_of};
 ghost use Rattle.proto_names_rules.specs.Faults.{NameFault};
 ghost use Rattle.proto_names_table.specs.Spelled.{AreSpelled, ClashFault, all_named};
 ghost use Rattle.proto_names_faults.specs.AllFaults.{AreAllOf, NameFaults};
@@ -19,6 +19,7 @@ use crate::located::listed;
 use crate::taken::take_name;
 use proto_base::{Fault, FaultKind, NoMemory};
 use proto_files::{Files, are_read};
+use proto_names_outline::listing::Listing;
 use proto_names_table::spelled::Spelled;
 use std::alloc::Global;
 use std::collections::HashSet;
@@ -39,10 +40,23 @@ fn name_flaws(alloc: Global, files: &Files) -> Result<Vec<Flaw>, NoMemory>
     ensures { IfOk result (λ ws. (reads : List ReadOf) → AreRead files.now reads → AreFlawsOf
         (NameFault (text_of files.now reads) (link_skeleton files.now reads).declared) ws.items) }
 {
+    let listings = listings(alloc, files)?;
+    flaws_by_listings(alloc, files, &listings)
+}
+
+/// The same by the listings of the files.
+fn flaws_by_listings(
+    alloc: Global,
+    files: &Files,
+    listings: &[Listing],
+) -> Result<Vec<Flaw>, NoMemory>
+    requires { AreListings files.now listings.now }
+    ensures { IfOk result (λ ws. (reads : List ReadOf) → AreRead files.now reads → AreFlawsOf
+        (NameFault (text_of files.now reads) (link_skeleton files.now reads).declared) ws.items) }
+{
     // Its contract says that there are at most 4,096.
     let _count = files.len();
-    let listings = listings(alloc, files)?;
-    let spelled = all_spelled(alloc, files, &listings)?;
+    let spelled = all_spelled(alloc, files, listings)?;
     clash_flaws(alloc, &spelled)
 }
 

@@ -43,15 +43,29 @@ fn import_flaws(alloc: Global, files: &Files) -> Result<Vec<Flaw>, NoMemory>
         (ImportFault (paths_of files.now) (all_wanted (text_of files.now reads) 0 reads))
         ws.items) }
 {
-    // Its contract says that there are at most 4,096.
-    let _count = files.len();
     let index = file_index(alloc, files)?;
-    let written = all_written(alloc, files)?;
-    flaws_by_index(alloc, &index, &written)
+    flaws_by_index(alloc, files, &index)
 }
 
 /// The same by the places of the paths.
 fn flaws_by_index(
+    alloc: Global,
+    files: &Files,
+    index: &IndexMap<String, u32>,
+) -> Result<Vec<Flaw>, NoMemory>
+    requires { IsFileIndex index.now (paths_of files.now) }
+    ensures { IfOk result (λ ws. (reads : List ReadOf) → AreRead files.now reads → AreFlawsOf
+        (ImportFault (paths_of files.now) (all_wanted (text_of files.now reads) 0 reads))
+        ws.items) }
+{
+    // Its contract says that there are at most 4,096.
+    let _count = files.len();
+    let written = all_written(alloc, files)?;
+    flaws_by_written(alloc, index, &written)
+}
+
+/// The same by the imports as they are written.
+fn flaws_by_written(
     alloc: Global,
     index: &IndexMap<String, u32>,
     files: &[Vec<WrittenImport>],

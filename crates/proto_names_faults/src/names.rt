@@ -1,12 +1,9 @@
 //! The names of files in a table.
 
-ghost use Rattle.std.specs.Prelude.{◌≡◌, ◌<◌, List, length, get_or, IfOk};
-ghost use Rattle.std.specs.List.{All};
-ghost use Rattle.proto_files.specs.FilesRead.{AreRead, Each, ReadOf};
+ghost use Rattle.std.specs.Prelude.{List, IfOk};
+ghost use Rattle.proto_files.specs.FilesRead.{AreRead, ReadOf};
 ghost use Rattle.proto_names_imports.specs.Links.{AreListings};
-ghost use Rattle.proto_names_outline.specs.declared.listing.Listing.{Listing};
-ghost use Rattle.proto_names_table.specs.Tables.{IsTable};
-ghost use Rattle.proto_names_faults.specs.NamesOfFiles.{AreRowsOf};
+ghost use Rattle.proto_names_faults.specs.NamesOfFiles.{AreFileRows, AreRowsOf};
 
 use crate::listings::all_spelled;
 use proto_base::NoMemory;
@@ -31,15 +28,9 @@ pub(crate) fn names_of_files(
     listings: &[Listing],
 ) -> Result<Names, NoMemory>
     requires { AreListings files.now listings.now }
-    ensures table { IfOk result (λ n. IsTable n.table) }
+    ensures rows { IfOk result (λ n. AreFileRows files.now listings.now n.table n.rows.items) }
     ensures names { IfOk result (λ n. (reads : List ReadOf)
         → AreRead files.now reads → AreRowsOf files.now reads n.table n.rows.items) }
-    ensures paired { IfOk result (λ n. length n.rows.items ≡ length files.now) }
-    ensures rows { IfOk result (λ n. Each
-        (λ k v. (l : Listing) → length v.items ≡ length (get_or listings.now k l).declared.items)
-        n.rows.items) }
-    ensures within { IfOk result
-        (λ n. All (λ v. All (λ r. r < length n.table.rows.items) v.items) n.rows.items) }
 {
     // The contracts of these say that each file is read, and that the files are those of a
     // workspace.

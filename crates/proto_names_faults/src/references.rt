@@ -1,16 +1,15 @@
 //! All faults of references.
 
-ghost use Rattle.std.specs.Prelude.{◌≡◌, ◌<◌, ◌≤◌, ℕ, List, length, get_or, map, IfOk, OnOk};
+ghost use Rattle.std.specs.Prelude.{◌≡◌, ◌<◌, ◌≤◌, ℕ, List, length, map, IfOk, OnOk};
 ghost use Rattle.std.specs.List.{All};
 ghost use Rattle.proto_files.specs.Faults.{HasNoFault, fault_at};
-ghost use Rattle.proto_files.specs.FilesRead.{AreRead, Each, ReadOf};
+ghost use Rattle.proto_files.specs.FilesRead.{AreRead, ReadOf};
 ghost use Rattle.proto_files.specs.GivenFiles.{file_at};
 ghost use Rattle.proto_text.specs.Texts.{word_at};
 ghost use Rattle.proto_tree.specs.Reads.{Reads};
 ghost use Rattle.proto_tree.specs.References.{dotted};
 ghost use Rattle.proto_names_imports.specs.Links.{AreListings, IsListing, link_skeleton, text_of};
 ghost use Rattle.proto_names_outline.specs.Listing.{needs};
-ghost use Rattle.proto_names_outline.specs.declared.listing.Listing.{Listing};
 ghost use Rattle.proto_names_rules.specs.Faults.{ReferenceFault};
 ghost use Rattle.proto_names_rules.specs.Joined.{ArePlain};
 ghost use Rattle.proto_names_rules.specs.Names.{Workspace};
@@ -19,6 +18,7 @@ ghost use Rattle.proto_names.specs.FileReferences.{AreLinked, IsFileLinked};
 ghost use Rattle.proto_names.specs.Referring.{IsReadBy, reference_by};
 ghost use Rattle.proto_names_faults.specs.AllFaults.{AreAllOf, NameFaults, ReferenceFaults};
 ghost use Rattle.proto_names_faults.specs.Flaws.{AreAdded, AreFlawsOf};
+ghost use Rattle.proto_names_faults.specs.NamesOfFiles.{AreFileRows, AreRowsOf};
 ghost use Rattle.proto_names_faults.specs.Resolving.{IsFaultIn, IsListedFault};
 
 use crate::flaw::{Flaw, add_flaw};
@@ -50,13 +50,42 @@ fn reference_flaws(alloc: Global, files: &Files) -> Result<Vec<Flaw>, NoMemory>
     ensures { IfOk result (λ ws. (reads : List ReadOf) → AreRead files.now reads → AreFlawsOf
         (ReferenceFault (text_of files.now reads) (link_skeleton files.now reads)) ws.items) }
 {
-    let seen = all_sight(alloc, files)?;
     let listings = listings(alloc, files)?;
-    let names = names_of_files(alloc, files, &listings)?;
-    flaws_of_uses(alloc, files, &seen, &names, &listings)
+    flaws_by_listings(alloc, files, &listings)
 }
 
-/// The same by what the files see, their names and their listings.
+/// The same by their listings.
+fn flaws_by_listings(
+    alloc: Global,
+    files: &Files,
+    listings: &[Listing],
+) -> Result<Vec<Flaw>, NoMemory>
+    requires { AreListings files.now listings.now }
+    ensures { IfOk result (λ ws. (reads : List ReadOf) → AreRead files.now reads → AreFlawsOf
+        (ReferenceFault (text_of files.now reads) (link_skeleton files.now reads)) ws.items) }
+{
+    let names = names_of_files(alloc, files, listings)?;
+    flaws_by_names(alloc, files, listings, &names)
+}
+
+/// The same by their names, too.
+fn flaws_by_names(
+    alloc: Global,
+    files: &Files,
+    listings: &[Listing],
+    names: &Names,
+) -> Result<Vec<Flaw>, NoMemory>
+    requires listings { AreListings files.now listings.now }
+    requires rows { AreFileRows files.now listings.now names.now.table names.now.rows.items }
+    ensures { IfOk result (λ ws. (reads : List ReadOf) → AreRead files.now reads
+        → AreRowsOf files.now reads names.now.table names.now.rows.items → AreFlawsOf
+        (ReferenceFault (text_of files.now reads) (link_skeleton files.now reads)) ws.items) }
+{
+    let seen = all_sight(alloc, files)?;
+    flaws_of_uses(alloc, files, &seen, names, listings)
+}
+
+/// The same by what the files see, too.
 fn flaws_of_uses(
     alloc: Global,
     files: &Files,
@@ -64,15 +93,9 @@ fn flaws_of_uses(
     names: &Names,
     listings: &[Listing],
 ) -> Result<Vec<Flaw>, NoMemory>
-    requires table { IsTable names.now.table }
     requires listings { AreListings files.now listings.now }
     requires seen { length seen.now ≡ length files.now }
-    requires paired { length names.now.rows.items ≡ length files.now }
-    requires rows { Each (λ k v. (d : Listing)
-        → length v.items ≡ length (get_or listings.now k d).declared.items)
-        names.now.rows.items }
-    requires within { All (λ v. All (λ r. r < length names.now.table.rows.items) v.items)
-        names.now.rows.items }
+    requires rows { AreFileRows files.now listings.now names.now.table names.now.rows.items }
     ensures { IfOk result (λ ws. (reads : List ReadOf) → AreRead files.now reads
         → AreLinked names.now.table seen.now names.now.rows.items files.now reads → AreFlawsOf
         (ReferenceFault (text_of files.now reads) (link_skeleton files.now reads)) ws.items) }

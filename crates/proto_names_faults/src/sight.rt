@@ -42,8 +42,24 @@ fn imports_of_files(alloc: Global, files: &Files) -> Result<Vec<Vec<FileImport>>
         → all_imports 0 (map (λ v. v.items) imports.items) ≡ link_imports files.now reads) }
 {
     let index = file_index(alloc, files)?;
+    imports_by_index(alloc, files, &index)
+}
+
+/// The same by the places of the paths.
+fn imports_by_index(
+    alloc: Global,
+    files: &Files,
+    index: &IndexMap<String, u32>,
+) -> Result<Vec<Vec<FileImport>>, NoMemory>
+    requires { IsFileIndex index.now (paths_of files.now) }
+    ensures len { IfOk result (λ imports. length imports.items ≡ length files.now) }
+    ensures within { IfOk result (λ imports. All
+        (λ v. All (λ i. i.to < length files.now) v.items) imports.items) }
+    ensures imports { IfOk result (λ imports. (reads : List ReadOf) → AreRead files.now reads
+        → all_imports 0 (map (λ v. v.items) imports.items) ≡ link_imports files.now reads) }
+{
     let written = all_written(alloc, files)?;
-    resolved_imports(alloc, &index, &written)
+    resolved_imports(alloc, index, &written)
 }
 
 /// The places of the paths of the files. Fails only when out of memory.

@@ -10,9 +10,6 @@ declare_all-requires-clause-count c = omega (arith, ap length c.deref.ensures.va
 pub declare_all-requires-clause-spelled : goal.declare_all-requires-clause-spelled
 declare_all-requires-clause-spelled c = subst (All (λ v. AreSpelled v.items)) (sym c.deref.ensures.value) c.in_ok-spelled.ensures.spelled
 
-pub returns-in-Ok-clause-table : goal.returns-in-Ok-clause-table
-returns-in-Ok-clause-table c = c.in-Ok.ensures.table
-
 pub returns-in-Ok-clause-names : goal.returns-in-Ok-clause-names
 returns-in-Ok-clause-names c = λ reads are.
     (let e = c.in_ok-spelled.ensures in
@@ -22,12 +19,12 @@ returns-in-Ok-clause-names c = λ reads are.
 pub returns-in-Ok-clause-rows : goal.returns-in-Ok-clause-rows
 returns-in-Ok-clause-rows c =
     let e = c.in_ok-spelled.ensures in
+    let fs = map (λ v. v.items) c.deref.result.now in
+    let rows = c.in-Ok.names.1.items in
     let spelled = spelled_of c.args.files.now c.deref.result.now c.in_ok-spelled.spelled.items c.deref.ensures.value e.len e.spelled e.each e.names in
-    rows_listed c.in-Ok.names.0 (map (λ v. v.items) c.deref.result.now) c.in-Ok.names.1.items c.in-Ok.ensures.rows c.args.files.now c.are_read.ensures.0 c.are_read.ensures.1 spelled c.args.listings.now c.requires
-
-pub returns-in-Ok-clause-within : goal.returns-in-Ok-clause-within
-returns-in-Ok-clause-within c = rows_within c.in-Ok.names.0 (map (λ v. v.items) c.deref.result.now) c.in-Ok.names.1.items c.in-Ok.ensures.rows
-
-pub returns-in-Ok-clause-paired : goal.returns-in-Ok-clause-paired
-returns-in-Ok-clause-paired c =
-    sym (length-map c.in-Ok.names.1.items (λ v. v.items)) ∙ c.in-Ok.ensures.rows.paired ∙ length-map c.deref.result.now (λ v. v.items) ∙ ap length c.deref.ensures.value ∙ c.in_ok-spelled.ensures.len
+    record {
+      table = c.in-Ok.ensures.table;
+      paired = sym (length-map rows (λ v. v.items)) ∙ c.in-Ok.ensures.rows.paired ∙ length-map c.deref.result.now (λ v. v.items) ∙ ap length c.deref.ensures.value ∙ e.len;
+      counts = rows_listed c.in-Ok.names.0 fs rows c.in-Ok.ensures.rows c.args.files.now c.are_read.ensures.0 c.are_read.ensures.1 spelled c.args.listings.now c.requires;
+      within = rows_within c.in-Ok.names.0 fs rows c.in-Ok.ensures.rows;
+    }
