@@ -1,2 +1,3 @@
 mod Items
+mod ObjectMembers
 mod Floats

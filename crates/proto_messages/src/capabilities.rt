@@ -2,8 +2,12 @@
 
 ghost use Rattle.std.specs.Prelude.{◌≡◌, IfOk};
 ghost use Rattle.serde_json.specs.View.{view};
+ghost use Rattle.proto_messages.specs.Objects.{flag_data, name_data};
 ghost use Rattle.proto_messages.specs.Results.{capabilities_data, code_actions_data, documents_data, encoding_word, provided_data};
 
+use crate::objects::{
+    Members, ToJson, put_flag, put_made, put_number, put_object, put_text,
+};
 use crate::results::PositionEncoding;
 use serde_json::{Value, json};
 use std::alloc::{AllocError, Global};
@@ -24,34 +28,93 @@ fn code_actions(alloc: Global) -> Result<Value, AllocError>
     json!(in alloc; {"codeActionKinds": ["quickfix", "refactor"]})
 }
 
-// What the server wants to be said of documents.
-fn documents(alloc: Global) -> Result<Value, AllocError>
-    ensures { IfOk result (λ value. view value ≡ documents_data) }
-{
-    json!(in alloc; {"openClose": true, "change": 1u32, "save": {"includeText": false}})
+// One truth value under its name.
+#[derive(Drop)]
+struct Flag {
+    key: &'static str,
+    is_set: bool,
 }
 
-fn provided(alloc: Global, encoding: PositionEncoding) -> Result<Value, AllocError>
-    ensures { IfOk result (λ value. view value ≡ provided_data encoding) }
-{
-    let documents = documents(alloc)?;
-    let code_actions = code_actions(alloc)?;
-    let encoding = encoding_word(encoding);
-    json!(in alloc; {
-        "positionEncoding": encoding,
-        "textDocumentSync": documents,
-        "definitionProvider": true,
-        "referencesProvider": true,
-        "documentSymbolProvider": true,
-        "codeActionProvider": code_actions,
-        "renameProvider": {"prepareProvider": true}
-    })
+impl ToJson for Flag {
+    ghost json = { λ flag. flag_data flag.key.now flag.is_set };
+
+    fn put_members(&self, alloc: Global, members: &mut Members) -> Result<(), AllocError> {
+        put_flag(members, alloc, self.key, self.is_set)
+    }
+}
+
+// A name.
+#[derive(Drop)]
+struct Named {
+    name: &'static str,
+}
+
+impl ToJson for Named {
+    ghost json = { λ named. name_data named.name.now };
+
+    fn put_members(&self, alloc: Global, members: &mut Members) -> Result<(), AllocError> {
+        put_text(members, alloc, "name", self.name)
+    }
+}
+
+// What the server wants to be said of documents.
+#[derive(Drop)]
+struct Documents;
+
+impl ToJson for Documents {
+    ghost json = { λ _. documents_data };
+
+    fn put_members(&self, alloc: Global, members: &mut Members) -> Result<(), AllocError> {
+        let save = Flag {
+            key: "includeText",
+            is_set: false,
+        };
+        put_number(members, alloc, "change", 1)?;
+        put_flag(members, alloc, "openClose", true)?;
+        put_object(members, alloc, "save", &save)
+    }
+}
+
+#[derive(Drop)]
+struct Provided {
+    encoding: PositionEncoding,
+}
+
+impl ToJson for Provided {
+    ghost json = { λ provided. provided_data provided.encoding };
+
+    fn put_members(&self, alloc: Global, members: &mut Members) -> Result<(), AllocError> {
+        let rename = Flag {
+            key: "prepareProvider",
+            is_set: true,
+        };
+        put_made(members, alloc, "codeActionProvider", code_actions(alloc))?;
+        put_flag(members, alloc, "definitionProvider", true)?;
+        put_flag(members, alloc, "documentSymbolProvider", true)?;
+        put_text(members, alloc, "positionEncoding", encoding_word(self.encoding))?;
+        put_flag(members, alloc, "referencesProvider", true)?;
+        put_object(members, alloc, "renameProvider", &rename)?;
+        put_object(members, alloc, "textDocumentSync", &Documents)
+    }
 }
 
 /// What the server can do, and its name.
-pub(crate) fn capabilities(alloc: Global, encoding: PositionEncoding) -> Result<Value, AllocError>
-    ensures { IfOk result (λ value. view value ≡ capabilities_data encoding) }
-{
-    let provided = provided(alloc, encoding)?;
-    json!(in alloc; {"capabilities": provided, "serverInfo": {"name": "protoref_serve"}})
+#[derive(Drop)]
+pub(crate) struct Capabilities {
+    pub(crate) encoding: PositionEncoding,
+}
+
+impl ToJson for Capabilities {
+    ghost json = { λ capabilities. capabilities_data capabilities.encoding };
+
+    fn put_members(&self, alloc: Global, members: &mut Members) -> Result<(), AllocError> {
+        let provided = Provided {
+            encoding: self.encoding,
+        };
+        put_object(members, alloc, "capabilities", &provided)?;
+        let server = Named {
+            name: "protoref_serve",
+        };
+        put_object(members, alloc, "serverInfo", &server)
+    }
 }

@@ -7,6 +7,7 @@ mod fields;
 mod lists;
 mod message;
 mod notifications;
+mod objects;
 mod parts;
 mod position;
 mod reading;

@@ -3,7 +3,7 @@
 use crate::position::{Position, Range};
 
 /// What names a request. Its answer has the same.
-#[derive(Debug, Drop)]
+#[derive(Drop)]
 pub enum Id {
     /// An integer of 64 bits.
     Number(i64),
@@ -12,7 +12,7 @@ pub enum Id {
 }
 
 /// A position in a document.
-#[derive(Debug, Drop)]
+#[derive(Drop)]
 pub struct DocumentPosition {
     /// The document's URI, as the client writes it.
     pub uri: String,
@@ -21,7 +21,7 @@ pub struct DocumentPosition {
 }
 
 /// A document, as the client has it.
-#[derive(Debug, Drop)]
+#[derive(Drop)]
 pub struct Document {
     /// Its URI, as the client writes it.
     pub uri: String,
@@ -32,7 +32,7 @@ pub struct Document {
 }
 
 /// What a request asks for.
-#[derive(Debug, Drop)]
+#[derive(Drop)]
 pub enum Request {
     /// `initialize`: the root of the workspace, if one is named, and whether the client offers
     /// positions that count bytes of UTF-8.
@@ -58,7 +58,7 @@ pub enum Request {
 }
 
 /// What a notification says.
-#[derive(Debug, Drop)]
+#[derive(Drop)]
 pub enum Notification {
     /// `initialized`.
     Initialized,
@@ -84,7 +84,7 @@ pub enum Notification {
 }
 
 /// What a client sends.
-#[derive(Debug, Drop)]
+#[derive(Drop)]
 pub enum Message {
     /// A request, which is answered under its id.
     Request(Id, Request),

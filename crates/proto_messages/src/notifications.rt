@@ -3,8 +3,8 @@
 ghost use Rattle.std.specs.Prelude.{◌≡◌, IfOk, map, option_map, string_bytes};
 ghost use Rattle.std.specs.List.{list_any};
 ghost use Rattle.serde_json.specs.View.{view};
-ghost use Rattle.proto_messages.specs.Messages.{did_close, did_open, did_save, document_view, notification_view};
-ghost use Rattle.proto_messages.specs.Reading.{changes_of, did_change_of, did_open_of, document_notification_of, document_of, has_range, last_text, nothing_of, notification_of, or_malformed, uri_of};
+ghost use Rattle.proto_messages.specs.Messages.{did_change, did_change_nothing, did_close, did_open, did_save, document_view, notification_view};
+ghost use Rattle.proto_messages.specs.Reading.{both, changes_of, did_change_of, did_open_of, document, document_notification_of, document_of, has_range, last_text, nothing_of, notification_of, or_malformed, three, uri_of};
 
 use crate::fields::{URI, items_at, natural_at, text_at};
 use crate::message::{Document, Notification};
@@ -47,6 +47,21 @@ fn last_text(alloc: Global, changes: &[Value]) -> Result<Option<String>, AllocEr
     }
 }
 
+// A document of this version, where all of it is said.
+fn document_of(
+    uri: Option<String>,
+    version: Option<u64>,
+    text: Option<String>,
+) -> Option<Document>
+    ensures { option_map document_view result
+        ≡ three document (option_map string_bytes uri) version (option_map string_bytes text) }
+{
+    let text = text?;
+    let uri = uri?;
+    let version = version?;
+    Some(Document { uri, version, text })
+}
+
 // The document whose version a notification says, with this text.
 fn document(
     alloc: Global,
@@ -56,16 +71,8 @@ fn document(
     ensures { IfOk result (λ document. option_map document_view document
         ≡ document_of (view params.now) (option_map string_bytes text)) }
 {
-    let Some(text) = text else {
-        return Ok(None);
-    };
-    let Some(uri) = text_at(alloc, params, URI)? else {
-        return Ok(None);
-    };
-    match natural_at(params, VERSION) {
-        Some(version) => Ok(Some(Document { uri, version, text })),
-        None => Ok(None),
-    }
+    let uri = text_at(alloc, params, URI)?;
+    Ok(document_of(uri, natural_at(params, VERSION), text))
 }
 
 // A document is opened, where all of it is said.
@@ -87,17 +94,46 @@ fn did_open(alloc: Global, params: &Value) -> Result<Notification, AllocError>
     Ok(opened(document))
 }
 
-// The version of a document whose text stays.
+// The version of a document whose text stays, where both are there.
+fn unchanged(uri: Option<String>, version: Option<u64>) -> Notification
+    ensures { notification_view result
+        ≡ or_malformed (both did_change_nothing (option_map string_bytes uri) version) }
+{
+    let Some(uri) = uri else {
+        return Notification::Malformed;
+    };
+    match version {
+        Some(version) => Notification::DidChangeNothing(uri, version),
+        None => Notification::Malformed,
+    }
+}
+
 fn nothing(alloc: Global, params: &Value) -> Result<Notification, AllocError>
     ensures { IfOk result (λ said. notification_view said ≡ nothing_of (view params.now)) }
 {
-    let Some(uri) = text_at(alloc, params, URI)? else {
-        return Ok(Notification::Malformed);
-    };
-    match natural_at(params, VERSION) {
-        Some(version) => Ok(Notification::DidChangeNothing(uri, version)),
-        None => Ok(Notification::Malformed),
+    let uri = text_at(alloc, params, URI)?;
+    Ok(unchanged(uri, natural_at(params, VERSION)))
+}
+
+// A document is changed, where all of it is said.
+fn changed_to(document: Option<Document>) -> Notification
+    ensures { notification_view result
+        ≡ or_malformed (option_map did_change (option_map document_view document)) }
+{
+    match document {
+        Some(document) => Notification::DidChange(document),
+        None => Notification::Malformed,
     }
+}
+
+// The document has the text that the last change gives.
+fn last_changed(alloc: Global, params: &Value, changes: &[Value]) -> Result<Notification, AllocError>
+    ensures { IfOk result (λ said. notification_view said ≡ or_malformed
+        (option_map did_change (document_of (view params.now) (last_text (map view changes.now))))) }
+{
+    let text = last_text(alloc, changes)?;
+    let document = document(alloc, params, text)?;
+    Ok(changed_to(document))
 }
 
 // What a list of changes says.
@@ -112,11 +148,7 @@ fn changed(alloc: Global, params: &Value, changes: &[Value]) -> Result<Notificat
     if have_range(changes) {
         return Ok(Notification::DidChangeInRange);
     }
-    let text = last_text(alloc, changes)?;
-    match document(alloc, params, text)? {
-        Some(document) => Ok(Notification::DidChange(document)),
-        None => Ok(Notification::Malformed),
-    }
+    last_changed(alloc, params, changes)
 }
 
 fn did_change(alloc: Global, params: &Value) -> Result<Notification, AllocError>

@@ -3,11 +3,11 @@
 ghost use Rattle.std.specs.Prelude.{◌≡◌, IfOk, map, option_map, string_bytes};
 ghost use Rattle.std.specs.List.{list_any};
 ghost use Rattle.serde_json.specs.View.{view};
-ghost use Rattle.proto_messages.specs.Messages.{code_action, definition, document_symbol, prepare_rename, request_view};
+ghost use Rattle.proto_messages.specs.Messages.{code_action, definition, document_position_view, document_symbol, prepare_rename, references, rename, request_view};
 ghost use Rattle.proto_messages.specs.Reading.{both, code_action_of, document_position_of, name_request_of, names_utf8, offers_utf8, or_invalid_params, references_of, rename_of, request_of, root_of, uri_of};
 
 use crate::fields::{URI, bool_at, document_position, items_at, range_at, text_at};
-use crate::message::Request;
+use crate::message::{DocumentPosition, Request};
 use crate::position::Range;
 use serde_json::Value;
 use std::alloc::{AllocError, Global};
@@ -74,16 +74,39 @@ fn prepare_rename(alloc: Global, params: &Value) -> Result<Request, AllocError>
     }
 }
 
+// The references to what stands at a position, where all is said.
+fn references_of(at: Option<DocumentPosition>, includes_declaration: Option<bool>) -> Request
+    ensures { request_view result ≡ or_invalid_params
+        (both references (option_map document_position_view at) includes_declaration) }
+{
+    let Some(at) = at else {
+        return Request::InvalidParams;
+    };
+    match includes_declaration {
+        Some(includes_declaration) => Request::References(at, includes_declaration),
+        None => Request::InvalidParams,
+    }
+}
+
 fn references(alloc: Global, params: &Value) -> Result<Request, AllocError>
     ensures { IfOk result
         (λ asked. request_view asked ≡ or_invalid_params (references_of (view params.now))) }
 {
-    let Some(at) = document_position(alloc, params)? else {
-        return Ok(Request::InvalidParams);
+    let at = document_position(alloc, params)?;
+    Ok(references_of(at, bool_at(params, "/context/includeDeclaration")))
+}
+
+// Another name for what stands at a position, where both are there.
+fn rename_of(at: Option<DocumentPosition>, name: Option<String>) -> Request
+    ensures { request_view result ≡ or_invalid_params
+        (both rename (option_map document_position_view at) (option_map string_bytes name)) }
+{
+    let Some(at) = at else {
+        return Request::InvalidParams;
     };
-    match bool_at(params, "/context/includeDeclaration") {
-        Some(includes_declaration) => Ok(Request::References(at, includes_declaration)),
-        None => Ok(Request::InvalidParams),
+    match name {
+        Some(name) => Request::Rename(at, name),
+        None => Request::InvalidParams,
     }
 }
 
@@ -91,13 +114,9 @@ fn rename(alloc: Global, params: &Value) -> Result<Request, AllocError>
     ensures { IfOk result
         (λ asked. request_view asked ≡ or_invalid_params (rename_of (view params.now))) }
 {
-    let Some(at) = document_position(alloc, params)? else {
-        return Ok(Request::InvalidParams);
-    };
-    match text_at(alloc, params, "/newName")? {
-        Some(name) => Ok(Request::Rename(at, name)),
-        None => Ok(Request::InvalidParams),
-    }
+    let at = document_position(alloc, params)?;
+    let name = text_at(alloc, params, "/newName")?;
+    Ok(rename_of(at, name))
 }
 
 fn document_symbol(alloc: Global, params: &Value) -> Result<Request, AllocError>

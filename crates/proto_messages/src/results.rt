@@ -12,7 +12,7 @@ pub enum PositionEncoding {
 }
 
 /// A part of a document.
-#[derive(Debug, Drop)]
+#[derive(Drop)]
 pub struct Location {
     /// The document's URI.
     pub uri: String,
@@ -40,7 +40,7 @@ pub enum SymbolKind {
 }
 
 /// A declaration in a document.
-#[derive(Debug, Drop)]
+#[derive(Drop)]
 pub struct Symbol {
     /// Its name.
     pub name: String,
@@ -55,7 +55,7 @@ pub struct Symbol {
 }
 
 /// A text in the place of a part of a document.
-#[derive(Debug, Drop)]
+#[derive(Drop)]
 pub struct TextEdit {
     /// The part that it replaces.
     pub range: Range,
@@ -64,7 +64,7 @@ pub struct TextEdit {
 }
 
 /// The edits of one document.
-#[derive(Debug, Drop)]
+#[derive(Drop)]
 pub struct DocumentEdit {
     /// The document's URI.
     pub uri: String,
@@ -84,7 +84,7 @@ pub enum ActionKind {
 }
 
 /// An edit of several documents, offered under a title.
-#[derive(Debug, Drop)]
+#[derive(Drop)]
 pub struct CodeAction {
     /// What a user reads.
     pub title: String,
@@ -95,7 +95,7 @@ pub struct CodeAction {
 }
 
 /// The result of a request.
-#[derive(Debug, Drop)]
+#[derive(Drop)]
 pub enum Answer {
     /// Of `initialize`: what the server can do, and how positions count from now on.
     Capabilities(PositionEncoding),
@@ -140,7 +140,7 @@ pub enum Severity {
 }
 
 /// What is wrong with a part of a document.
-#[derive(Debug, Drop)]
+#[derive(Drop)]
 pub struct Diagnostic {
     /// The part.
     pub range: Range,
@@ -153,7 +153,7 @@ pub struct Diagnostic {
 }
 
 /// All that is wrong with a document.
-#[derive(Debug, Drop)]
+#[derive(Drop)]
 pub struct DocumentDiagnostics {
     /// The document's URI.
     pub uri: String,

@@ -1,20 +1,24 @@
 //! Writing messages.
 
-ghost use Rattle.std.specs.Prelude.{◌≡◌, IfOk, option_map};
+ghost use Rattle.std.specs.Prelude.{◌≡◌, IfOk, OnOk, map, option_map, string_bytes};
 ghost use Rattle.serde_json.specs.Data.{string};
-ghost use Rattle.serde_json.specs.View.{view};
+ghost use Rattle.serde_json.specs.View.{members_view, view};
 ghost use Rattle.serde_json.specs.Written.{compact_text};
 ghost use Rattle.proto_messages.specs.Messages.{id_view};
-ghost use Rattle.proto_messages.specs.Results.{answer_data, renameable_data};
+ghost use Rattle.proto_messages.specs.Objects.{Fills, PutsVersion};
+ghost use Rattle.proto_messages.specs.Results.{answer_data, array_of, diagnostic_data, renameable_data};
 ghost use Rattle.proto_messages.specs.Writing.{answered_id, diagnostics_data, error_data, error_number, failure_data, id_data, logged_data, notification_data, published_data, result_data, shown_data, type_number, user_message_data};
 
-use crate::capabilities::capabilities;
-use crate::lists::array;
+use crate::capabilities::Capabilities;
+use crate::lists::{array, put_array};
 use crate::message::Id;
-use crate::parts::{edits, range, symbols};
+use crate::objects::{
+    Members, ToJson, object, object_text, put_made, put_number, put_object, put_text, put_value,
+};
+use crate::parts::{WorkspaceEdit, symbols};
 use crate::position::Range;
 use crate::results::{Answer, DocumentDiagnostics, ErrorCode, MessageType};
-use serde_json::{Value, json};
+use serde_json::Value;
 use std::alloc::{AllocError, Global};
 
 fn id_value(alloc: Global, id: &Id) -> Result<Value, AllocError>
@@ -37,44 +41,76 @@ fn answered_id(alloc: Global, id: Option<&Id>) -> Result<Value, AllocError>
     }
 }
 
-fn renameable(alloc: Global, part: Range, name: &str) -> Result<Value, AllocError>
-    ensures { IfOk result (λ value. view value ≡ renameable_data part name.now) }
-{
-    let part = range(alloc, part)?;
-    json!(in alloc; {"range": part, "placeholder": name})
+// A name that may be changed, and where it stands.
+#[derive(Drop)]
+struct Renameable<'a> {
+    part: Range,
+    name: &'a str,
+}
+
+impl ToJson for Renameable<'_> {
+    ghost json = { λ found. renameable_data found.part found.name.now };
+
+    fn put_members(&self, alloc: Global, members: &mut Members) -> Result<(), AllocError> {
+        put_text(members, alloc, "placeholder", self.name)?;
+        put_object(members, alloc, "range", &self.part)
+    }
 }
 
 fn answer_value(alloc: Global, answer: &Answer) -> Result<Value, AllocError>
     ensures { IfOk result (λ value. view value ≡ answer_data answer.now) }
 {
     match answer {
-        Answer::Capabilities(encoding) => capabilities(alloc, *encoding),
+        Answer::Capabilities(encoding) => {
+            let capabilities = Capabilities {
+                encoding: *encoding,
+            };
+            object(alloc, &capabilities)
+        }
         Answer::Null => Ok(Value::Null),
         Answer::Locations(locations) => array(alloc, locations),
         Answer::Symbols(all) => symbols(alloc, all),
-        Answer::Renameable(part, name) => renameable(alloc, *part, name.as_str()),
-        Answer::Edits(documents) => edits(alloc, documents),
+        Answer::Renameable(part, name) => {
+            let found = Renameable {
+                part: *part,
+                name: name.as_str(),
+            };
+            object(alloc, &found)
+        }
+        Answer::Edits(documents) => {
+            let edit = WorkspaceEdit {
+                documents: documents.as_slice(),
+            };
+            object(alloc, &edit)
+        }
         Answer::Actions(actions) => array(alloc, actions),
     }
 }
 
-fn result_value(alloc: Global, id: &Id, answer: &Answer) -> Result<Value, AllocError>
-    ensures { IfOk result (λ value. view value
-        ≡ result_data (id_view id.now) (answer_data answer.now)) }
-{
-    let id = id_value(alloc, id)?;
-    let result = answer_value(alloc, answer)?;
-    json!(in alloc; {"jsonrpc": "2.0", "id": id, "result": result})
+// A result under the id of its request.
+#[derive(Drop)]
+struct Answered<'a> {
+    id: &'a Id,
+    answer: &'a Answer,
+}
+
+impl ToJson for Answered<'_> {
+    ghost json = { λ answered. result_data
+        (id_view answered.id.now) (answer_data answered.answer.now) };
+
+    fn put_members(&self, alloc: Global, members: &mut Members) -> Result<(), AllocError> {
+        put_made(members, alloc, "id", id_value(alloc, self.id))?;
+        put_text(members, alloc, "jsonrpc", "2.0")?;
+        put_made(members, alloc, "result", answer_value(alloc, self.answer))
+    }
 }
 
 /// The text of a result, under the id of its request. Fails only when out of memory.
-#[tactic(auto, using(crate::proofs::Floats::result_plain))]
 pub fn result_message(alloc: Global, id: &Id, answer: &Answer) -> Result<Vec<u8>, AllocError>
     ensures { IfOk result (λ text. text.items
         ≡ compact_text (result_data (id_view id.now) (answer_data answer.now))) }
 {
-    let value = result_value(alloc, id, answer)?;
-    value.to_vec(alloc)
+    object_text(alloc, &Answered { id, answer })
 }
 
 fn error_number(code: ErrorCode) -> i64
@@ -90,30 +126,42 @@ fn error_number(code: ErrorCode) -> i64
     }
 }
 
-fn error_value(alloc: Global, code: ErrorCode, text: &str) -> Result<Value, AllocError>
-    ensures { IfOk result (λ value. view value ≡ error_data code text.now) }
-{
-    let number = error_number(code);
-    json!(in alloc; {"code": number, "message": text})
+// An error and what a user reads of it.
+#[derive(Drop)]
+struct Fault<'a> {
+    code: ErrorCode,
+    text: &'a str,
 }
 
-fn failure_value(
-    alloc: Global,
-    id: Option<&Id>,
-    code: ErrorCode,
-    text: &str,
-) -> Result<Value, AllocError>
-    ensures { IfOk result (λ value. view value
-        ≡ failure_data (option_map (λ asked. id_view asked.now) id.entry) code text.now) }
-{
-    let id = answered_id(alloc, id)?;
-    let error = error_value(alloc, code, text)?;
-    json!(in alloc; {"jsonrpc": "2.0", "id": id, "error": error})
+impl ToJson for Fault<'_> {
+    ghost json = { λ fault. error_data fault.code fault.text.now };
+
+    fn put_members(&self, alloc: Global, members: &mut Members) -> Result<(), AllocError> {
+        put_value(members, alloc, "code", Value::from(error_number(self.code)))?;
+        put_text(members, alloc, "message", self.text)
+    }
+}
+
+// An error in the place of a result.
+#[derive(Drop)]
+struct Failed<'a> {
+    id: Option<&'a Id>,
+    fault: Fault<'a>,
+}
+
+impl ToJson for Failed<'_> {
+    ghost json = { λ failed. failure_data (option_map (λ asked. id_view asked.now) failed.id)
+        failed.fault.code failed.fault.text.now };
+
+    fn put_members(&self, alloc: Global, members: &mut Members) -> Result<(), AllocError> {
+        put_object(members, alloc, "error", &self.fault)?;
+        put_made(members, alloc, "id", answered_id(alloc, self.id))?;
+        put_text(members, alloc, "jsonrpc", "2.0")
+    }
 }
 
 /// The text of an error, under the id of its request; with no id where none could be read. Fails
 /// only when out of memory.
-#[tactic(auto, using(crate::proofs::Floats::failure_plain))]
 pub fn error_message(
     alloc: Global,
     id: Option<&Id>,
@@ -124,49 +172,75 @@ pub fn error_message(
         ≡ compact_text (failure_data
         (option_map (λ asked. id_view asked.now) id.entry) code text.now)) }
 {
-    let value = failure_value(alloc, id, code, text)?;
-    value.to_vec(alloc)
+    let fault = Fault { code, text };
+    object_text(alloc, &Failed { id, fault })
 }
 
-fn notification_value(alloc: Global, method: &str, params: Value) -> Result<Value, AllocError>
-    ensures { IfOk result (λ value. view value ≡ notification_data method.now (view params)) }
-{
-    json!(in alloc; {"jsonrpc": "2.0", "method": method, "params": params})
-}
-
-fn diagnostics_value(
+// The members of a notification.
+fn put_notification<T: ToJson>(
+    members: &mut Members,
     alloc: Global,
-    list: Value,
-    uri: &str,
+    method: &str,
+    params: &T,
+) -> Result<(), AllocError>
+    ensures { OnOk result (Fills (notification_data method.now (T.json params.now))
+        (members_view members.old.entries) (members_view members.new.entries)) }
+{
+    put_text(members, alloc, "jsonrpc", "2.0")?;
+    put_text(members, alloc, "method", method)?;
+    put_object(members, alloc, "params", params)
+}
+
+// The version of a document, where it is open.
+fn put_version(
+    members: &mut Members,
+    alloc: Global,
     version: Option<u64>,
-) -> Result<Value, AllocError>
-    ensures { IfOk result
-        (λ value. view value ≡ diagnostics_data (view list) (string uri.now) version) }
+) -> Result<(), AllocError>
+    ensures { OnOk result (PutsVersion version
+        (members_view members.old.entries) (members_view members.new.entries)) }
 {
     match version {
-        Some(version) => json!(in alloc; {"uri": uri, "version": version, "diagnostics": list}),
-        None => json!(in alloc; {"uri": uri, "diagnostics": list}),
+        Some(number) => put_value(members, alloc, "version", Value::from(number)),
+        None => Ok(()),
     }
 }
 
-fn published_value(alloc: Global, document: &DocumentDiagnostics) -> Result<Value, AllocError>
-    ensures { IfOk result (λ value. view value ≡ published_data document.now) }
-{
-    let list = array(alloc, &document.diagnostics)?;
-    let params = diagnostics_value(alloc, list, document.uri.as_str(), document.version)?;
-    notification_value(alloc, "textDocument/publishDiagnostics", params)
+// What is wrong with a document.
+#[derive(Drop)]
+struct Published<'a> {
+    document: &'a DocumentDiagnostics,
+}
+
+impl ToJson for Published<'_> {
+    ghost json = { λ published. diagnostics_data
+        (array_of (map diagnostic_data published.document.now.diagnostics.items))
+        (string (string_bytes published.document.now.uri)) published.document.now.version };
+
+    fn put_members(&self, alloc: Global, members: &mut Members) -> Result<(), AllocError> {
+        put_array(members, alloc, "diagnostics", &self.document.diagnostics)?;
+        put_text(members, alloc, "uri", self.document.uri.as_str())?;
+        put_version(members, alloc, self.document.version)
+    }
+}
+
+impl ToJson for DocumentDiagnostics {
+    ghost json = { λ document. published_data document };
+
+    fn put_members(&self, alloc: Global, members: &mut Members) -> Result<(), AllocError> {
+        let published = Published { document: self };
+        put_notification(members, alloc, "textDocument/publishDiagnostics", &published)
+    }
 }
 
 /// The text of the notification of a document's diagnostics. Fails only when out of memory.
-#[tactic(auto, using(crate::proofs::Floats::published_plain))]
 pub fn diagnostics_message(
     alloc: Global,
     document: &DocumentDiagnostics,
 ) -> Result<Vec<u8>, AllocError>
     ensures { IfOk result (λ text. text.items ≡ compact_text (published_data document.now)) }
 {
-    let value = published_value(alloc, document)?;
-    value.to_vec(alloc)
+    object_text(alloc, document)
 }
 
 fn type_number(kind: MessageType) -> u32
@@ -180,34 +254,52 @@ fn type_number(kind: MessageType) -> u32
     }
 }
 
-fn user_message(
-    alloc: Global,
-    method: &str,
+// A message for a user.
+#[derive(Drop)]
+struct UserMessage<'a> {
     kind: MessageType,
-    text: &str,
-) -> Result<Value, AllocError>
-    ensures { IfOk result (λ value. view value
-        ≡ notification_data method.now (user_message_data kind text.now)) }
-{
-    let number = type_number(kind);
-    let params = json!(in alloc; {"type": number, "message": text})?;
-    notification_value(alloc, method, params)
+    text: &'a str,
+}
+
+impl ToJson for UserMessage<'_> {
+    ghost json = { λ message. user_message_data message.kind message.text.now };
+
+    fn put_members(&self, alloc: Global, members: &mut Members) -> Result<(), AllocError> {
+        put_text(members, alloc, "message", self.text)?;
+        put_number(members, alloc, "type", type_number(self.kind))
+    }
+}
+
+// A message for a user, under the method that says where it is shown.
+#[derive(Drop)]
+struct Shown<'a> {
+    method: &'a str,
+    message: UserMessage<'a>,
+}
+
+impl ToJson for Shown<'_> {
+    ghost json = { λ shown. notification_data shown.method.now
+        (user_message_data shown.message.kind shown.message.text.now) };
+
+    fn put_members(&self, alloc: Global, members: &mut Members) -> Result<(), AllocError> {
+        put_notification(members, alloc, self.method, &self.message)
+    }
 }
 
 /// The text of the notification that shows a message to the user. Fails only when out of memory.
-#[tactic(auto, using(crate::proofs::Floats::shown_plain))]
 pub fn show_message(alloc: Global, kind: MessageType, text: &str) -> Result<Vec<u8>, AllocError>
     ensures { IfOk result (λ message. message.items ≡ compact_text (shown_data kind text.now)) }
 {
-    let value = user_message(alloc, "window/showMessage", kind, text)?;
-    value.to_vec(alloc)
+    let message = UserMessage { kind, text };
+    let method = "window/showMessage";
+    object_text(alloc, &Shown { method, message })
 }
 
 /// The text of the notification that logs a message. Fails only when out of memory.
-#[tactic(auto, using(crate::proofs::Floats::logged_plain))]
 pub fn log_message(alloc: Global, kind: MessageType, text: &str) -> Result<Vec<u8>, AllocError>
     ensures { IfOk result (λ message. message.items ≡ compact_text (logged_data kind text.now)) }
 {
-    let value = user_message(alloc, "window/logMessage", kind, text)?;
-    value.to_vec(alloc)
+    let message = UserMessage { kind, text };
+    let method = "window/logMessage";
+    object_text(alloc, &Shown { method, message })
 }

@@ -1,0 +1,6 @@
+use Rattle.std.proofs.lemmas.Result.{IfOk-weaker}
+use Rattle.proto_messages.proofs.Floats.{shown_plain}
+use Rattle.proto_messages.proofs.writing.show_message.Goals as goal
+
+pub returns : goal.returns
+returns c = IfOk-weaker c.object_text.result _ _ (λ text is. is (shown_plain c.args.kind c.args.text.now)) c.object_text.ensures
