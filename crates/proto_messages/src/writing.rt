@@ -6,7 +6,7 @@ ghost use Rattle.serde_json.specs.View.{members_view, view};
 ghost use Rattle.serde_json.specs.Written.{compact_text};
 ghost use Rattle.proto_messages.specs.Messages.{id_view};
 ghost use Rattle.proto_messages.specs.Objects.{Fills, PutsVersion};
-ghost use Rattle.proto_messages.specs.Results.{answer_data, array_of, diagnostic_data, renameable_data};
+ghost use Rattle.proto_messages.specs.Results.{answer_data, array_of, diagnostic_data, integer, renameable_data};
 ghost use Rattle.proto_messages.specs.Writing.{answered_id, diagnostics_data, error_data, error_number, failure_data, id_data, logged_data, notification_data, published_data, result_data, shown_data, type_number, user_message_data};
 
 use crate::capabilities::Capabilities;
@@ -126,6 +126,12 @@ fn error_number(code: ErrorCode) -> i64
     }
 }
 
+fn code_value(code: ErrorCode) -> Value
+    ensures { view result ≡ integer (error_number code) }
+{
+    Value::from(error_number(code))
+}
+
 // An error and what a user reads of it.
 #[derive(Drop)]
 struct Fault<'a> {
@@ -137,7 +143,7 @@ impl ToJson for Fault<'_> {
     ghost json = { λ fault. error_data fault.code fault.text.now };
 
     fn put_members(&self, alloc: Global, members: &mut Members) -> Result<(), AllocError> {
-        put_value(members, alloc, "code", Value::from(error_number(self.code)))?;
+        put_value(members, alloc, "code", code_value(self.code))?;
         put_text(members, alloc, "message", self.text)
     }
 }
