@@ -5,9 +5,7 @@ ghost use Rattle.serde_json.specs.View.{view};
 ghost use Rattle.proto_messages.specs.Objects.{flag_data, name_data};
 ghost use Rattle.proto_messages.specs.Results.{capabilities_data, code_actions_data, documents_data, encoding_word, provided_data};
 
-use crate::objects::{
-    Members, ToJson, put_flag, put_made, put_number, put_object, put_text,
-};
+use crate::objects::{Object, ToJson};
 use crate::results::PositionEncoding;
 use serde_json::{Value, json};
 use std::alloc::{AllocError, Global};
@@ -38,8 +36,8 @@ struct Flag {
 impl ToJson for Flag {
     ghost json = { λ flag. flag_data flag.key.now flag.is_set };
 
-    fn put_members(&self, alloc: Global, members: &mut Members) -> Result<(), AllocError> {
-        put_flag(members, alloc, self.key, self.is_set)
+    fn put_members(&self, out: &mut Object) {
+        out.put_flag(self.key, self.is_set);
     }
 }
 
@@ -52,8 +50,8 @@ struct Named {
 impl ToJson for Named {
     ghost json = { λ named. name_data named.name.now };
 
-    fn put_members(&self, alloc: Global, members: &mut Members) -> Result<(), AllocError> {
-        put_text(members, alloc, "name", self.name)
+    fn put_members(&self, out: &mut Object) {
+        out.put_text("name", self.name);
     }
 }
 
@@ -64,14 +62,14 @@ struct Documents;
 impl ToJson for Documents {
     ghost json = { λ _. documents_data };
 
-    fn put_members(&self, alloc: Global, members: &mut Members) -> Result<(), AllocError> {
+    fn put_members(&self, out: &mut Object) {
         let save = Flag {
             key: "includeText",
             is_set: false,
         };
-        put_number(members, alloc, "change", 1)?;
-        put_flag(members, alloc, "openClose", true)?;
-        put_object(members, alloc, "save", &save)
+        out.put_number("change", 1);
+        out.put_flag("openClose", true);
+        out.put_object("save", &save);
     }
 }
 
@@ -83,18 +81,19 @@ struct Provided {
 impl ToJson for Provided {
     ghost json = { λ provided. provided_data provided.encoding };
 
-    fn put_members(&self, alloc: Global, members: &mut Members) -> Result<(), AllocError> {
+    fn put_members(&self, out: &mut Object) {
         let rename = Flag {
             key: "prepareProvider",
             is_set: true,
         };
-        put_made(members, alloc, "codeActionProvider", code_actions(alloc))?;
-        put_flag(members, alloc, "definitionProvider", true)?;
-        put_flag(members, alloc, "documentSymbolProvider", true)?;
-        put_text(members, alloc, "positionEncoding", encoding_word(self.encoding))?;
-        put_flag(members, alloc, "referencesProvider", true)?;
-        put_object(members, alloc, "renameProvider", &rename)?;
-        put_object(members, alloc, "textDocumentSync", &Documents)
+        let code_actions = code_actions(out.alloc);
+        out.put("codeActionProvider", code_actions);
+        out.put_flag("definitionProvider", true);
+        out.put_flag("documentSymbolProvider", true);
+        out.put_text("positionEncoding", encoding_word(self.encoding));
+        out.put_flag("referencesProvider", true);
+        out.put_object("renameProvider", &rename);
+        out.put_object("textDocumentSync", &Documents);
     }
 }
 
@@ -107,14 +106,14 @@ pub(crate) struct Capabilities {
 impl ToJson for Capabilities {
     ghost json = { λ capabilities. capabilities_data capabilities.encoding };
 
-    fn put_members(&self, alloc: Global, members: &mut Members) -> Result<(), AllocError> {
+    fn put_members(&self, out: &mut Object) {
         let provided = Provided {
             encoding: self.encoding,
         };
-        put_object(members, alloc, "capabilities", &provided)?;
+        out.put_object("capabilities", &provided);
         let server = Named {
             name: "protoref_serve",
         };
-        put_object(members, alloc, "serverInfo", &server)
+        out.put_object("serverInfo", &server);
     }
 }

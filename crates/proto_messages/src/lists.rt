@@ -1,11 +1,11 @@
 //! The JSON values of lists.
 
-ghost use Rattle.std.specs.Prelude.{◌≡◌, IfOk, OnOk, map};
-ghost use Rattle.serde_json.specs.View.{members_view, view};
-ghost use Rattle.proto_messages.specs.Objects.{Puts};
+ghost use Rattle.std.specs.Prelude.{◌≡◌, IfOk, map};
+ghost use Rattle.serde_json.specs.View.{view};
+ghost use Rattle.proto_messages.specs.Objects.{Puts, made};
 ghost use Rattle.proto_messages.specs.Results.{array_of};
 
-use crate::objects::{Members, ToJson, object, put_made};
+use crate::objects::{Object, ToJson, object_of};
 use serde_json::Value;
 use std::alloc::{AllocError, Global};
 
@@ -15,21 +15,16 @@ pub(crate) fn array<T: ToJson>(alloc: Global, items: &[T]) -> Result<Value, Allo
 {
     let mut values = Vec::new(alloc);
     for item in items {
-        let value = object(alloc, item)?;
+        let value = object_of(alloc, item)?;
         values.push(value)?;
     }
     Ok(Value::Array(values))
 }
 
-/// Puts a member that is the array of the objects of these. Fails only when out of memory.
-pub(crate) fn put_array<T: ToJson>(
-    members: &mut Members,
-    alloc: Global,
-    key: &str,
-    items: &[T],
-) -> Result<(), AllocError>
-    ensures { OnOk result (Puts key.now (array_of (map T.json items.now))
-        (members_view members.old.entries) (members_view members.new.entries)) }
+/// Puts a member that is the array of the objects of these.
+pub(crate) fn put_array<T: ToJson>(out: &mut Object, key: &str, items: &[T])
+    ensures { Puts key.now (array_of (map T.json items.now)) (made out.old) (made out.new) }
 {
-    put_made(members, alloc, key, array(alloc, items))
+    let value = array(out.alloc, items);
+    out.put(key, value);
 }

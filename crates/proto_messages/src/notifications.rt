@@ -48,11 +48,7 @@ fn last_text(alloc: Global, changes: &[Value]) -> Result<Option<String>, AllocEr
 }
 
 // A document of this version, where all of it is said.
-fn document_of(
-    uri: Option<String>,
-    version: Option<u64>,
-    text: Option<String>,
-) -> Option<Document>
+fn document_of(uri: Option<String>, version: Option<u64>, text: Option<String>) -> Option<Document>
     ensures { option_map document_view result
         ≡ three document (option_map string_bytes uri) version (option_map string_bytes text) }
 {
@@ -127,7 +123,11 @@ fn changed_to(document: Option<Document>) -> Notification
 }
 
 // The document has the text that the last change gives.
-fn last_changed(alloc: Global, params: &Value, changes: &[Value]) -> Result<Notification, AllocError>
+fn last_changed(
+    alloc: Global,
+    params: &Value,
+    changes: &[Value],
+) -> Result<Notification, AllocError>
     ensures { IfOk result (λ said. notification_view said ≡ or_malformed
         (option_map did_change (document_of (view params.now) (last_text (map view changes.now))))) }
 {

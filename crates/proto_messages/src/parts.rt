@@ -1,45 +1,45 @@
 //! The JSON values of the parts of results.
 
-ghost use Rattle.std.specs.Prelude.{◌≡◌, IfOk, OnOk, map};
-ghost use Rattle.serde_json.specs.View.{members_view, view};
-ghost use Rattle.proto_messages.specs.Objects.{Fills};
+ghost use Rattle.std.specs.Prelude.{◌≡◌, IfOk, map};
+ghost use Rattle.serde_json.specs.View.{view};
+ghost use Rattle.proto_messages.specs.Objects.{Fills, made};
 ghost use Rattle.proto_messages.specs.Results.{action_data, action_word, array_of, diagnostic_data, document_edit_data, edited_document_data, edits_data, kind_number, location_data, position_data, range_data, severity_number, symbol_around_data, symbol_data, text_edit_data, version_data};
 ghost use Rattle.proto_messages.specs.declared.results.Symbol.{out-Symbol};
 
 use crate::lists::put_array;
-use crate::objects::{Members, ToJson, put_number, put_object, put_text, put_value};
+use crate::objects::{Object, ToJson};
 use crate::position::{Position, Range};
 use crate::results::{
     ActionKind, CodeAction, Diagnostic, DocumentEdit, Location, Severity, Symbol, SymbolKind,
     TextEdit,
 };
-use serde_json::{Map, Value};
+use serde_json::Value;
 use std::alloc::{AllocError, Global};
 
 impl ToJson for Position {
     ghost json = { λ position. position_data position };
 
-    fn put_members(&self, alloc: Global, members: &mut Members) -> Result<(), AllocError> {
-        put_number(members, alloc, "character", self.character)?;
-        put_number(members, alloc, "line", self.line)
+    fn put_members(&self, out: &mut Object) {
+        out.put_number("character", self.character);
+        out.put_number("line", self.line);
     }
 }
 
 impl ToJson for Range {
     ghost json = { λ range. range_data range };
 
-    fn put_members(&self, alloc: Global, members: &mut Members) -> Result<(), AllocError> {
-        put_object(members, alloc, "end", &self.end)?;
-        put_object(members, alloc, "start", &self.start)
+    fn put_members(&self, out: &mut Object) {
+        out.put_object("end", &self.end);
+        out.put_object("start", &self.start);
     }
 }
 
 impl ToJson for Location {
     ghost json = { λ location. location_data location };
 
-    fn put_members(&self, alloc: Global, members: &mut Members) -> Result<(), AllocError> {
-        put_object(members, alloc, "range", &self.range)?;
-        put_text(members, alloc, "uri", self.uri.as_str())
+    fn put_members(&self, out: &mut Object) {
+        out.put_object("range", &self.range);
+        out.put_text("uri", self.uri.as_str());
     }
 }
 
@@ -84,34 +84,29 @@ fn symbol_around(alloc: Global, symbol: &Symbol, children: Value) -> Result<Valu
     ensures { IfOk result (λ value. view value
         ≡ symbol_around_data (out-Symbol symbol.now) (view children)) }
 {
-    let mut members = Map::new(alloc);
-    put_symbol(&mut members, alloc, symbol, children)?;
-    Ok(Value::Object(members))
+    let mut out = Object::new(alloc);
+    put_symbol(&mut out, symbol, children);
+    out.into_value()
 }
 
 // The members of a symbol round the value of those in it.
-fn put_symbol(
-    members: &mut Members,
-    alloc: Global,
-    symbol: &Symbol,
-    children: Value,
-) -> Result<(), AllocError>
-    ensures { OnOk result (Fills (symbol_around_data (out-Symbol symbol.now) (view children))
-        (members_view members.old.entries) (members_view members.new.entries)) }
+fn put_symbol(out: &mut Object, symbol: &Symbol, children: Value)
+    ensures { Fills (symbol_around_data (out-Symbol symbol.now) (view children))
+        (made out.old) (made out.new) }
 {
-    put_value(members, alloc, "children", children)?;
-    put_number(members, alloc, "kind", kind_number(symbol.kind))?;
-    put_text(members, alloc, "name", symbol.name.as_str())?;
-    put_object(members, alloc, "range", &symbol.range)?;
-    put_object(members, alloc, "selectionRange", &symbol.selection)
+    out.put("children", Ok(children));
+    out.put_number("kind", kind_number(symbol.kind));
+    out.put_text("name", symbol.name.as_str());
+    out.put_object("range", &symbol.range);
+    out.put_object("selectionRange", &symbol.selection);
 }
 
 impl ToJson for TextEdit {
     ghost json = { λ edit. text_edit_data edit };
 
-    fn put_members(&self, alloc: Global, members: &mut Members) -> Result<(), AllocError> {
-        put_text(members, alloc, "newText", self.text.as_str())?;
-        put_object(members, alloc, "range", &self.range)
+    fn put_members(&self, out: &mut Object) {
+        out.put_text("newText", self.text.as_str());
+        out.put_object("range", &self.range);
     }
 }
 
@@ -134,18 +129,18 @@ struct EditedDocument<'a> {
 impl ToJson for EditedDocument<'_> {
     ghost json = { λ document. edited_document_data document.edit.now };
 
-    fn put_members(&self, alloc: Global, members: &mut Members) -> Result<(), AllocError> {
-        put_text(members, alloc, "uri", self.edit.uri.as_str())?;
-        put_value(members, alloc, "version", version_value(self.edit.version))
+    fn put_members(&self, out: &mut Object) {
+        out.put_text("uri", self.edit.uri.as_str());
+        out.put("version", Ok(version_value(self.edit.version)));
     }
 }
 
 impl ToJson for DocumentEdit {
     ghost json = { λ document. document_edit_data document };
 
-    fn put_members(&self, alloc: Global, members: &mut Members) -> Result<(), AllocError> {
-        put_array(members, alloc, "edits", &self.edits)?;
-        put_object(members, alloc, "textDocument", &EditedDocument { edit: self })
+    fn put_members(&self, out: &mut Object) {
+        put_array(out, "edits", &self.edits);
+        out.put_object("textDocument", &EditedDocument { edit: self });
     }
 }
 
@@ -158,8 +153,8 @@ pub(crate) struct WorkspaceEdit<'a> {
 impl ToJson for WorkspaceEdit<'_> {
     ghost json = { λ edit. edits_data edit.documents.now };
 
-    fn put_members(&self, alloc: Global, members: &mut Members) -> Result<(), AllocError> {
-        put_array(members, alloc, "documentChanges", self.documents)
+    fn put_members(&self, out: &mut Object) {
+        put_array(out, "documentChanges", self.documents);
     }
 }
 
@@ -175,13 +170,13 @@ fn action_word(kind: ActionKind) -> &'static str
 impl ToJson for CodeAction {
     ghost json = { λ action. action_data action };
 
-    fn put_members(&self, alloc: Global, members: &mut Members) -> Result<(), AllocError> {
+    fn put_members(&self, out: &mut Object) {
         let edit = WorkspaceEdit {
             documents: &self.edits,
         };
-        put_object(members, alloc, "edit", &edit)?;
-        put_text(members, alloc, "kind", action_word(self.kind))?;
-        put_text(members, alloc, "title", self.title.as_str())
+        out.put_object("edit", &edit);
+        out.put_text("kind", action_word(self.kind));
+        out.put_text("title", self.title.as_str());
     }
 }
 
@@ -197,11 +192,11 @@ fn severity_number(severity: Severity) -> u32
 impl ToJson for Diagnostic {
     ghost json = { λ diagnostic. diagnostic_data diagnostic };
 
-    fn put_members(&self, alloc: Global, members: &mut Members) -> Result<(), AllocError> {
-        put_text(members, alloc, "code", self.code.as_str())?;
-        put_text(members, alloc, "message", self.message.as_str())?;
-        put_object(members, alloc, "range", &self.range)?;
-        put_number(members, alloc, "severity", severity_number(self.severity))?;
-        put_text(members, alloc, "source", "protoref")
+    fn put_members(&self, out: &mut Object) {
+        out.put_text("code", self.code.as_str());
+        out.put_text("message", self.message.as_str());
+        out.put_object("range", &self.range);
+        out.put_number("severity", severity_number(self.severity));
+        out.put_text("source", "protoref");
     }
 }

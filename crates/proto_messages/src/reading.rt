@@ -51,12 +51,7 @@ fn notified(alloc: Global, method: &str, params: &Value) -> Result<Message, Allo
 }
 
 // A message with a method and these parameters.
-fn said(
-    alloc: Global,
-    method: &str,
-    params: &Value,
-    value: &Value,
-) -> Result<Message, AllocError>
+fn said(alloc: Global, method: &str, params: &Value, value: &Value) -> Result<Message, AllocError>
     ensures { IfOk result (λ message. message_view message
         ≡ message_with method.now (view params.now) (get (codes "id") (view value.now))) }
 {

@@ -1,20 +1,18 @@
 //! Writing messages.
 
-ghost use Rattle.std.specs.Prelude.{◌≡◌, IfOk, OnOk, map, option_map, string_bytes};
+ghost use Rattle.std.specs.Prelude.{◌≡◌, IfOk, map, option_map, string_bytes};
 ghost use Rattle.serde_json.specs.Data.{string};
-ghost use Rattle.serde_json.specs.View.{members_view, view};
+ghost use Rattle.serde_json.specs.View.{view};
 ghost use Rattle.serde_json.specs.Written.{compact_text};
 ghost use Rattle.proto_messages.specs.Messages.{id_view};
-ghost use Rattle.proto_messages.specs.Objects.{Fills, PutsVersion};
+ghost use Rattle.proto_messages.specs.Objects.{Fills, PutsVersion, made};
 ghost use Rattle.proto_messages.specs.Results.{answer_data, array_of, diagnostic_data, integer, renameable_data};
 ghost use Rattle.proto_messages.specs.Writing.{answered_id, diagnostics_data, error_data, error_number, failure_data, id_data, logged_data, notification_data, published_data, result_data, shown_data, type_number, user_message_data};
 
 use crate::capabilities::Capabilities;
 use crate::lists::{array, put_array};
 use crate::message::Id;
-use crate::objects::{
-    Members, ToJson, object, object_text, put_made, put_number, put_object, put_text, put_value,
-};
+use crate::objects::{Object, ToJson, object_of, object_text};
 use crate::parts::{WorkspaceEdit, symbols};
 use crate::position::Range;
 use crate::results::{Answer, DocumentDiagnostics, ErrorCode, MessageType};
@@ -51,9 +49,9 @@ struct Renameable<'a> {
 impl ToJson for Renameable<'_> {
     ghost json = { λ found. renameable_data found.part found.name.now };
 
-    fn put_members(&self, alloc: Global, members: &mut Members) -> Result<(), AllocError> {
-        put_text(members, alloc, "placeholder", self.name)?;
-        put_object(members, alloc, "range", &self.part)
+    fn put_members(&self, out: &mut Object) {
+        out.put_text("placeholder", self.name);
+        out.put_object("range", &self.part);
     }
 }
 
@@ -65,7 +63,7 @@ fn answer_value(alloc: Global, answer: &Answer) -> Result<Value, AllocError>
             let capabilities = Capabilities {
                 encoding: *encoding,
             };
-            object(alloc, &capabilities)
+            object_of(alloc, &capabilities)
         }
         Answer::Null => Ok(Value::Null),
         Answer::Locations(locations) => array(alloc, locations),
@@ -75,13 +73,13 @@ fn answer_value(alloc: Global, answer: &Answer) -> Result<Value, AllocError>
                 part: *part,
                 name: name.as_str(),
             };
-            object(alloc, &found)
+            object_of(alloc, &found)
         }
         Answer::Edits(documents) => {
             let edit = WorkspaceEdit {
                 documents: documents.as_slice(),
             };
-            object(alloc, &edit)
+            object_of(alloc, &edit)
         }
         Answer::Actions(actions) => array(alloc, actions),
     }
@@ -98,10 +96,12 @@ impl ToJson for Answered<'_> {
     ghost json = { λ answered. result_data
         (id_view answered.id.now) (answer_data answered.answer.now) };
 
-    fn put_members(&self, alloc: Global, members: &mut Members) -> Result<(), AllocError> {
-        put_made(members, alloc, "id", id_value(alloc, self.id))?;
-        put_text(members, alloc, "jsonrpc", "2.0")?;
-        put_made(members, alloc, "result", answer_value(alloc, self.answer))
+    fn put_members(&self, out: &mut Object) {
+        let id = id_value(out.alloc, self.id);
+        out.put("id", id);
+        out.put_text("jsonrpc", "2.0");
+        let result = answer_value(out.alloc, self.answer);
+        out.put("result", result);
     }
 }
 
@@ -142,9 +142,9 @@ struct Fault<'a> {
 impl ToJson for Fault<'_> {
     ghost json = { λ fault. error_data fault.code fault.text.now };
 
-    fn put_members(&self, alloc: Global, members: &mut Members) -> Result<(), AllocError> {
-        put_value(members, alloc, "code", code_value(self.code))?;
-        put_text(members, alloc, "message", self.text)
+    fn put_members(&self, out: &mut Object) {
+        out.put("code", Ok(code_value(self.code)));
+        out.put_text("message", self.text);
     }
 }
 
@@ -159,10 +159,11 @@ impl ToJson for Failed<'_> {
     ghost json = { λ failed. failure_data (option_map (λ asked. id_view asked.now) failed.id)
         failed.fault.code failed.fault.text.now };
 
-    fn put_members(&self, alloc: Global, members: &mut Members) -> Result<(), AllocError> {
-        put_object(members, alloc, "error", &self.fault)?;
-        put_made(members, alloc, "id", answered_id(alloc, self.id))?;
-        put_text(members, alloc, "jsonrpc", "2.0")
+    fn put_members(&self, out: &mut Object) {
+        out.put_object("error", &self.fault);
+        let id = answered_id(out.alloc, self.id);
+        out.put("id", id);
+        out.put_text("jsonrpc", "2.0");
     }
 }
 
@@ -183,32 +184,21 @@ pub fn error_message(
 }
 
 // The members of a notification.
-fn put_notification<T: ToJson>(
-    members: &mut Members,
-    alloc: Global,
-    method: &str,
-    params: &T,
-) -> Result<(), AllocError>
-    ensures { OnOk result (Fills (notification_data method.now (T.json params.now))
-        (members_view members.old.entries) (members_view members.new.entries)) }
+fn put_notification<T: ToJson>(out: &mut Object, method: &str, params: &T)
+    ensures { Fills (notification_data method.now (T.json params.now))
+        (made out.old) (made out.new) }
 {
-    put_text(members, alloc, "jsonrpc", "2.0")?;
-    put_text(members, alloc, "method", method)?;
-    put_object(members, alloc, "params", params)
+    out.put_text("jsonrpc", "2.0");
+    out.put_text("method", method);
+    out.put_object("params", params);
 }
 
 // The version of a document, where it is open.
-fn put_version(
-    members: &mut Members,
-    alloc: Global,
-    version: Option<u64>,
-) -> Result<(), AllocError>
-    ensures { OnOk result (PutsVersion version
-        (members_view members.old.entries) (members_view members.new.entries)) }
+fn put_version(out: &mut Object, version: Option<u64>)
+    ensures { PutsVersion version (made out.old) (made out.new) }
 {
-    match version {
-        Some(number) => put_value(members, alloc, "version", Value::from(number)),
-        None => Ok(()),
+    if let Some(number) = version {
+        out.put("version", Ok(Value::from(number)));
     }
 }
 
@@ -223,19 +213,19 @@ impl ToJson for Published<'_> {
         (array_of (map diagnostic_data published.document.now.diagnostics.items))
         (string (string_bytes published.document.now.uri)) published.document.now.version };
 
-    fn put_members(&self, alloc: Global, members: &mut Members) -> Result<(), AllocError> {
-        put_array(members, alloc, "diagnostics", &self.document.diagnostics)?;
-        put_text(members, alloc, "uri", self.document.uri.as_str())?;
-        put_version(members, alloc, self.document.version)
+    fn put_members(&self, out: &mut Object) {
+        put_array(out, "diagnostics", &self.document.diagnostics);
+        out.put_text("uri", self.document.uri.as_str());
+        put_version(out, self.document.version);
     }
 }
 
 impl ToJson for DocumentDiagnostics {
     ghost json = { λ document. published_data document };
 
-    fn put_members(&self, alloc: Global, members: &mut Members) -> Result<(), AllocError> {
+    fn put_members(&self, out: &mut Object) {
         let published = Published { document: self };
-        put_notification(members, alloc, "textDocument/publishDiagnostics", &published)
+        put_notification(out, "textDocument/publishDiagnostics", &published);
     }
 }
 
@@ -270,9 +260,9 @@ struct UserMessage<'a> {
 impl ToJson for UserMessage<'_> {
     ghost json = { λ message. user_message_data message.kind message.text.now };
 
-    fn put_members(&self, alloc: Global, members: &mut Members) -> Result<(), AllocError> {
-        put_text(members, alloc, "message", self.text)?;
-        put_number(members, alloc, "type", type_number(self.kind))
+    fn put_members(&self, out: &mut Object) {
+        out.put_text("message", self.text);
+        out.put_number("type", type_number(self.kind));
     }
 }
 
@@ -287,8 +277,8 @@ impl ToJson for Shown<'_> {
     ghost json = { λ shown. notification_data shown.method.now
         (user_message_data shown.message.kind shown.message.text.now) };
 
-    fn put_members(&self, alloc: Global, members: &mut Members) -> Result<(), AllocError> {
-        put_notification(members, alloc, self.method, &self.message)
+    fn put_members(&self, out: &mut Object) {
+        put_notification(out, self.method, &self.message);
     }
 }
 

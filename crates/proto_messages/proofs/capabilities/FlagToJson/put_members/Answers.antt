@@ -1,9 +1,6 @@
 use Rattle.std.proofs.Common.{refl}
-use Rattle.std.proofs.lemmas.Result.{on_ok_weaker}
 use Rattle.proto_messages.proofs.ObjectMembers.{fills, more}
 use Rattle.proto_messages.proofs.capabilities.FlagToJson.put_members.Goals as goal
 
 pub returns : goal.returns
-returns c =
-    on_ok_weaker c.put_flag.result (λ last. fills (λ empty. more last empty) refl)
-    c.put_flag.ensures
+returns c = fills (λ empty. more c.put_flag.ensures empty) refl

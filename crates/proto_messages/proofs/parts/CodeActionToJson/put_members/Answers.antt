@@ -1,11 +1,8 @@
 use Rattle.std.proofs.Common.{ap, refl}
-use Rattle.std.proofs.lemmas.Result.{on_ok_weaker}
 use Rattle.serde_json.specs.Data.{string}
 use Rattle.proto_messages.proofs.ObjectMembers.{fills, more, put_as}
 use Rattle.proto_messages.specs.Results.{edits_data}
 use Rattle.proto_messages.proofs.parts.CodeActionToJson.put_members.Goals as goal
 
 pub returns : goal.returns
-returns c =
-    on_ok_weaker c.put_text-2.result (λ last. fills (λ empty. more (put_as last (ap string c.as_str.ensures.value)) (more (put_as c.in_ok-put_text.ensures (ap string c.action_word.ensures)) (more (put_as c.in_ok-put_object.ensures (ap edits_data c.deref.ensures.value)) empty))) refl)
-    c.put_text-2.ensures
+returns c = fills (λ empty. more (put_as c.put_text-2.ensures (ap string c.as_str.ensures.value)) (more (put_as c.put_text.ensures (ap string c.action_word.ensures)) (more (put_as c.put_object.ensures (ap edits_data c.deref.ensures.value)) empty))) refl

@@ -1,9 +1,6 @@
 use Rattle.std.proofs.Common.{refl}
-use Rattle.std.proofs.lemmas.Result.{on_ok_weaker}
 use Rattle.proto_messages.proofs.ObjectMembers.{fills, more}
 use Rattle.proto_messages.proofs.writing.RenameableToJson.put_members.Goals as goal
 
 pub returns : goal.returns
-returns c =
-    on_ok_weaker c.put_object.result (λ last. fills (λ empty. more last (more c.in_ok-put_text.ensures empty)) refl)
-    c.put_object.ensures
+returns c = fills (λ empty. more c.put_object.ensures (more c.put_text.ensures empty)) refl

@@ -1,5 +1,0 @@
-use Rattle.std.proofs.lemmas.Result.{on_ok_weaker}
-use Rattle.proto_messages.proofs.objects.put_object.Goals as goal
-
-pub returns : goal.returns
-returns g c = on_ok_weaker c.put_made.result (λ puts. puts _ c.object.ensures) c.put_made.ensures
