@@ -1,13 +1,13 @@
 //! Writing messages.
 
-ghost use Rattle.std.specs.Prelude.{◌≡◌, IfOk, map, option_map, string_bytes};
+ghost use Rattle.std.specs.Prelude.{◌≡◌, IfOk, codes, map, option_map, string_bytes};
 ghost use Rattle.serde_json.specs.Data.{string};
 ghost use Rattle.serde_json.specs.View.{view};
 ghost use Rattle.serde_json.specs.Written.{compact_text};
 ghost use Rattle.proto_messages.specs.Messages.{id_view};
-ghost use Rattle.proto_messages.specs.Objects.{Fills, PutsVersion, made};
+ghost use Rattle.proto_messages.specs.Objects.{Fills, Puts, PutsVersion, made};
 ghost use Rattle.proto_messages.specs.Results.{answer_data, array_of, diagnostic_data, integer, renameable_data};
-ghost use Rattle.proto_messages.specs.Writing.{answered_id, diagnostics_data, error_data, error_number, failure_data, id_data, logged_data, notification_data, published_data, result_data, shown_data, type_number, user_message_data};
+ghost use Rattle.proto_messages.specs.Writing.{answered_id, diagnostics_data, error_data, error_number, failure_data, id_data, logged_data, notification_data, published_data, result_data, shown_data, type_number, user_message_data, version};
 
 use crate::capabilities::Capabilities;
 use crate::lists::{array, put_array};
@@ -85,6 +85,13 @@ fn answer_value(alloc: Global, answer: &Answer) -> Result<Value, AllocError>
     }
 }
 
+// The version of JSON-RPC.
+fn put_version_of_protocol(out: &mut Object)
+    ensures { Puts (codes "jsonrpc") version (made out.old) (made out.new) }
+{
+    out.put_text("jsonrpc", "2.0");
+}
+
 // A result under the id of its request.
 #[derive(Drop)]
 struct Answered<'a> {
@@ -99,7 +106,7 @@ impl ToJson for Answered<'_> {
     fn put_members(&self, out: &mut Object) {
         let id = id_value(out.alloc, self.id);
         out.put("id", id);
-        out.put_text("jsonrpc", "2.0");
+        put_version_of_protocol(out);
         let result = answer_value(out.alloc, self.answer);
         out.put("result", result);
     }
@@ -163,7 +170,7 @@ impl ToJson for Failed<'_> {
         out.put_object("error", &self.fault);
         let id = answered_id(out.alloc, self.id);
         out.put("id", id);
-        out.put_text("jsonrpc", "2.0");
+        put_version_of_protocol(out);
     }
 }
 
@@ -188,7 +195,7 @@ fn put_notification<T: ToJson>(out: &mut Object, method: &str, params: &T)
     ensures { Fills (notification_data method.now (T.json params.now))
         (made out.old) (made out.new) }
 {
-    out.put_text("jsonrpc", "2.0");
+    put_version_of_protocol(out);
     out.put_text("method", method);
     out.put_object("params", params);
 }

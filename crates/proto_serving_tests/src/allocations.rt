@@ -14,35 +14,57 @@ const CONTENT: &[u8] = b"a content of more than forty-eight bytes, so that both 
 const FRAME: &[u8] =
     b"Content-Length: 65\r\n\r\na content of more than forty-eight bytes, so that both texts grow";
 
-fn expect_frames<R: AllocGlobal + Abort>(rt: &R) -> Result<(), NoMemory> {
+fn expect_read<R: AllocGlobal + Abort>(rt: &R) -> Result<(), NoMemory> {
     let mut bytes = FRAME;
     match read_frame(rt.alloc(), &mut bytes, 65) {
-        Ok(Some(content)) => assert!(rt; content.as_slice() == CONTENT && bytes.is_empty()),
-        Ok(None) => assert!(rt; false),
+        Ok(content) => {
+            let content = content.expect(rt, "a frame");
+            assert!(rt; content.as_slice() == CONTENT && bytes.is_empty());
+            Ok(())
+        }
         Err(fault) => {
             assert!(rt; fault == FrameFault::NoMemory);
-            return Err(NoMemory);
+            Err(NoMemory)
         }
     }
+}
+
+// Where memory was refused nothing is written.
+fn expect_answer<R: Abort>(
+    rt: &R,
+    answer: Result<(), WriteFault>,
+    written: &[u8],
+) -> Result<(), NoMemory> {
+    match answer {
+        Ok(()) => {
+            assert!(rt; written == FRAME);
+            Ok(())
+        }
+        Err(fault) => {
+            assert!(rt; fault == WriteFault::NoMemory && written.is_empty());
+            Err(NoMemory)
+        }
+    }
+}
+
+fn expect_written<R: AllocGlobal + Abort>(rt: &R) -> Result<(), NoMemory> {
     let mut writer = Writer {
         bytes: Vec::with_capacity(rt.alloc(), FRAME.len())?,
         most: 100,
         calls: 100,
     };
-    match write_frame(rt.alloc(), &mut writer, CONTENT) {
-        Ok(()) => assert!(rt; writer.bytes.as_slice() == FRAME),
-        Err(fault) => {
-            assert!(rt; fault == WriteFault::NoMemory && writer.bytes.is_empty());
-            return Err(NoMemory);
-        }
-    }
-    Ok(())
+    let answer = write_frame(rt.alloc(), &mut writer, CONTENT);
+    expect_answer(rt, answer, writer.bytes.as_slice())
 }
 
 fn expect_uris<R: AllocGlobal + Abort>(rt: &R) -> Result<(), NoMemory> {
     let uri = uri_of(rt.alloc(), b"/ws", "p/é.proto".as_bytes())?;
     assert!(rt; uri.as_str() == "file:///ws/p/%C3%A9.proto");
-    let path = path_of(rt.alloc(), b"/ws", uri.as_str())?;
+    expect_path(rt, "file:///ws/p/%C3%A9.proto")
+}
+
+fn expect_path<R: AllocGlobal + Abort>(rt: &R, uri: &str) -> Result<(), NoMemory> {
+    let path = path_of(rt.alloc(), b"/ws", uri)?;
     assert!(rt; path.is_some());
     Ok(())
 }
@@ -67,7 +89,8 @@ fn expect_edits<R: AllocGlobal + Abort>(rt: &R) -> Result<(), NoMemory> {
 }
 
 fn expect_answers<R: AllocGlobal + Abort>(rt: &R) -> Result<(), NoMemory> {
-    expect_frames(rt)?;
+    expect_read(rt)?;
+    expect_written(rt)?;
     expect_uris(rt)?;
     expect_edits(rt)
 }

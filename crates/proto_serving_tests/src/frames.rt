@@ -1,109 +1,67 @@
 //! Frames, by the base protocol. What is read is written as each content in angle brackets, and
 //! then how the stream ends.
 
+use crate::expecting::{expect_bytes, expect_text, parts};
 use crate::streams::{Reader, Writer};
-use proto_frames::{read_frame, write_frame};
+use proto_frames::{WriteFault, read_frame, write_frame};
 use std::io::{BufRead, BufReader};
 use std::process::Abort;
 
 /// The longest content that is taken.
 const CAP: u64 = 64;
 
-/// Streams, and what is read of each.
-const STREAMS: &[(&str, &str)] = &[
-    ("", "end"),
-    ("Content-Length: 2\r\n\r\n{}", "<{}>end"),
-    (
-        "Content-Length: 0\r\n\r\nContent-Length: 2\r\n\r\n[]",
-        "<><[]>end",
-    ),
-    ("Content-Length: 2\r\n\r\né", "<é>end"),
-    ("Content-Length: 0000000002\r\n\r\n\r\n", "<\r\n>end"),
-    // Other fields, and names in any case.
-    (
-        "Content-Type: application/vscode-jsonrpc; charset=utf-8\r\nContent-Length: 2\r\nX: \r\n\r\n{}",
-        "<{}>end",
-    ),
-    ("content-length: 2\r\n\r\n{}", "<{}>end"),
-    ("CONTENT-LENGTH: 2\r\n\r\n{}", "<{}>end"),
-    // The longest, and one longer, of which nothing has to be there.
-    (
-        "Content-Length: 64\r\n\r\n0123456789012345678901234567890123456789012345678901234567890123",
-        "<0123456789012345678901234567890123456789012345678901234567890123>end",
-    ),
-    ("Content-Length: 65\r\n\r\n", "TooLong"),
-    ("Content-Length: 9999999999\r\n\r\n{}", "TooLong"),
-    // Cut.
-    ("C", "Cut"),
-    ("Content-Length: 2\r", "Cut"),
-    ("Content-Length: 2\r\n", "Cut"),
-    ("Content-Length: 2\r\n\r", "Cut"),
-    ("Content-Length: 2\r\n\r\n", "Cut"),
-    ("Content-Length: 2\r\n\r\n{", "Cut"),
-    ("Content-Length: 2\r\n\r\n{}{", "<{}>Cut"),
-    ("{\"jsonrpc\": \"2.0\"}", "Cut"),
-    // No length, or two.
-    ("\r\n", "Malformed"),
-    ("Content-Type: x\r\n\r\n{}", "Malformed"),
-    ("Content-Lengths: 2\r\n\r\n{}", "Malformed"),
-    (
-        "Content-Length: 2\r\nContent-Length: 2\r\n\r\n{}",
-        "Malformed",
-    ),
-    (
-        "Content-Length: 2\r\ncontent-length: 3\r\n\r\n{}",
-        "Malformed",
-    ),
-    (
-        "Content-Length: 2\r\nContent-Length:3\r\n\r\n{}",
-        "Malformed",
-    ),
-    // No number.
-    ("Content-Length: \r\n\r\n{}", "Malformed"),
-    ("Content-Length: -2\r\n\r\n{}", "Malformed"),
-    ("Content-Length: +2\r\n\r\n{}", "Malformed"),
-    ("Content-Length:  2\r\n\r\n{}", "Malformed"),
-    ("Content-Length: 2 \r\n\r\n{}", "Malformed"),
-    ("Content-Length: 0x2\r\n\r\n{}", "Malformed"),
-    ("Content-Length: 2.0\r\n\r\n{}", "Malformed"),
-    ("Content-Length: 00000000002\r\n\r\n{}", "Malformed"),
-    (
-        "Content-Length: 18446744073709551618\r\n\r\n{}",
-        "Malformed",
-    ),
-    // No field.
-    ("Content-Length:2\r\n\r\n{}", "Malformed"),
-    ("Content-Length 2\r\n\r\n{}", "Malformed"),
-    (": 2\r\nContent-Length: 2\r\n\r\n{}", "Malformed"),
-    ("GET / HTTP/1.1\r\nContent-Length: 2\r\n\r\n{}", "Malformed"),
-    // Other line ends.
-    ("Content-Length: 2\n\n{}", "Malformed"),
-    ("Content-Length: 2\r\r\n\r\n{}", "Malformed"),
-    ("Content-Length: 2\r\n\n{}", "Malformed"),
-    // What does not begin at a header.
-    ("\r\nContent-Length: 2\r\n\r\n{}", "Malformed"),
-    ("Content-Length: 1\r\n\r\n{}", "<{>Cut"),
-    (
-        "Content-Length: 1\r\n\r\n{}Content-Length: 2\r\n\r\n{}",
-        "<{>Malformed",
-    ),
-];
+/// Streams, and what is read of each: other fields, names in any case, the longest content, and one
+/// longer, of which nothing has to be there.
+const STREAMS: &str = " => end|\
+Content-Length: 2\r\n\r\n{} => <{}>end|\
+Content-Length: 0\r\n\r\nContent-Length: 2\r\n\r\n[] => <><[]>end|\
+Content-Length: 2\r\n\r\né => <é>end|\
+Content-Length: 0000000002\r\n\r\n\r\n => <\r\n>end|\
+Content-Type: application/vscode-jsonrpc; charset=utf-8\r\nContent-Length: 2\r\nX: \r\n\r\n{} => <{}>end|\
+content-length: 2\r\n\r\n{} => <{}>end|\
+CONTENT-LENGTH: 2\r\n\r\n{} => <{}>end|\
+Content-Length: 64\r\n\r\n0123456789012345678901234567890123456789012345678901234567890123 => <0123456789012345678901234567890123456789012345678901234567890123>end|\
+Content-Length: 65\r\n\r\n => TooLong|\
+Content-Length: 9999999999\r\n\r\n{} => TooLong";
 
-/// A text, how often it stands before another one, and what is read of both.
-const LONG_STREAMS: &[(&str, usize, &str, &str)] = &[
-    // A line has at most 1,023 bytes.
-    ("a", 1021, ": \r\nContent-Length: 2\r\n\r\n{}", "<{}>end"),
-    ("a", 1022, ": \r\nContent-Length: 2\r\n\r\n{}", "Malformed"),
-    ("a", 1023, "", "Cut"),
-    ("a", 1024, "", "Malformed"),
-    ("a", 100000, "", "Malformed"),
-    // A header has at most 31 fields.
-    ("A: b\r\n", 30, "Content-Length: 2\r\n\r\n{}", "<{}>end"),
-    ("A: b\r\n", 31, "Content-Length: 2\r\n\r\n{}", "Malformed"),
-    ("A: b\r\n", 31, "", "Cut"),
-    ("A: b\r\n", 32, "", "Malformed"),
-    ("A: b\r\n", 10000, "", "Malformed"),
-];
+/// Streams that end too early.
+const CUT: &str = "\
+C => Cut|\
+Content-Length: 2\r => Cut|\
+Content-Length: 2\r\n => Cut|\
+Content-Length: 2\r\n\r => Cut|\
+Content-Length: 2\r\n\r\n => Cut|\
+Content-Length: 2\r\n\r\n{ => Cut|\
+Content-Length: 2\r\n\r\n{}{ => <{}>Cut|\
+{\"jsonrpc\": \"2.0\"} => Cut";
+
+/// No length, or two; no number; no field; other line ends; what does not begin at a header.
+const MALFORMED: &str = "\
+\r\n => Malformed|\
+Content-Type: x\r\n\r\n{} => Malformed|\
+Content-Lengths: 2\r\n\r\n{} => Malformed|\
+Content-Length: 2\r\nContent-Length: 2\r\n\r\n{} => Malformed|\
+Content-Length: 2\r\ncontent-length: 3\r\n\r\n{} => Malformed|\
+Content-Length: 2\r\nContent-Length:3\r\n\r\n{} => Malformed|\
+Content-Length: \r\n\r\n{} => Malformed|\
+Content-Length: -2\r\n\r\n{} => Malformed|\
+Content-Length: +2\r\n\r\n{} => Malformed|\
+Content-Length:  2\r\n\r\n{} => Malformed|\
+Content-Length: 2 \r\n\r\n{} => Malformed|\
+Content-Length: 0x2\r\n\r\n{} => Malformed|\
+Content-Length: 2.0\r\n\r\n{} => Malformed|\
+Content-Length: 00000000002\r\n\r\n{} => Malformed|\
+Content-Length: 18446744073709551618\r\n\r\n{} => Malformed|\
+Content-Length:2\r\n\r\n{} => Malformed|\
+Content-Length 2\r\n\r\n{} => Malformed|\
+: 2\r\nContent-Length: 2\r\n\r\n{} => Malformed|\
+GET / HTTP/1.1\r\nContent-Length: 2\r\n\r\n{} => Malformed|\
+Content-Length: 2\n\n{} => Malformed|\
+Content-Length: 2\r\r\n\r\n{} => Malformed|\
+Content-Length: 2\r\n\n{} => Malformed|\
+\r\nContent-Length: 2\r\n\r\n{} => Malformed|\
+Content-Length: 1\r\n\r\n{} => <{>Cut|\
+Content-Length: 1\r\n\r\n{}Content-Length: 2\r\n\r\n{} => <{>Malformed";
 
 fn put_content<R: AllocGlobal + Abort>(rt: &R, out: &mut String, content: &[u8]) {
     match str::from_utf8(content) {
@@ -140,84 +98,126 @@ fn shown_by<R: AllocGlobal + Abort>(rt: &R, bytes: &[u8], most: usize, calls: us
     }
 }
 
+// What is read where each call gives at most so many bytes.
+fn expect_by<R: AllocGlobal + Abort>(rt: &R, stream: &[u8], most: usize, said: &str) {
+    let by = shown_by(rt, stream, most, usize::MAX);
+    expect_text(rt, by.as_str(), said);
+}
+
 fn expect_read<R: AllocGlobal + Abort>(rt: &R, stream: &[u8], said: &str) {
     let mut bytes = stream;
-    assert!(rt; shown(rt, &mut bytes).as_str() == said, "{said}");
-    for most in [1, 7, 5000] {
-        let by = shown_by(rt, stream, most, usize::MAX);
-        assert!(rt; by.as_str() == said, "by {most}: {said}");
+    let found = shown(rt, &mut bytes);
+    expect_text(rt, found.as_str(), said);
+    expect_by(rt, stream, 1, said);
+    expect_by(rt, stream, 7, said);
+    expect_by(rt, stream, 5000, said);
+}
+
+fn expect_streams<R: AllocGlobal + Abort>(rt: &R, rows: &str) {
+    for row in rows.split('|') {
+        let (stream, said) = parts(rt, row);
+        expect_read(rt, stream.as_bytes(), said);
     }
 }
 
 #[test]
 fn streams_are_read(rt: HostRuntime) {
-    for (stream, said) in STREAMS {
-        expect_read(&rt, stream.as_bytes(), said);
-    }
+    expect_streams(&rt, STREAMS);
+    expect_streams(&rt, CUT);
+    expect_streams(&rt, MALFORMED);
 }
 
+// A text that stands so often before another one, and what is read of both.
+fn expect_long<R: AllocGlobal + Abort>(rt: &R, unit: &str, count: usize, rest: &str, said: &str) {
+    let mut stream = unit.repeat(rt.alloc(), count).expect(rt, "memory");
+    stream.push_str(rest).expect(rt, "memory");
+    expect_read(rt, stream.as_bytes(), said);
+}
+
+// A line has at most 1,023 bytes.
+#[test]
+fn long_lines_are_read(rt: HostRuntime) {
+    let rest = ": \r\nContent-Length: 2\r\n\r\n{}";
+    expect_long(&rt, "a", 1021, rest, "<{}>end");
+    expect_long(&rt, "a", 1022, rest, "Malformed");
+    expect_long(&rt, "a", 1023, "", "Cut");
+    expect_long(&rt, "a", 1024, "", "Malformed");
+    expect_long(&rt, "a", 100000, "", "Malformed");
+}
+
+// A header has at most 31 fields.
 #[test]
 fn long_streams_are_read(rt: HostRuntime) {
-    for (unit, count, rest, said) in LONG_STREAMS {
-        let mut stream = unit.repeat(rt.alloc(), *count).expect(&rt, "memory");
-        stream.push_str(rest).expect(&rt, "memory");
-        expect_read(&rt, stream.as_bytes(), said);
-    }
+    let rest = "Content-Length: 2\r\n\r\n{}";
+    expect_long(&rt, "A: b\r\n", 30, rest, "<{}>end");
+    expect_long(&rt, "A: b\r\n", 31, rest, "Malformed");
+    expect_long(&rt, "A: b\r\n", 31, "", "Cut");
+    expect_long(&rt, "A: b\r\n", 32, "", "Malformed");
+    expect_long(&rt, "A: b\r\n", 10000, "", "Malformed");
 }
 
 const TWO: &[u8] = b"Content-Length: 2\r\n\r\n{}Content-Length: 2\r\n\r\n[]";
 
-/// How many calls a reader answers before it fails, and what is read of two frames of 23 bytes.
-const FAILING: &[(usize, &str)] = &[
-    (0, "Input"),
-    (1, "Input"),
-    (17, "Input"),
-    (22, "Input"),
-    (23, "<{}>Input"),
-    (45, "<{}>Input"),
-    (46, "<{}><[]>Input"),
-    (47, "<{}><[]>end"),
-];
+// What is read of two frames of 23 bytes, where a reader answers so many calls before it fails.
+fn expect_failed<R: AllocGlobal + Abort>(rt: &R, calls: usize, said: &str) {
+    let by = shown_by(rt, TWO, 1, calls);
+    expect_text(rt, by.as_str(), said);
+}
 
 #[test]
 fn readers_fail(rt: HostRuntime) {
-    for (calls, said) in FAILING {
-        let by = shown_by(&rt, TWO, 1, *calls);
-        assert!(rt; by.as_str() == *said, "{calls}");
-    }
+    expect_failed(&rt, 0, "Input");
+    expect_failed(&rt, 1, "Input");
+    expect_failed(&rt, 17, "Input");
+    expect_failed(&rt, 22, "Input");
+    expect_failed(&rt, 23, "<{}>Input");
+    expect_failed(&rt, 45, "<{}>Input");
+    expect_failed(&rt, 46, "<{}><[]>Input");
+    expect_failed(&rt, 47, "<{}><[]>end");
 }
 
-/// A content, how many bytes a writer takes a call, how many calls it answers, what it has then,
-/// and how the write ends.
-const WRITTEN: &[(&str, usize, usize, &str, &str)] = &[
-    ("{}", 100, 1, "Content-Length: 2\r\n\r\n{}", "Ok(())"),
-    ("{}", 1, 23, "Content-Length: 2\r\n\r\n{}", "Ok(())"),
-    ("", 100, 9, "Content-Length: 0\r\n\r\n", "Ok(())"),
-    ("é😀", 100, 9, "Content-Length: 6\r\n\r\né😀", "Ok(())"),
-    (
-        "0123456789",
-        7,
-        9,
-        "Content-Length: 10\r\n\r\n0123456789",
-        "Ok(())",
-    ),
-    ("{}", 1, 0, "", "Err(Output)"),
-    ("{}", 1, 3, "Con", "Err(Output)"),
-    ("{}", 1, 22, "Content-Length: 2\r\n\r\n{", "Err(Output)"),
-    ("{}", 0, 9, "", "Err(Output)"),
-];
+// What a writer has that takes so many bytes a call and answers so many calls, and how the write
+// of the content ends.
+fn expect_written<R: AllocGlobal + Abort>(
+    rt: &R,
+    content: &str,
+    pace: (usize, usize),
+    wanted: &str,
+    ending: &str,
+) {
+    let mut writer = Writer {
+        bytes: Vec::new(rt.alloc()),
+        most: pace.0,
+        calls: pace.1,
+    };
+    let answer = write_frame(rt.alloc(), &mut writer, content.as_bytes());
+    expect_bytes(rt, writer.bytes.as_slice(), wanted);
+    expect_ending(rt, answer, ending);
+}
+
+fn expect_ending<R: AllocGlobal + Abort>(rt: &R, answer: Result<(), WriteFault>, ending: &str) {
+    let ended = format!(in rt.alloc(); "{answer:?}").expect(rt, "memory");
+    expect_text(rt, ended.as_str(), ending);
+}
 
 #[test]
 fn frames_are_written(rt: HostRuntime) {
-    for (content, most, calls, wanted, ending) in WRITTEN {
-        let mut writer = Writer {
-            bytes: Vec::new(rt.alloc()),
-            most: *most,
-            calls: *calls,
-        };
-        let answer = write_frame(rt.alloc(), &mut writer, content.as_bytes());
-        let ended = format!(in rt.alloc(); "{answer:?}").expect(&rt, "memory");
-        assert!(rt; ended.as_str() == *ending, "{ending}");
-        assert!(rt; writer.bytes.as_slice() == wanted.as_bytes(), "{wanted}");
-    }
+    let braces = "Content-Length: 2\r\n\r\n{}";
+    expect_written(&rt, "{}", (100, 1), braces, "Ok(())");
+    expect_written(&rt, "{}", (1, 23), braces, "Ok(())");
+    let nothing = "Content-Length: 0\r\n\r\n";
+    expect_written(&rt, "", (100, 9), nothing, "Ok(())");
+    let wide = "Content-Length: 6\r\n\r\né😀";
+    expect_written(&rt, "é😀", (100, 9), wide, "Ok(())");
+    let digits = "Content-Length: 10\r\n\r\n0123456789";
+    expect_written(&rt, "0123456789", (7, 9), digits, "Ok(())");
+}
+
+#[test]
+fn writers_fail(rt: HostRuntime) {
+    expect_written(&rt, "{}", (1, 0), "", "Err(Output)");
+    expect_written(&rt, "{}", (1, 3), "Con", "Err(Output)");
+    let cut = "Content-Length: 2\r\n\r\n{";
+    expect_written(&rt, "{}", (1, 22), cut, "Err(Output)");
+    expect_written(&rt, "{}", (0, 9), "", "Err(Output)");
 }

@@ -6,6 +6,8 @@ mod allocations;
 #[cfg(test)]
 mod editors;
 #[cfg(test)]
+mod expecting;
+#[cfg(test)]
 mod frames;
 #[cfg(test)]
 mod messages;

@@ -2,6 +2,7 @@
 
 use proto_base::MAX_LEN;
 use proto_positions::{Cursor, Encoding, Position, has_position, offset_of};
+use std::process::Abort;
 
 /// a is byte 0, é 1 and 2, 😀 3 to 6, b 7, CR LF 8 and 9, c 10, a lone CR 11, d 12, LF 13.
 const TEXT: &str = "aé😀b\r\nc\rd\n";
@@ -9,27 +10,29 @@ const TEXT: &str = "aé😀b\r\nc\rd\n";
 /// An offset, and where it has a position of its own its line, its column in UTF-16 and in UTF-8.
 type Place = (usize, Option<(u32, u32, u32)>);
 
-const OFFSETS: &[Place] = &[
-    (0, Some((0, 0, 0))),
-    (1, Some((0, 1, 1))),
-    (2, None),
-    (3, Some((0, 2, 3))),
-    (4, None),
-    (5, None),
-    (6, None),
-    (7, Some((0, 4, 7))),
-    (8, Some((0, 5, 8))),
-    (9, None),
-    (10, Some((1, 0, 0))),
-    (11, Some((1, 1, 1))),
-    (12, Some((2, 0, 0))),
-    (13, Some((2, 1, 1))),
-    (14, Some((3, 0, 0))),
-    (15, None),
-];
-
-/// Other texts, each with all of its offsets.
-const OTHERS: &[(&str, &[Place])] = &[
+/// Texts, each with its offsets.
+const PLACES: &[(&str, &[Place])] = &[
+    (
+        TEXT,
+        &[
+            (0, Some((0, 0, 0))),
+            (1, Some((0, 1, 1))),
+            (2, None),
+            (3, Some((0, 2, 3))),
+            (4, None),
+            (5, None),
+            (6, None),
+            (7, Some((0, 4, 7))),
+            (8, Some((0, 5, 8))),
+            (9, None),
+            (10, Some((1, 0, 0))),
+            (11, Some((1, 1, 1))),
+            (12, Some((2, 0, 0))),
+            (13, Some((2, 1, 1))),
+            (14, Some((3, 0, 0))),
+            (15, None),
+        ],
+    ),
     ("", &[(0, Some((0, 0, 0))), (1, None)]),
     // CR, CR LF and LF end a line each.
     (
@@ -100,15 +103,16 @@ fn is_place(text: &[u8], place: &Place) -> bool {
     }
 }
 
+fn expect_places<R: Abort>(rt: &R, text: &str, places: &[Place]) {
+    for place in places {
+        assert!(rt; is_place(text.as_bytes(), place), "{text:?} {}", place.0);
+    }
+}
+
 #[test]
 fn offsets_have_positions(rt: HostRuntime) {
-    for place in OFFSETS {
-        assert!(rt; is_place(TEXT.as_bytes(), place), "{}", place.0);
-    }
-    for (text, places) in OTHERS {
-        for place in *places {
-            assert!(rt; is_place(text.as_bytes(), place), "{text:?} {}", place.0);
-        }
+    for (text, places) in PLACES {
+        expect_places(&rt, text, places);
     }
 }
 

@@ -1,6 +1,7 @@
 //! What a server writes: each text counted by hand, as `json.dumps` of Python writes it with its keys
 //! sorted and no spaces.
 
+use crate::expecting::{expect_bytes, expect_that};
 use proto_messages::{
     ActionKind, Answer, CodeAction, Diagnostic, DocumentDiagnostics, DocumentEdit, ErrorCode, Id,
     Location, MessageType, Position, PositionEncoding, Range, Severity, Symbol, SymbolKind,
@@ -23,58 +24,37 @@ enum Sample {
     NoActions,
 }
 
-/// Results under the id 7, and their messages.
-const RESULTS: &[(Sample, &str)] = &[
-    (
-        Sample::Capabilities(PositionEncoding::Utf16),
-        "{\"id\":7,\"jsonrpc\":\"2.0\",\"result\":{\"capabilities\":{\"codeActionProvider\":{\"codeActionKinds\":[\"quickfix\",\"refactor\"]},\"definitionProvider\":true,\"documentSymbolProvider\":true,\"positionEncoding\":\"utf-16\",\"referencesProvider\":true,\"renameProvider\":{\"prepareProvider\":true},\"textDocumentSync\":{\"change\":1,\"openClose\":true,\"save\":{\"includeText\":false}}},\"serverInfo\":{\"name\":\"protoref_serve\"}}}",
-    ),
-    (
-        Sample::Capabilities(PositionEncoding::Utf8),
-        "{\"id\":7,\"jsonrpc\":\"2.0\",\"result\":{\"capabilities\":{\"codeActionProvider\":{\"codeActionKinds\":[\"quickfix\",\"refactor\"]},\"definitionProvider\":true,\"documentSymbolProvider\":true,\"positionEncoding\":\"utf-8\",\"referencesProvider\":true,\"renameProvider\":{\"prepareProvider\":true},\"textDocumentSync\":{\"change\":1,\"openClose\":true,\"save\":{\"includeText\":false}}},\"serverInfo\":{\"name\":\"protoref_serve\"}}}",
-    ),
-    (
-        Sample::Null,
-        "{\"id\":7,\"jsonrpc\":\"2.0\",\"result\":null}",
-    ),
-    // As the recorded server wrote it, but for the order of the keys.
-    (
-        Sample::Location,
-        "{\"id\":7,\"jsonrpc\":\"2.0\",\"result\":[{\"range\":{\"end\":{\"character\":13,\"line\":4},\"start\":{\"character\":8,\"line\":4}},\"uri\":\"file:///ws/shop/a.proto\"}]}",
-    ),
-    (
-        Sample::NoLocations,
-        "{\"id\":7,\"jsonrpc\":\"2.0\",\"result\":[]}",
-    ),
-    (
-        Sample::Renameable,
-        "{\"id\":7,\"jsonrpc\":\"2.0\",\"result\":{\"placeholder\":\"Order\",\"range\":{\"end\":{\"character\":27,\"line\":3},\"start\":{\"character\":22,\"line\":3}}}}",
-    ),
-    (
-        Sample::Edits(None),
-        "{\"id\":7,\"jsonrpc\":\"2.0\",\"result\":{\"documentChanges\":[{\"edits\":[{\"newText\":\"Purchase\",\"range\":{\"end\":{\"character\":27,\"line\":3},\"start\":{\"character\":22,\"line\":3}}}],\"textDocument\":{\"uri\":\"file:///ws/shop/a.proto\",\"version\":null}}]}}",
-    ),
-    (
-        Sample::Edits(Some(10)),
-        "{\"id\":7,\"jsonrpc\":\"2.0\",\"result\":{\"documentChanges\":[{\"edits\":[{\"newText\":\"Purchase\",\"range\":{\"end\":{\"character\":27,\"line\":3},\"start\":{\"character\":22,\"line\":3}}}],\"textDocument\":{\"uri\":\"file:///ws/shop/a.proto\",\"version\":10}}]}}",
-    ),
-    (
-        Sample::Symbols,
-        "{\"id\":7,\"jsonrpc\":\"2.0\",\"result\":[{\"children\":[{\"children\":[],\"kind\":8,\"name\":\"id\",\"range\":{\"end\":{\"character\":2,\"line\":1},\"start\":{\"character\":1,\"line\":1}},\"selectionRange\":{\"end\":{\"character\":2,\"line\":1},\"start\":{\"character\":1,\"line\":1}}}],\"kind\":23,\"name\":\"M\",\"range\":{\"end\":{\"character\":9,\"line\":2},\"start\":{\"character\":0,\"line\":0}},\"selectionRange\":{\"end\":{\"character\":9,\"line\":0},\"start\":{\"character\":8,\"line\":0}}},{\"children\":[],\"kind\":10,\"name\":\"E\",\"range\":{\"end\":{\"character\":2,\"line\":1},\"start\":{\"character\":1,\"line\":1}},\"selectionRange\":{\"end\":{\"character\":2,\"line\":1},\"start\":{\"character\":1,\"line\":1}}}]}",
-    ),
-    (
-        Sample::Action(ActionKind::QuickFix),
-        "{\"id\":7,\"jsonrpc\":\"2.0\",\"result\":[{\"edit\":{\"documentChanges\":[{\"edits\":[{\"newText\":\"Purchase\",\"range\":{\"end\":{\"character\":27,\"line\":3},\"start\":{\"character\":22,\"line\":3}}}],\"textDocument\":{\"uri\":\"file:///ws/shop/a.proto\",\"version\":0}}]},\"kind\":\"quickfix\",\"title\":\"a \\\"title\\\"\"}]}",
-    ),
-    (
-        Sample::Action(ActionKind::Refactor),
-        "{\"id\":7,\"jsonrpc\":\"2.0\",\"result\":[{\"edit\":{\"documentChanges\":[{\"edits\":[{\"newText\":\"Purchase\",\"range\":{\"end\":{\"character\":27,\"line\":3},\"start\":{\"character\":22,\"line\":3}}}],\"textDocument\":{\"uri\":\"file:///ws/shop/a.proto\",\"version\":0}}]},\"kind\":\"refactor\",\"title\":\"a \\\"title\\\"\"}]}",
-    ),
-    (
-        Sample::NoActions,
-        "{\"id\":7,\"jsonrpc\":\"2.0\",\"result\":[]}",
-    ),
+/// Results.
+const SAMPLES: &[Sample] = &[
+    Sample::Capabilities(PositionEncoding::Utf16),
+    Sample::Capabilities(PositionEncoding::Utf8),
+    Sample::Null,
+    Sample::Location,
+    Sample::NoLocations,
+    Sample::Renameable,
+    Sample::Edits(None),
+    Sample::Edits(Some(10)),
+    Sample::Symbols,
+    Sample::Action(ActionKind::QuickFix),
+    Sample::Action(ActionKind::Refactor),
+    Sample::NoActions,
 ];
+
+/// The messages of these under the id 7, each on a line; that of a location is as the recorded server
+/// wrote it, but for the order of the keys.
+const RESULTS: &str =
+    r#"{"id":7,"jsonrpc":"2.0","result":{"capabilities":{"codeActionProvider":{"codeActionKinds":["quickfix","refactor"]},"definitionProvider":true,"documentSymbolProvider":true,"positionEncoding":"utf-16","referencesProvider":true,"renameProvider":{"prepareProvider":true},"textDocumentSync":{"change":1,"openClose":true,"save":{"includeText":false}}},"serverInfo":{"name":"protoref_serve"}}}
+{"id":7,"jsonrpc":"2.0","result":{"capabilities":{"codeActionProvider":{"codeActionKinds":["quickfix","refactor"]},"definitionProvider":true,"documentSymbolProvider":true,"positionEncoding":"utf-8","referencesProvider":true,"renameProvider":{"prepareProvider":true},"textDocumentSync":{"change":1,"openClose":true,"save":{"includeText":false}}},"serverInfo":{"name":"protoref_serve"}}}
+{"id":7,"jsonrpc":"2.0","result":null}
+{"id":7,"jsonrpc":"2.0","result":[{"range":{"end":{"character":13,"line":4},"start":{"character":8,"line":4}},"uri":"file:///ws/shop/a.proto"}]}
+{"id":7,"jsonrpc":"2.0","result":[]}
+{"id":7,"jsonrpc":"2.0","result":{"placeholder":"Order","range":{"end":{"character":27,"line":3},"start":{"character":22,"line":3}}}}
+{"id":7,"jsonrpc":"2.0","result":{"documentChanges":[{"edits":[{"newText":"Purchase","range":{"end":{"character":27,"line":3},"start":{"character":22,"line":3}}}],"textDocument":{"uri":"file:///ws/shop/a.proto","version":null}}]}}
+{"id":7,"jsonrpc":"2.0","result":{"documentChanges":[{"edits":[{"newText":"Purchase","range":{"end":{"character":27,"line":3},"start":{"character":22,"line":3}}}],"textDocument":{"uri":"file:///ws/shop/a.proto","version":10}}]}}
+{"id":7,"jsonrpc":"2.0","result":[{"children":[{"children":[],"kind":8,"name":"id","range":{"end":{"character":2,"line":1},"start":{"character":1,"line":1}},"selectionRange":{"end":{"character":2,"line":1},"start":{"character":1,"line":1}}}],"kind":23,"name":"M","range":{"end":{"character":9,"line":2},"start":{"character":0,"line":0}},"selectionRange":{"end":{"character":9,"line":0},"start":{"character":8,"line":0}}},{"children":[],"kind":10,"name":"E","range":{"end":{"character":2,"line":1},"start":{"character":1,"line":1}},"selectionRange":{"end":{"character":2,"line":1},"start":{"character":1,"line":1}}}]}
+{"id":7,"jsonrpc":"2.0","result":[{"edit":{"documentChanges":[{"edits":[{"newText":"Purchase","range":{"end":{"character":27,"line":3},"start":{"character":22,"line":3}}}],"textDocument":{"uri":"file:///ws/shop/a.proto","version":0}}]},"kind":"quickfix","title":"a \"title\""}]}
+{"id":7,"jsonrpc":"2.0","result":[{"edit":{"documentChanges":[{"edits":[{"newText":"Purchase","range":{"end":{"character":27,"line":3},"start":{"character":22,"line":3}}}],"textDocument":{"uri":"file:///ws/shop/a.proto","version":0}}]},"kind":"refactor","title":"a \"title\""}]}
+{"id":7,"jsonrpc":"2.0","result":[]}"#;
 
 const URI: &str = "file:///ws/shop/a.proto";
 
@@ -172,10 +152,13 @@ fn result(alloc: Global, sample: Sample) -> Result<Vec<u8>, AllocError> {
 
 // Each of them, unless memory is refused.
 fn expect_results<R: AllocGlobal + Abort>(rt: &R) -> Result<(), AllocError> {
-    for (sample, wanted) in RESULTS {
+    let mut rows = RESULTS.lines();
+    for sample in SAMPLES {
+        let wanted = rows.next().expect(rt, "a row");
         let text = result(rt.alloc(), *sample)?;
-        assert!(rt; text.as_slice() == wanted.as_bytes(), "{wanted}");
+        expect_bytes(rt, text.as_slice(), wanted);
     }
+    expect_that(rt, rows.next().is_none(), "as many rows");
     Ok(())
 }
 
@@ -202,50 +185,18 @@ fn symbol(alloc: Global, kind: SymbolKind) -> Result<Vec<u8>, AllocError> {
     result_message(alloc, &Id::Number(1), &Answer::Symbols(list))
 }
 
+fn expect_kind<R: AllocGlobal + Abort>(rt: &R, kind: SymbolKind, wanted: &str) {
+    let text = symbol(rt.alloc(), kind).expect(rt, "memory");
+    let text = std::str::from_utf8(text.as_slice()).expect(rt, "UTF-8");
+    expect_that(rt, text.contains(wanted), wanted);
+}
+
 #[test]
 fn kinds_of_symbols(rt: HostRuntime) {
     for (kind, wanted) in KINDS {
-        let text = symbol(rt.alloc(), *kind).expect(&rt, "memory");
-        let is_there = std::str::from_utf8(text.as_slice()).is_ok_and(|text| text.contains(
-            *wanted,
-        ));
-        assert!(rt; is_there, "{wanted}");
+        expect_kind(&rt, *kind, wanted);
     }
 }
-
-/// Errors, with the number of their request if it has one, and their messages.
-const ERRORS: &[(ErrorCode, Option<i64>, &str)] = &[
-    (
-        ErrorCode::ParseError,
-        None,
-        "{\"error\":{\"code\":-32700,\"message\":\"é\\n\"},\"id\":null,\"jsonrpc\":\"2.0\"}",
-    ),
-    (
-        ErrorCode::InvalidRequest,
-        None,
-        "{\"error\":{\"code\":-32600,\"message\":\"é\\n\"},\"id\":null,\"jsonrpc\":\"2.0\"}",
-    ),
-    (
-        ErrorCode::MethodNotFound,
-        Some(1),
-        "{\"error\":{\"code\":-32601,\"message\":\"é\\n\"},\"id\":1,\"jsonrpc\":\"2.0\"}",
-    ),
-    (
-        ErrorCode::InvalidParams,
-        Some(-1),
-        "{\"error\":{\"code\":-32602,\"message\":\"é\\n\"},\"id\":-1,\"jsonrpc\":\"2.0\"}",
-    ),
-    (
-        ErrorCode::ServerNotInitialized,
-        Some(i64::MAX),
-        "{\"error\":{\"code\":-32002,\"message\":\"é\\n\"},\"id\":9223372036854775807,\"jsonrpc\":\"2.0\"}",
-    ),
-    (
-        ErrorCode::RequestFailed,
-        Some(i64::MIN),
-        "{\"error\":{\"code\":-32803,\"message\":\"é\\n\"},\"id\":-9223372036854775808,\"jsonrpc\":\"2.0\"}",
-    ),
-];
 
 fn error(alloc: Global, code: ErrorCode, number: Option<i64>) -> Result<Vec<u8>, AllocError> {
     match number {
@@ -254,12 +205,37 @@ fn error(alloc: Global, code: ErrorCode, number: Option<i64>) -> Result<Vec<u8>,
     }
 }
 
+// An error under the number of its request, if it has one.
+fn expect_error<R: AllocGlobal + Abort>(
+    rt: &R,
+    code: ErrorCode,
+    number: Option<i64>,
+    wanted: &str,
+) {
+    let text = error(rt.alloc(), code, number).expect(rt, "memory");
+    expect_bytes(rt, text.as_slice(), wanted);
+}
+
 #[test]
 fn errors(rt: HostRuntime) {
-    for (code, number, wanted) in ERRORS {
-        let text = error(rt.alloc(), *code, *number).expect(&rt, "memory");
-        assert!(rt; text.as_slice() == wanted.as_bytes(), "{wanted}");
-    }
+    let wanted = r#"{"error":{"code":-32700,"message":"é\n"},"id":null,"jsonrpc":"2.0"}"#;
+    expect_error(&rt, ErrorCode::ParseError, None, wanted);
+    let wanted = r#"{"error":{"code":-32600,"message":"é\n"},"id":null,"jsonrpc":"2.0"}"#;
+    expect_error(&rt, ErrorCode::InvalidRequest, None, wanted);
+    let wanted = r#"{"error":{"code":-32601,"message":"é\n"},"id":1,"jsonrpc":"2.0"}"#;
+    expect_error(&rt, ErrorCode::MethodNotFound, Some(1), wanted);
+}
+
+#[test]
+fn errors_of_known_methods(rt: HostRuntime) {
+    let wanted = r#"{"error":{"code":-32602,"message":"é\n"},"id":-1,"jsonrpc":"2.0"}"#;
+    expect_error(&rt, ErrorCode::InvalidParams, Some(-1), wanted);
+    let wanted =
+        r#"{"error":{"code":-32002,"message":"é\n"},"id":9223372036854775807,"jsonrpc":"2.0"}"#;
+    expect_error(&rt, ErrorCode::ServerNotInitialized, Some(i64::MAX), wanted);
+    let wanted =
+        r#"{"error":{"code":-32803,"message":"é\n"},"id":-9223372036854775808,"jsonrpc":"2.0"}"#;
+    expect_error(&rt, ErrorCode::RequestFailed, Some(i64::MIN), wanted);
 }
 
 // The null result of a request of this text as id.
@@ -271,28 +247,9 @@ fn under(alloc: Global, id: &str) -> Result<Vec<u8>, AllocError> {
 #[test]
 fn ids_that_are_texts(rt: HostRuntime) {
     let text = under(rt.alloc(), "a/\"\u{1f}😀").expect(&rt, "memory");
-    let wanted = "{\"id\":\"a/\\\"\\u001f😀\",\"jsonrpc\":\"2.0\",\"result\":null}";
-    assert!(rt; text.as_slice() == wanted.as_bytes());
+    let wanted = r#"{"id":"a/\"\u001f😀","jsonrpc":"2.0","result":null}"#;
+    expect_bytes(&rt, text.as_slice(), wanted);
 }
-
-/// Lists of diagnostics of so many, with a version or none, and their messages.
-const DIAGNOSTICS: &[(Option<(Severity, &str)>, Option<u64>, &str)] = &[
-    (
-        Some((Severity::Warning, "FIELD_NAMES")),
-        Some(10),
-        "{\"jsonrpc\":\"2.0\",\"method\":\"textDocument/publishDiagnostics\",\"params\":{\"diagnostics\":[{\"code\":\"FIELD_NAMES\",\"message\":\"a finding\",\"range\":{\"end\":{\"character\":6,\"line\":0},\"start\":{\"character\":0,\"line\":0}},\"severity\":2,\"source\":\"protoref\"}],\"uri\":\"file:///ws/shop/a.proto\",\"version\":10}}",
-    ),
-    (
-        Some((Severity::Error, "17 NumberRange")),
-        None,
-        "{\"jsonrpc\":\"2.0\",\"method\":\"textDocument/publishDiagnostics\",\"params\":{\"diagnostics\":[{\"code\":\"17 NumberRange\",\"message\":\"a finding\",\"range\":{\"end\":{\"character\":6,\"line\":0},\"start\":{\"character\":0,\"line\":0}},\"severity\":1,\"source\":\"protoref\"}],\"uri\":\"file:///ws/shop/a.proto\"}}",
-    ),
-    (
-        None,
-        Some(0),
-        "{\"jsonrpc\":\"2.0\",\"method\":\"textDocument/publishDiagnostics\",\"params\":{\"diagnostics\":[],\"uri\":\"file:///ws/shop/a.proto\",\"version\":0}}",
-    ),
-];
 
 fn diagnostic(alloc: Global, severity: Severity, code: &str) -> Result<Diagnostic, AllocError> {
     Ok(Diagnostic {
@@ -303,15 +260,17 @@ fn diagnostic(alloc: Global, severity: Severity, code: &str) -> Result<Diagnosti
     })
 }
 
+fn one(alloc: Global, severity: Severity, code: &str) -> Result<Vec<Diagnostic>, AllocError> {
+    let mut list = Vec::new(alloc);
+    list.push(diagnostic(alloc, severity, code)?)?;
+    Ok(list)
+}
+
 fn published(
     alloc: Global,
-    one: Option<(Severity, &str)>,
     version: Option<u64>,
+    diagnostics: Vec<Diagnostic>,
 ) -> Result<Vec<u8>, AllocError> {
-    let mut diagnostics = Vec::new(alloc);
-    if let Some((severity, code)) = one {
-        diagnostics.push(diagnostic(alloc, severity, code)?)?;
-    }
     let uri = String::from_str(alloc, URI)?;
     let document = DocumentDiagnostics {
         uri,
@@ -321,46 +280,63 @@ fn published(
     diagnostics_message(alloc, &document)
 }
 
-#[test]
-fn diagnostics(rt: HostRuntime) {
-    for (one, version, wanted) in DIAGNOSTICS {
-        let text = published(rt.alloc(), *one, *version).expect(&rt, "memory");
-        assert!(rt; text.as_slice() == wanted.as_bytes(), "{wanted}");
-    }
+fn expect_published<R: AllocGlobal + Abort>(
+    rt: &R,
+    version: Option<u64>,
+    diagnostics: Vec<Diagnostic>,
+    wanted: &str,
+) {
+    let text = published(rt.alloc(), version, diagnostics).expect(rt, "memory");
+    expect_bytes(rt, text.as_slice(), wanted);
 }
 
-/// Types of messages, and what is written of them.
-const TYPES: &[(MessageType, &str, &str)] = &[
-    (
-        MessageType::Error,
-        "{\"jsonrpc\":\"2.0\",\"method\":\"window/showMessage\",\"params\":{\"message\":\"m\",\"type\":1}}",
-        "{\"jsonrpc\":\"2.0\",\"method\":\"window/logMessage\",\"params\":{\"message\":\"m\",\"type\":1}}",
-    ),
-    (
-        MessageType::Warning,
-        "{\"jsonrpc\":\"2.0\",\"method\":\"window/showMessage\",\"params\":{\"message\":\"m\",\"type\":2}}",
-        "{\"jsonrpc\":\"2.0\",\"method\":\"window/logMessage\",\"params\":{\"message\":\"m\",\"type\":2}}",
-    ),
-    (
-        MessageType::Info,
-        "{\"jsonrpc\":\"2.0\",\"method\":\"window/showMessage\",\"params\":{\"message\":\"m\",\"type\":3}}",
-        "{\"jsonrpc\":\"2.0\",\"method\":\"window/logMessage\",\"params\":{\"message\":\"m\",\"type\":3}}",
-    ),
-    (
-        MessageType::Log,
-        "{\"jsonrpc\":\"2.0\",\"method\":\"window/showMessage\",\"params\":{\"message\":\"m\",\"type\":4}}",
-        "{\"jsonrpc\":\"2.0\",\"method\":\"window/logMessage\",\"params\":{\"message\":\"m\",\"type\":4}}",
-    ),
-];
+#[test]
+fn diagnostics(rt: HostRuntime) {
+    let found = one(rt.alloc(), Severity::Warning, "FIELD_NAMES").expect(&rt, "memory");
+    expect_published(&rt, Some(10), found, WARNING);
+    let found = one(rt.alloc(), Severity::Error, "17 NumberRange").expect(&rt, "memory");
+    expect_published(&rt, None, found, ERROR);
+    expect_published(&rt, Some(0), Vec::new(rt.alloc()), NOTHING);
+}
+
+const WARNING: &str =
+    r#"{"jsonrpc":"2.0","method":"textDocument/publishDiagnostics","params":{"diagnostics":[{"code":"FIELD_NAMES","message":"a finding","range":{"end":{"character":6,"line":0},"start":{"character":0,"line":0}},"severity":2,"source":"protoref"}],"uri":"file:///ws/shop/a.proto","version":10}}"#;
+
+const ERROR: &str =
+    r#"{"jsonrpc":"2.0","method":"textDocument/publishDiagnostics","params":{"diagnostics":[{"code":"17 NumberRange","message":"a finding","range":{"end":{"character":6,"line":0},"start":{"character":0,"line":0}},"severity":1,"source":"protoref"}],"uri":"file:///ws/shop/a.proto"}}"#;
+
+const NOTHING: &str =
+    r#"{"jsonrpc":"2.0","method":"textDocument/publishDiagnostics","params":{"diagnostics":[],"uri":"file:///ws/shop/a.proto","version":0}}"#;
+
+fn expect_messages<R: AllocGlobal + Abort>(rt: &R, kind: MessageType, wanted: (&str, &str)) {
+    let shown = show_message(rt.alloc(), kind, "m").expect(rt, "memory");
+    expect_bytes(rt, shown.as_slice(), wanted.0);
+    let logged = log_message(rt.alloc(), kind, "m").expect(rt, "memory");
+    expect_bytes(rt, logged.as_slice(), wanted.1);
+}
 
 #[test]
 fn messages_for_users(rt: HostRuntime) {
-    for (kind, shown, logged) in TYPES {
-        let text = show_message(rt.alloc(), *kind, "m").expect(&rt, "memory");
-        assert!(rt; text.as_slice() == shown.as_bytes(), "{shown}");
-        let text = log_message(rt.alloc(), *kind, "m").expect(&rt, "memory");
-        assert!(rt; text.as_slice() == logged.as_bytes(), "{logged}");
-    }
+    let wanted = (
+        r#"{"jsonrpc":"2.0","method":"window/showMessage","params":{"message":"m","type":1}}"#,
+        r#"{"jsonrpc":"2.0","method":"window/logMessage","params":{"message":"m","type":1}}"#,
+    );
+    expect_messages(&rt, MessageType::Error, wanted);
+    let wanted = (
+        r#"{"jsonrpc":"2.0","method":"window/showMessage","params":{"message":"m","type":2}}"#,
+        r#"{"jsonrpc":"2.0","method":"window/logMessage","params":{"message":"m","type":2}}"#,
+    );
+    expect_messages(&rt, MessageType::Warning, wanted);
+    let wanted = (
+        r#"{"jsonrpc":"2.0","method":"window/showMessage","params":{"message":"m","type":3}}"#,
+        r#"{"jsonrpc":"2.0","method":"window/logMessage","params":{"message":"m","type":3}}"#,
+    );
+    expect_messages(&rt, MessageType::Info, wanted);
+    let wanted = (
+        r#"{"jsonrpc":"2.0","method":"window/showMessage","params":{"message":"m","type":4}}"#,
+        r#"{"jsonrpc":"2.0","method":"window/logMessage","params":{"message":"m","type":4}}"#,
+    );
+    expect_messages(&rt, MessageType::Log, wanted);
 }
 
 #[test]

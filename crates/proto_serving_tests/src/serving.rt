@@ -3,6 +3,7 @@
 
 ghost use Rattle.std.specs.Prelude.{⊤};
 
+use crate::expecting::{expect_bytes, expect_text, parts};
 use crate::streams::{Reader, Writer};
 use proto_frames::{FrameFault, WriteFault};
 use proto_serving::{Buffered, Machine, ServeFault, TakeFault, serve};
@@ -18,23 +19,37 @@ struct Echo {
     is_done: bool,
 }
 
+fn reply(alloc: Global, content: &[u8], is_followed: bool) -> Result<Vec<u8>, AllocError> {
+    let mut reply = Vec::from_slice(alloc, content)?;
+    if is_followed {
+        reply.push(b'+')?;
+    }
+    Ok(reply)
+}
+
+fn put_replies(
+    replies: &mut Vec<Vec<u8>>,
+    alloc: Global,
+    content: &[u8],
+    is_followed: bool,
+) -> Result<(), AllocError> {
+    if content == b"none".as_slice() {
+        return Ok(());
+    }
+    replies.push(reply(alloc, content, is_followed)?)?;
+    if content == b"two".as_slice() {
+        replies.push(reply(alloc, b"2", false)?)?;
+    }
+    Ok(())
+}
+
 fn replies_to(
     alloc: Global,
     content: &[u8],
     is_followed: bool,
 ) -> Result<Vec<Vec<u8>>, AllocError> {
     let mut replies = Vec::new(alloc);
-    if content == b"none".as_slice() {
-        return Ok(replies);
-    }
-    let mut reply = Vec::from_slice(alloc, content)?;
-    if is_followed {
-        reply.push(b'+')?;
-    }
-    replies.push(reply)?;
-    if content == b"two".as_slice() {
-        replies.push(Vec::from_slice(alloc, b"2")?)?;
-    }
+    put_replies(&mut replies, alloc, content, is_followed)?;
     Ok(replies)
 }
 
@@ -68,87 +83,26 @@ impl Machine for Echo {
     }
 }
 
-/// Streams that a reader has whole in its buffer, what is written, and how the run ends.
-const STREAMS: &[(&str, &str, Result<(), ServeFault>)] = &[
-    ("", "", Ok(())),
-    (
-        "Content-Length: 1\r\n\r\na",
-        "Content-Length: 1\r\n\r\na",
-        Ok(()),
-    ),
-    (
-        "Content-Length: 1\r\n\r\naContent-Length: 0\r\n\r\n",
-        "Content-Length: 2\r\n\r\na+Content-Length: 0\r\n\r\n",
-        Ok(()),
-    ),
-    // Only a whole frame counts as waiting.
-    (
-        "Content-Length: 1\r\n\r\naContent-Length: 2\r\n\r\nb",
-        "Content-Length: 1\r\n\r\na",
-        Err(ServeFault::Frame(FrameFault::Cut)),
-    ),
-    (
-        "Content-Length: 1\r\n\r\naContent",
-        "Content-Length: 1\r\n\r\na",
-        Err(ServeFault::Frame(FrameFault::Cut)),
-    ),
-    (
-        "Content-Length: 1\r\n\r\na\r\n",
-        "Content-Length: 1\r\n\r\na",
-        Err(ServeFault::Frame(FrameFault::Malformed)),
-    ),
-    (
-        "Content-Length: 1\r\n\r\naContent-Length: 17\r\n\r\n01234567890123456",
-        "Content-Length: 1\r\n\r\na",
-        Err(ServeFault::Frame(FrameFault::TooLong)),
-    ),
-    (
-        "Content-Length: 16\r\n\r\n0123456789012345",
-        "Content-Length: 16\r\n\r\n0123456789012345",
-        Ok(()),
-    ),
-    (
-        "Content-Length: 3\r\n\r\ntwoContent-Length: 4\r\n\r\nnoneContent-Length: 1\r\n\r\na",
-        "Content-Length: 4\r\n\r\ntwo+Content-Length: 1\r\n\r\n2Content-Length: 1\r\n\r\na",
-        Ok(()),
-    ),
-    (
-        "Content-Length: 1\r\n\r\naContent-Length: 2\r\n\r\nnoContent-Length: 1\r\n\r\nb",
-        "Content-Length: 2\r\n\r\na+",
-        Err(ServeFault::Take(TakeFault::Refused)),
-    ),
-    // What comes after the end is not read.
-    (
-        "Content-Length: 4\r\n\r\nexitContent-Length: 1\r\n\r\na",
-        "Content-Length: 5\r\n\r\nexit+",
-        Ok(()),
-    ),
-    (
-        "Content-Length: 4\r\n\r\nexit\r\n",
-        "Content-Length: 4\r\n\r\nexit",
-        Ok(()),
-    ),
-];
+/// Streams that a reader has whole in its buffer, what is written, and how the run ends: only a whole
+/// frame counts as waiting, and what comes after the end is not read.
+const STREAMS: &str = " =>  => Ok(())|\
+Content-Length: 1\r\n\r\na => Content-Length: 1\r\n\r\na => Ok(())|\
+Content-Length: 1\r\n\r\naContent-Length: 0\r\n\r\n => Content-Length: 2\r\n\r\na+Content-Length: 0\r\n\r\n => Ok(())|\
+Content-Length: 1\r\n\r\naContent-Length: 2\r\n\r\nb => Content-Length: 1\r\n\r\na => Err(Frame(Cut))|\
+Content-Length: 1\r\n\r\naContent => Content-Length: 1\r\n\r\na => Err(Frame(Cut))|\
+Content-Length: 1\r\n\r\na\r\n => Content-Length: 1\r\n\r\na => Err(Frame(Malformed))|\
+Content-Length: 1\r\n\r\naContent-Length: 17\r\n\r\n01234567890123456 => Content-Length: 1\r\n\r\na => Err(Frame(TooLong))|\
+Content-Length: 16\r\n\r\n0123456789012345 => Content-Length: 16\r\n\r\n0123456789012345 => Ok(())|\
+Content-Length: 3\r\n\r\ntwoContent-Length: 4\r\n\r\nnoneContent-Length: 1\r\n\r\na => Content-Length: 4\r\n\r\ntwo+Content-Length: 1\r\n\r\n2Content-Length: 1\r\n\r\na => Ok(())|\
+Content-Length: 1\r\n\r\naContent-Length: 2\r\n\r\nnoContent-Length: 1\r\n\r\nb => Content-Length: 2\r\n\r\na+ => Err(Take(Refused))|\
+Content-Length: 4\r\n\r\nexitContent-Length: 1\r\n\r\na => Content-Length: 5\r\n\r\nexit+ => Ok(())|\
+Content-Length: 4\r\n\r\nexit\r\n => Content-Length: 4\r\n\r\nexit => Ok(())";
 
 /// The same, where a reader has no byte before it is asked.
-const SLOW: &[(&str, &str, Result<(), ServeFault>)] = &[
-    ("", "", Ok(())),
-    (
-        "Content-Length: 1\r\n\r\naContent-Length: 0\r\n\r\n",
-        "Content-Length: 1\r\n\r\naContent-Length: 0\r\n\r\n",
-        Ok(()),
-    ),
-    (
-        "Content-Length: 3\r\n\r\ntwoContent-Length: 4\r\n\r\nexitContent-Length: 1\r\n\r\na",
-        "Content-Length: 3\r\n\r\ntwoContent-Length: 1\r\n\r\n2Content-Length: 4\r\n\r\nexit",
-        Ok(()),
-    ),
-    (
-        "Content-Length: 1\r\n\r\naContent-Length: 2\r\n\r\nb",
-        "Content-Length: 1\r\n\r\na",
-        Err(ServeFault::Frame(FrameFault::Cut)),
-    ),
-];
+const SLOW: &str = " =>  => Ok(())|\
+Content-Length: 1\r\n\r\naContent-Length: 0\r\n\r\n => Content-Length: 1\r\n\r\naContent-Length: 0\r\n\r\n => Ok(())|\
+Content-Length: 3\r\n\r\ntwoContent-Length: 4\r\n\r\nexitContent-Length: 1\r\n\r\na => Content-Length: 3\r\n\r\ntwoContent-Length: 1\r\n\r\n2Content-Length: 4\r\n\r\nexit => Ok(())|\
+Content-Length: 1\r\n\r\naContent-Length: 2\r\n\r\nb => Content-Length: 1\r\n\r\na => Err(Frame(Cut))";
 
 /// A writer that takes at most so many bytes a call.
 fn writer(alloc: Global, most: usize, calls: usize) -> Result<Writer, AllocError> {
@@ -159,29 +113,41 @@ fn writer(alloc: Global, most: usize, calls: usize) -> Result<Writer, AllocError
     })
 }
 
-// Runs the machine over the reader, and compares what is written, and how the run ends.
-fn expect<B: Buffered, R: AllocGlobal + Abort>(
+// Runs the machine over the reader.
+fn run<B: Buffered, R: AllocGlobal>(
     rt: &R,
     reader: &mut B,
     writer: &mut Writer,
-    wanted: (&str, Result<(), ServeFault>),
-) {
+) -> Result<(), ServeFault> {
     let mut machine = Echo { is_done: false };
-    let end = serve(rt.alloc(), reader, writer, &mut machine, CAP);
-    assert!(rt;
-        writer.bytes.as_slice() == wanted.0.as_bytes(),
-        "{}",
-        wanted.0
-    );
-    assert!(rt; end == wanted.1, "{}", wanted.0);
+    serve(rt.alloc(), reader, writer, &mut machine, CAP)
+}
+
+// What is written, and how the run ends.
+fn expect_end<R: AllocGlobal + Abort>(
+    rt: &R,
+    written: &[u8],
+    end: Result<(), ServeFault>,
+    wanted: (&str, &str),
+) {
+    expect_bytes(rt, written, wanted.0);
+    let ended = format!(in rt.alloc(); "{end:?}").expect(rt, "memory");
+    expect_text(rt, ended.as_str(), wanted.1);
+}
+
+// Of a stream that a reader has whole.
+fn expect_whole<R: AllocGlobal + Abort>(rt: &R, stream: &str, wanted: (&str, &str)) {
+    let mut reader = stream.as_bytes();
+    let mut writer = writer(rt.alloc(), 1000, 1000).expect(rt, "memory");
+    let end = run(rt, &mut reader, &mut writer);
+    expect_end(rt, writer.bytes.as_slice(), end, wanted);
 }
 
 #[test]
 fn over_bytes(rt: HostRuntime) {
-    for (stream, written, end) in STREAMS {
-        let mut reader = stream.as_bytes();
-        let mut writer = writer(rt.alloc(), 1000, 1000).expect(&rt, "memory");
-        expect(&rt, &mut reader, &mut writer, (written, *end));
+    for row in STREAMS.split('|') {
+        let (stream, wanted) = parts(&rt, row);
+        expect_whole(&rt, stream, parts(&rt, wanted));
     }
 }
 
@@ -197,88 +163,106 @@ fn reader<'a, R: AllocGlobal + Abort>(
     BufReader::with_capacity(rt.alloc(), 256, inner).expect(rt, "memory")
 }
 
-#[test]
-fn over_what_is_read_ahead(rt: HostRuntime) {
-    for (stream, written, end) in STREAMS {
-        let mut reader = reader(&rt, stream, 256, 1000);
-        let mut writer = writer(rt.alloc(), 1000, 1000).expect(&rt, "memory");
-        expect(&rt, &mut reader, &mut writer, (written, *end));
+// At most so many bytes a call, and so many calls that work.
+type Pace = (usize, usize);
+
+// Of a stream whose reader and writer have these paces.
+fn expect_paced<R: AllocGlobal + Abort>(
+    rt: &R,
+    stream: &str,
+    reads: Pace,
+    writes: Pace,
+    wanted: (&str, &str),
+) {
+    let mut reader = reader(rt, stream, reads.0, reads.1);
+    let mut writer = writer(rt.alloc(), writes.0, writes.1).expect(rt, "memory");
+    let end = run(rt, &mut reader, &mut writer);
+    expect_end(rt, writer.bytes.as_slice(), end, wanted);
+}
+
+fn expect_rows<R: AllocGlobal + Abort>(rt: &R, rows: &str, reads: Pace, writes: Pace) {
+    for row in rows.split('|') {
+        let (stream, wanted) = parts(rt, row);
+        expect_paced(rt, stream, reads, writes, parts(rt, wanted));
     }
 }
 
 #[test]
+fn over_what_is_read_ahead(rt: HostRuntime) {
+    expect_rows(&rt, STREAMS, (256, 1000), (1000, 1000));
+}
+
+#[test]
 fn one_byte_at_a_time(rt: HostRuntime) {
-    for (stream, written, end) in SLOW {
-        let mut reader = reader(&rt, stream, 1, 1000);
-        let mut writer = writer(rt.alloc(), 1, 1000).expect(&rt, "memory");
-        expect(&rt, &mut reader, &mut writer, (written, *end));
-    }
+    expect_rows(&rt, SLOW, (1, 1000), (1, 1000));
 }
 
 const THREE: &str =
     "Content-Length: 1\r\n\r\naContent-Length: 1\r\n\r\nbContent-Length: 1\r\n\r\nc";
 
-/// How many calls of a writer that takes ten bytes a call work, and what is written then.
-const WRITES: &[(usize, &str)] = &[
-    (0, ""),
-    (1, "Content-Le"),
-    (2, "Content-Length: 1\r\n\r"),
-    (3, "Content-Length: 1\r\n\r\na"),
-    (4, "Content-Length: 1\r\n\r\naContent-Le"),
-    (
-        8,
-        "Content-Length: 1\r\n\r\naContent-Length: 1\r\n\r\nbContent-Length: 1\r\n\r",
-    ),
-];
+// So many calls of a writer that takes ten bytes a call work: what is written then.
+fn expect_written<R: AllocGlobal + Abort>(rt: &R, calls: usize, written: &str) {
+    let end = "Err(Write(Output))";
+    expect_paced(rt, THREE, (1, 1000), (10, calls), (written, end));
+}
 
 #[test]
 fn a_write_fails(rt: HostRuntime) {
-    for (calls, written) in WRITES {
-        let mut reader = reader(&rt, THREE, 1, 1000);
-        let mut writer = writer(rt.alloc(), 10, *calls).expect(&rt, "memory");
-        let end = Err(ServeFault::Write(WriteFault::Output));
-        expect(&rt, &mut reader, &mut writer, (written, end));
-    }
+    expect_written(&rt, 0, "");
+    expect_written(&rt, 1, "Content-Le");
+    expect_written(&rt, 2, "Content-Length: 1\r\n\r");
+    expect_written(&rt, 3, "Content-Length: 1\r\n\r\na");
+    expect_written(&rt, 4, "Content-Length: 1\r\n\r\naContent-Le");
+    let two = "Content-Length: 1\r\n\r\naContent-Length: 1\r\n\r\nbContent-Length: 1\r\n\r";
+    expect_written(&rt, 8, two);
 }
 
-/// How many reads of a byte work, and what is written then. A frame has 22 bytes.
-const READS: &[(usize, &str)] = &[
-    (0, ""),
-    (21, ""),
-    (22, "Content-Length: 1\r\n\r\na"),
-    (43, "Content-Length: 1\r\n\r\na"),
-    (44, "Content-Length: 1\r\n\r\naContent-Length: 1\r\n\r\nb"),
-];
+// So many reads of a byte work: what is written then. A frame has 22 bytes.
+fn expect_read<R: AllocGlobal + Abort>(rt: &R, calls: usize, written: &str) {
+    let end = "Err(Frame(Input))";
+    expect_paced(rt, THREE, (1, calls), (1000, 1000), (written, end));
+}
 
 #[test]
 fn a_read_fails(rt: HostRuntime) {
-    for (calls, written) in READS {
-        let mut reader = reader(&rt, THREE, 1, *calls);
-        let mut writer = writer(rt.alloc(), 1000, 1000).expect(&rt, "memory");
-        let end = Err(ServeFault::Frame(FrameFault::Input));
-        expect(&rt, &mut reader, &mut writer, (written, end));
-    }
+    expect_read(&rt, 0, "");
+    expect_read(&rt, 21, "");
+    expect_read(&rt, 22, "Content-Length: 1\r\n\r\na");
+    expect_read(&rt, 43, "Content-Length: 1\r\n\r\na");
+    let two = "Content-Length: 1\r\n\r\naContent-Length: 1\r\n\r\nb";
+    expect_read(&rt, 44, two);
 }
 
-// The run of a session, unless memory is refused: then the run ends early, or it does not see that a
-// message is waiting.
-fn expect_run<R: AllocGlobal + Abort>(rt: &R) -> Result<(), AllocError> {
-    let mut bytes = THREE.as_bytes();
-    let mut writer = writer(rt.alloc(), 1000, 1000)?;
-    let mut machine = Echo { is_done: false };
+fn is_memory(fault: ServeFault) -> bool {
+    fault == ServeFault::Frame(FrameFault::NoMemory)
+        || fault == ServeFault::Take(TakeFault::NoMemory)
+        || fault == ServeFault::Write(WriteFault::NoMemory)
+}
+
+// How a session ends: where memory is refused early, or it does not see that a message is waiting.
+fn expect_session<R: Abort>(
+    rt: &R,
+    written: &[u8],
+    end: Result<(), ServeFault>,
+) -> Result<(), AllocError> {
     let wanted =
         b"Content-Length: 2\r\n\r\na+Content-Length: 2\r\n\r\nb+Content-Length: 1\r\n\r\nc";
-    match serve(rt.alloc(), &mut bytes, &mut writer, &mut machine, CAP) {
-        Ok(()) if writer.bytes.as_slice() == wanted.as_slice() => Ok(()),
+    match end {
+        Ok(()) if written == wanted.as_slice() => Ok(()),
         Ok(()) => Err(AllocError),
         Err(fault) => {
-            let is_memory = fault == ServeFault::Frame(FrameFault::NoMemory)
-                || fault == ServeFault::Take(TakeFault::NoMemory)
-                || fault == ServeFault::Write(WriteFault::NoMemory);
-            assert!(rt; is_memory);
+            assert!(rt; is_memory(fault));
             Err(AllocError)
         }
     }
+}
+
+// The run of a session, unless memory is refused.
+fn expect_run<R: AllocGlobal + Abort>(rt: &R) -> Result<(), AllocError> {
+    let mut bytes = THREE.as_bytes();
+    let mut writer = writer(rt.alloc(), 1000, 1000)?;
+    let end = run(rt, &mut bytes, &mut writer);
+    expect_session(rt, writer.bytes.as_slice(), end)
 }
 
 #[test]

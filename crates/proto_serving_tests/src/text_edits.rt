@@ -1,5 +1,6 @@
 //! Splices as text edits, written as `LINE:COLUMN-LINE:COLUMN=NEW`.
 
+use crate::expecting::expect_text;
 use proto_base::MAX_LEN;
 use proto_positions::{Encoding, RangeEdit, have_positions, text_edits};
 use proto_text::{Splice, Splices};
@@ -10,28 +11,6 @@ const TEXT: &str = "aé😀b\r\nc\rd\n";
 
 /// The offset, the old and the new text of each splice.
 type Rows = &'static [(u32, &'static str, &'static str)];
-
-/// Splices, and their text edits in UTF-16 and in UTF-8.
-const EDITS: &[(Rows, &str, &str)] = &[
-    (&[], "", ""),
-    (&[(0, "a", "b")], "0:0-0:1=b;", "0:0-0:1=b;"),
-    (
-        &[(1, "é", "e"), (3, "😀", ""), (7, "b\r\n", "x")],
-        "0:1-0:2=e;0:2-0:4=;0:4-1:0=x;",
-        "0:1-0:3=e;0:3-0:7=;0:7-1:0=x;",
-    ),
-    // Two that stand at one offset keep their order.
-    (
-        &[(10, "", "x"), (10, "", "y"), (11, "\rd", "é")],
-        "1:0-1:0=x;1:0-1:0=y;1:1-2:1=é;",
-        "1:0-1:0=x;1:0-1:0=y;1:1-2:1=é;",
-    ),
-    (&[(14, "", "e")], "3:0-3:0=e;", "3:0-3:0=e;"),
-    // An end within a line end, or past the text.
-    (&[(8, "\r", "")], "none", "none"),
-    (&[(9, "\n", "")], "none", "none"),
-    (&[(14, "a", "")], "none", "none"),
-];
 
 fn put_splices<R: AllocGlobal + Abort>(rt: &R, rows: Rows) -> Vec<Splice> {
     let mut splices = Vec::new(rt.alloc());
@@ -48,9 +27,12 @@ fn put_splices<R: AllocGlobal + Abort>(rt: &R, rows: Rows) -> Vec<Splice> {
 
 fn put_edit<R: AllocGlobal + Abort>(rt: &R, out: &mut String, edit: &RangeEdit) {
     let (start, end) = (edit.start, edit.end);
-    write!(out, "{}:{}-", start.line, start.character).expect(rt, "memory");
-    write!(out, "{}:{}=", end.line, end.character).expect(rt, "memory");
-    write!(out, "{};", edit.new).expect(rt, "memory");
+    write!(
+        out,
+        "{}:{}-{}:{}={};",
+        start.line, start.character, end.line, end.character, edit.new
+    )
+    .expect(rt, "memory");
 }
 
 // The text edits of the splices, or that they have none.
@@ -68,17 +50,44 @@ fn shown<R: AllocGlobal + Abort>(rt: &R, encoding: Encoding, splices: &Splices) 
     out
 }
 
-fn is_shown<R: AllocGlobal + Abort>(rt: &R, encoding: Encoding, rows: Rows, said: &str) -> bool {
-    match Splices::new(put_splices(rt, rows)) {
-        Ok(splices) => shown(rt, encoding, &splices).as_str() == said,
-        Err(_) => false,
-    }
+fn expect_shown<R: AllocGlobal + Abort>(
+    rt: &R,
+    encoding: Encoding,
+    splices: &Splices,
+    wanted: &str,
+) {
+    let found = shown(rt, encoding, splices);
+    expect_text(rt, found.as_str(), wanted);
+}
+
+// The text edits of splices in UTF-16 and in UTF-8.
+fn expect_edits<R: AllocGlobal + Abort>(rt: &R, rows: Rows, wide: &str, bytes: &str) {
+    let splices = Splices::new(put_splices(rt, rows)).expect(rt, "splices in order");
+    expect_shown(rt, Encoding::Utf16, &splices, wide);
+    expect_shown(rt, Encoding::Utf8, &splices, bytes);
 }
 
 #[test]
 fn splices_are_text_edits(rt: HostRuntime) {
-    for (rows, wide, bytes) in EDITS {
-        assert!(rt; is_shown(&rt, Encoding::Utf16, rows, wide), "{wide}");
-        assert!(rt; is_shown(&rt, Encoding::Utf8, rows, bytes), "{bytes}");
-    }
+    expect_edits(&rt, &[], "", "");
+    expect_edits(&rt, &[(0, "a", "b")], "0:0-0:1=b;", "0:0-0:1=b;");
+    expect_edits(
+        &rt,
+        &[(1, "é", "e"), (3, "😀", ""), (7, "b\r\n", "x")],
+        "0:1-0:2=e;0:2-0:4=;0:4-1:0=x;",
+        "0:1-0:3=e;0:3-0:7=;0:7-1:0=x;",
+    );
+    // Two that stand at one offset keep their order.
+    let wanted = "1:0-1:0=x;1:0-1:0=y;1:1-2:1=é;";
+    let rows = &[(10, "", "x"), (10, "", "y"), (11, "\rd", "é")];
+    expect_edits(&rt, rows, wanted, wanted);
+    expect_edits(&rt, &[(14, "", "e")], "3:0-3:0=e;", "3:0-3:0=e;");
+}
+
+// An end within a line end, or past the text.
+#[test]
+fn other_splices_have_no_text_edits(rt: HostRuntime) {
+    expect_edits(&rt, &[(8, "\r", "")], "none", "none");
+    expect_edits(&rt, &[(9, "\n", "")], "none", "none");
+    expect_edits(&rt, &[(14, "a", "")], "none", "none");
 }

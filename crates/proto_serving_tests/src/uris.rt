@@ -1,85 +1,74 @@
 //! URIs and paths, by RFC 3986 and as editors write them.
 
+use crate::expecting::{expect_bytes, expect_text, parts};
 use proto_uris::{file_of, path_of, uri_of};
 use std::process::Abort;
 
-/// A root, a URI, and the path below the root, where it names one.
-const PATHS: &[(&str, &str, Option<&str>)] = &[
-    ("/ws", "file:///ws/a.proto", Some("a.proto")),
-    ("/ws", "file:///ws/shop/a.proto", Some("shop/a.proto")),
-    // Escapes in either case, and none.
-    (
-        "/ws",
-        "file:///ws/shop/a%20b%23%c3%a9.proto",
-        Some("shop/a b#é.proto"),
-    ),
-    (
-        "/ws",
-        "file:///ws/shop/a%20b%23%C3%A9.proto",
-        Some("shop/a b#é.proto"),
-    ),
-    (
-        "/ws",
-        "file:///ws/shop/a b%23é.proto",
-        Some("shop/a b#é.proto"),
-    ),
-    ("/ws", "file:///%77s/%61.proto", Some("a.proto")),
-    ("/ws", "file:///ws/a%2Fb.proto", Some("a/b.proto")),
-    ("/ws", "FILE:///ws/a.proto", Some("a.proto")),
-    // What is no escape.
-    ("/ws", "file:///ws/100%.proto", Some("100%.proto")),
-    ("/ws", "file:///ws/%zz%4.proto", Some("%zz%4.proto")),
-    ("/ws", "file:///ws/%2520.proto", Some("%20.proto")),
-    // Other roots.
-    ("", "file:///a.proto", Some("a.proto")),
-    ("/w s", "file:///w%20s/a.proto", Some("a.proto")),
-    ("/ws/p", "file:///ws/p/..a/...b", Some("..a/...b")),
-    // Other schemes.
-    ("/ws", "", None),
-    ("/ws", "/ws/a.proto", None),
-    ("/ws", "http:///ws/a.proto", None),
-    ("/ws", "untitled:///ws/a.proto", None),
-    ("/ws", "files:///ws/a.proto", None),
-    ("/ws", "file:/ws/a.proto", None),
-    ("/ws", " file:///ws/a.proto", None),
-    // An authority.
-    ("/ws", "file://host/ws/a.proto", None),
-    ("/ws", "file://localhost/ws/a.proto", None),
-    ("/ws", "file://%2Fws/a.proto", None),
-    ("ws", "file://ws/a.proto", None),
-    // A query, a fragment.
-    ("/ws", "file:///ws/a.proto?b", None),
-    ("/ws", "file:///ws/a.proto#L1", None),
-    // Outside the root.
-    ("/ws", "file:///", None),
-    ("/ws", "file:///ws", None),
-    ("/ws", "file:///ws/", None),
-    ("/ws", "file:///w/a.proto", None),
-    ("/ws", "file:///wsx/a.proto", None),
-    ("/ws", "file:///WS/a.proto", None),
-    ("/ws", "file:///other/ws/a.proto", None),
-    ("/ws", "file:///ws/../a.proto", None),
-    ("/ws", "file:///ws/%2e%2E/a.proto", None),
-    ("/ws", "file:///ws/p/../../a.proto", None),
-    ("/ws", "file:///ws/./a.proto", None),
-    ("/ws", "file:///ws//a.proto", None),
-    ("/ws", "file:///ws/a.proto/", None),
-];
+/// A URI, a root, and the path below the root: escapes in either case and none, what is no escape, and
+/// other roots.
+const PATHS: &str = r"file:///ws/a.proto => /ws => a.proto
+file:///ws/shop/a.proto => /ws => shop/a.proto
+file:///ws/shop/a%20b%23%c3%a9.proto => /ws => shop/a b#é.proto
+file:///ws/shop/a%20b%23%C3%A9.proto => /ws => shop/a b#é.proto
+file:///ws/shop/a b%23é.proto => /ws => shop/a b#é.proto
+file:///%77s/%61.proto => /ws => a.proto
+file:///ws/a%2Fb.proto => /ws => a/b.proto
+FILE:///ws/a.proto => /ws => a.proto
+file:///ws/100%.proto => /ws => 100%.proto
+file:///ws/%zz%4.proto => /ws => %zz%4.proto
+file:///ws/%2520.proto => /ws => %20.proto
+file:///a.proto =>  => a.proto
+file:///w%20s/a.proto => /w s => a.proto
+file:///ws/p/..a/...b => /ws/p => ..a/...b";
 
-fn is_path<R: AllocGlobal + Abort>(rt: &R, root: &str, uri: &str, wanted: Option<&str>) -> bool {
-    let found = path_of(rt.alloc(), root.as_bytes(), uri).expect(rt, "memory");
-    match (found, wanted) {
-        (Some(path), Some(wanted)) => path.as_slice() == wanted.as_bytes(),
-        (None, None) => true,
-        _ => false,
+/// Other schemes, an authority, a query, a fragment, and what is outside the root.
+const NO_PATHS: &str = r" => /ws => none
+/ws/a.proto => /ws => none
+http:///ws/a.proto => /ws => none
+untitled:///ws/a.proto => /ws => none
+files:///ws/a.proto => /ws => none
+file:/ws/a.proto => /ws => none
+ file:///ws/a.proto => /ws => none
+file://host/ws/a.proto => /ws => none
+file://localhost/ws/a.proto => /ws => none
+file://%2Fws/a.proto => /ws => none
+file://ws/a.proto => ws => none
+file:///ws/a.proto?b => /ws => none
+file:///ws/a.proto#L1 => /ws => none
+file:/// => /ws => none
+file:///ws => /ws => none
+file:///ws/ => /ws => none
+file:///w/a.proto => /ws => none
+file:///wsx/a.proto => /ws => none
+file:///WS/a.proto => /ws => none
+file:///other/ws/a.proto => /ws => none
+file:///ws/../a.proto => /ws => none
+file:///ws/%2e%2E/a.proto => /ws => none
+file:///ws/p/../../a.proto => /ws => none
+file:///ws/./a.proto => /ws => none
+file:///ws//a.proto => /ws => none
+file:///ws/a.proto/ => /ws => none";
+
+// The path below a root, or `none`.
+fn expect_path<R: AllocGlobal + Abort>(rt: &R, root: &str, uri: &str, wanted: &str) {
+    match path_of(rt.alloc(), root.as_bytes(), uri).expect(rt, "memory") {
+        Some(path) => expect_bytes(rt, path.as_slice(), wanted),
+        None => expect_text(rt, "none", wanted),
+    }
+}
+
+fn expect_paths<R: AllocGlobal + Abort>(rt: &R, rows: &str) {
+    for row in rows.lines() {
+        let (uri, rest) = parts(rt, row);
+        let (root, path) = parts(rt, rest);
+        expect_path(rt, root, uri, path);
     }
 }
 
 #[test]
 fn paths_are_below_the_root(rt: HostRuntime) {
-    for (root, uri, path) in PATHS {
-        assert!(rt; is_path(&rt, root, uri, *path), "{uri}");
-    }
+    expect_paths(&rt, PATHS);
+    expect_paths(&rt, NO_PATHS);
 }
 
 #[test]
@@ -91,29 +80,30 @@ fn a_path_may_be_no_utf8(rt: HostRuntime) {
 #[test]
 fn a_root_is_a_file(rt: HostRuntime) {
     let root = file_of(rt.alloc(), "file:///w%20s/").expect(&rt, "memory");
-    assert!(rt; root.expect(&rt, "a path").as_slice() == b"/w s/".as_slice());
-    let none = file_of(rt.alloc(), "file://w/s").expect(&rt, "memory");
+    expect_bytes(&rt, root.expect(&rt, "a path").as_slice(), "/w s/");
+    expect_no_file(&rt, "file://w/s");
+}
+
+fn expect_no_file<R: AllocGlobal + Abort>(rt: &R, uri: &str) {
+    let none = file_of(rt.alloc(), uri).expect(rt, "memory");
     assert!(rt; none.is_none());
 }
 
-/// A root, a path below it, and its URI.
-const URIS: &[(&str, &str, &str)] = &[
-    ("/ws", "a.proto", "file:///ws/a.proto"),
-    ("", "p/a.proto", "file:///p/a.proto"),
-    (
-        "/ws",
-        "shop/a b#é.proto",
-        "file:///ws/shop/a%20b%23%C3%A9.proto",
-    ),
-    ("/w s", "a+b%.proto", "file:///w%20s/a%2Bb%25.proto"),
-    ("/ws", "a?b~_-&.proto", "file:///ws/a%3Fb~_-%26.proto"),
-];
+// The URI of the path below the root leads back to it.
+fn expect_uri<R: AllocGlobal + Abort>(rt: &R, root: &str, path: &str, wanted: &str) {
+    let uri = uri_of(rt.alloc(), root.as_bytes(), path.as_bytes()).expect(rt, "memory");
+    expect_text(rt, uri.as_str(), wanted);
+    expect_path(rt, root, wanted, path);
+}
 
 #[test]
 fn files_have_uris(rt: HostRuntime) {
-    for (root, path, wanted) in URIS {
-        let uri = uri_of(rt.alloc(), root.as_bytes(), path.as_bytes()).expect(&rt, "memory");
-        assert!(rt; uri.as_str() == *wanted, "{}", uri.as_str());
-        assert!(rt; is_path(&rt, root, wanted, Some(*path)), "{path}");
-    }
+    expect_uri(&rt, "/ws", "a.proto", "file:///ws/a.proto");
+    expect_uri(&rt, "", "p/a.proto", "file:///p/a.proto");
+    let wanted = "file:///ws/shop/a%20b%23%C3%A9.proto";
+    expect_uri(&rt, "/ws", "shop/a b#é.proto", wanted);
+    let wanted = "file:///w%20s/a%2Bb%25.proto";
+    expect_uri(&rt, "/w s", "a+b%.proto", wanted);
+    let wanted = "file:///ws/a%3Fb~_-%26.proto";
+    expect_uri(&rt, "/ws", "a?b~_-&.proto", wanted);
 }

@@ -3,4 +3,4 @@ use Rattle.proto_messages.proofs.ObjectMembers.{fills, more}
 use Rattle.proto_messages.proofs.writing.put_notification.Goals as goal
 
 pub returns : goal.returns
-returns g c = fills (λ empty. more c.put_object.ensures (more c.put_text-2.ensures (more c.put_text.ensures empty))) refl
+returns g c = fills (λ empty. more c.put_object.ensures (more c.put_text.ensures (more c.put_version_of_protocol.ensures empty))) refl
