@@ -2,11 +2,11 @@
 //! one allocation this test still passes, whichever it is.
 
 use crate::streams::Writer;
+use crate::uris::expect_uri;
 use proto_base::{MAX_LEN, NoMemory};
 use proto_frames::{FrameFault, WriteFault, read_frame, write_frame};
 use proto_positions::{Encoding, have_positions, text_edits};
 use proto_text::{Splice, Splices};
-use proto_uris::{path_of, uri_of};
 use std::process::Abort;
 
 const CONTENT: &[u8] = b"a content of more than forty-eight bytes, so that both texts grow";
@@ -57,18 +57,6 @@ fn expect_written<R: AllocGlobal + Abort>(rt: &R) -> Result<(), NoMemory> {
     expect_answer(rt, answer, writer.bytes.as_slice())
 }
 
-fn expect_uris<R: AllocGlobal + Abort>(rt: &R) -> Result<(), NoMemory> {
-    let uri = uri_of(rt.alloc(), b"/ws", "p/é.proto".as_bytes())?;
-    assert!(rt; uri.as_str() == "file:///ws/p/%C3%A9.proto");
-    expect_path(rt, "file:///ws/p/%C3%A9.proto")
-}
-
-fn expect_path<R: AllocGlobal + Abort>(rt: &R, uri: &str) -> Result<(), NoMemory> {
-    let path = path_of(rt.alloc(), b"/ws", uri)?;
-    assert!(rt; path.is_some());
-    Ok(())
-}
-
 fn splices<R: AllocGlobal>(rt: &R) -> Result<Vec<Splice>, NoMemory> {
     let old = String::from_str(rt.alloc(), "b")?;
     let new = String::from_str(rt.alloc(), "éé")?;
@@ -91,7 +79,7 @@ fn expect_edits<R: AllocGlobal + Abort>(rt: &R) -> Result<(), NoMemory> {
 fn expect_answers<R: AllocGlobal + Abort>(rt: &R) -> Result<(), NoMemory> {
     expect_read(rt)?;
     expect_written(rt)?;
-    expect_uris(rt)?;
+    expect_uri(rt, "/ws", "p/é.proto", "file:///ws/p/%C3%A9.proto")?;
     expect_edits(rt)
 }
 

@@ -134,20 +134,16 @@ fn expect_long<R: AllocGlobal + Abort>(rt: &R, unit: &str, count: usize, rest: &
     expect_read(rt, stream.as_bytes(), said);
 }
 
-// A line has at most 1,023 bytes.
 #[test]
-fn long_lines_are_read(rt: HostRuntime) {
+fn long_streams_are_read(rt: HostRuntime) {
+    // A line has at most 1,023 bytes.
     let rest = ": \r\nContent-Length: 2\r\n\r\n{}";
     expect_long(&rt, "a", 1021, rest, "<{}>end");
     expect_long(&rt, "a", 1022, rest, "Malformed");
     expect_long(&rt, "a", 1023, "", "Cut");
     expect_long(&rt, "a", 1024, "", "Malformed");
     expect_long(&rt, "a", 100000, "", "Malformed");
-}
-
-// A header has at most 31 fields.
-#[test]
-fn long_streams_are_read(rt: HostRuntime) {
+    // A header has at most 31 fields.
     let rest = "Content-Length: 2\r\n\r\n{}";
     expect_long(&rt, "A: b\r\n", 30, rest, "<{}>end");
     expect_long(&rt, "A: b\r\n", 31, rest, "Malformed");
@@ -211,10 +207,6 @@ fn frames_are_written(rt: HostRuntime) {
     expect_written(&rt, "é😀", (100, 9), wide, "Ok(())");
     let digits = "Content-Length: 10\r\n\r\n0123456789";
     expect_written(&rt, "0123456789", (7, 9), digits, "Ok(())");
-}
-
-#[test]
-fn writers_fail(rt: HostRuntime) {
     expect_written(&rt, "{}", (1, 0), "", "Err(Output)");
     expect_written(&rt, "{}", (1, 3), "Con", "Err(Output)");
     let cut = "Content-Length: 2\r\n\r\n{";

@@ -3,7 +3,7 @@
 use crate::editors::{EMACS, NEOVIM, NEOVIM_ESCAPES, NEOVIM_RANGES};
 use crate::expecting::{expect_text, parts};
 use proto_messages::{
-    Document, DocumentPosition, Id, Message, Notification, Range, Request, read_message,
+    Document, DocumentPosition, Id, Message, Notification, Position, Range, Request, read_message,
 };
 use std::alloc::{AllocError, Global};
 use std::process::Abort;
@@ -109,7 +109,7 @@ const REQUESTS: &str =
 {"id":1,"method":"textDocument/rename","params":{"textDocument":{"uri":"u"},"newName":"N"}} => request 1: invalid parameters
 {"id":1,"method":"textDocument/documentSymbol","params":{"textDocument":{"uri":"u"}}} => request 1: documentSymbol u
 {"id":1,"method":"textDocument/documentSymbol","params":{"textDocument":"u"}} => request 1: invalid parameters
-{"id":1,"method":"textDocument/codeAction","params":{"textDocument":{"uri":"u"},"range":{"start":{"line":1,"character":2},"end":{"line":3,"character":4}}}} => request 1: codeAction u 1:2 3:4
+{"id":1,"method":"textDocument/codeAction","params":{"textDocument":{"uri":"u"},"range":{"start":{"line":1,"character":2},"end":{"line":3,"character":4}}}} => request 1: codeAction u 1:2 to u 3:4 -
 {"id":1,"method":"textDocument/codeAction","params":{"textDocument":{"uri":"u"},"range":{"start":{"line":1,"character":2}}}} => request 1: invalid parameters
 {"id":1,"method":"textDocument/codeAction","params":{"textDocument":{"uri":"u"},"range":{"end":{"line":1,"character":2}}}} => request 1: invalid parameters
 {"id":1,"method":"textDocument/codeAction","params":{"range":{"start":{"line":1,"character":2},"end":{"line":3,"character":4}}}} => request 1: invalid parameters
@@ -129,7 +129,7 @@ const NOTIFICATIONS: &str =
 {"method":"textDocument/didChange","params":{"textDocument":{"uri":"u","version":8},"contentChanges":[{"text":"a","range":null}]}} => didChange u 8 "a"
 {"method":"textDocument/didChange","params":{"textDocument":{"uri":"u","version":8},"contentChanges":[{"text":"a","range":{}},{"text":"b"}]}} => didChange of a range
 {"method":"textDocument/didChange","params":{"textDocument":{"uri":"u","version":8},"contentChanges":[{"text":"a"},{"text":"b","range":{}}]}} => didChange of a range
-{"method":"textDocument/didChange","params":{"textDocument":{"uri":"u","version":8},"contentChanges":[]}} => didChange u 8, no change
+{"method":"textDocument/didChange","params":{"textDocument":{"uri":"u","version":8},"contentChanges":[]}} => unchanged u 8 ""
 {"method":"textDocument/didChange","params":{"textDocument":{"uri":"u"},"contentChanges":[]}} => malformed
 {"method":"textDocument/didChange","params":{"textDocument":{"version":8},"contentChanges":[]}} => malformed
 {"method":"textDocument/didChange","params":{"textDocument":{"uri":"u","version":8},"contentChanges":[{"text":"a"},{}]}} => malformed
@@ -144,25 +144,28 @@ const NOTIFICATIONS: &str =
 {"method":"textDocument/willSave","params":{}} => other
 {"method":"textDocument/rename","params":{}} => other"#;
 
+fn place_text(
+    alloc: Global,
+    method: &str,
+    uri: &str,
+    at: Position,
+    more: &str,
+) -> Result<String, AllocError> {
+    format!(in alloc; "{method} {uri} {}:{} {more}", at.line, at.character)
+}
+
 fn at_text(
     alloc: Global,
     method: &str,
     at: &DocumentPosition,
     more: &str,
 ) -> Result<String, AllocError> {
-    let position = at.position;
-    format!(in alloc;
-        "{method} {} {}:{} {more}",
-        at.uri, position.line, position.character
-    )
+    place_text(alloc, method, at.uri.as_str(), at.position, more)
 }
 
 fn range_text(alloc: Global, uri: &str, range: Range) -> Result<String, AllocError> {
-    let (start, end) = (range.start, range.end);
-    format!(in alloc;
-        "codeAction {uri} {}:{} {}:{}",
-        start.line, start.character, end.line, end.character
-    )
+    let end = place_text(alloc, "to", uri, range.end, "-")?;
+    place_text(alloc, "codeAction", uri, range.start, end.as_str())
 }
 
 fn yes_or_no(is_so: bool) -> &'static str {
@@ -203,9 +206,19 @@ fn request_text(alloc: Global, request: &Request) -> Result<String, AllocError> 
 }
 
 // The text is escaped, so that a row is a line.
+fn version_text(
+    alloc: Global,
+    method: &str,
+    uri: &str,
+    version: u64,
+    text: &str,
+) -> Result<String, AllocError> {
+    format!(in alloc; "{method} {uri} {version} {text:?}")
+}
+
 fn document_text(alloc: Global, method: &str, document: &Document) -> Result<String, AllocError> {
     let text = document.text.as_str();
-    format!(in alloc; "{method} {} {} {text:?}", document.uri, document.version)
+    version_text(alloc, method, document.uri.as_str(), document.version, text)
 }
 
 fn notification_text(alloc: Global, notification: &Notification) -> Result<String, AllocError> {
@@ -214,7 +227,7 @@ fn notification_text(alloc: Global, notification: &Notification) -> Result<Strin
         Notification::DidOpen(document) => document_text(alloc, "didOpen", document),
         Notification::DidChange(document) => document_text(alloc, "didChange", document),
         Notification::DidChangeNothing(uri, version) => {
-            format!(in alloc; "didChange {uri} {version}, no change")
+            version_text(alloc, "unchanged", uri.as_str(), *version, "")
         }
         Notification::DidChangeInRange => String::from_str(alloc, "didChange of a range"),
         Notification::DidSave(uri) => with_text(alloc, "didSave", uri.as_str()),
@@ -342,5 +355,6 @@ fn depths(rt: HostRuntime) {
 
 #[test]
 fn one_is_refused(rt: HostRuntime) {
-    assert!(rt; expect_rows(&rt, NEOVIM).is_ok() || expect_rows(&rt, NEOVIM).is_ok());
+    let rows = NEOVIM;
+    assert!(rt; expect_rows(&rt, rows).is_ok() || expect_rows(&rt, rows).is_ok());
 }

@@ -116,33 +116,32 @@ fn offsets_have_positions(rt: HostRuntime) {
     }
 }
 
-/// Positions that no offset of that text has, with the offset that each leads to.
-const ELSEWHERE: &[(Encoding, u32, u32, usize)] = &[
-    // Past a line.
-    (Encoding::Utf16, 0, 6, 8),
-    (Encoding::Utf16, 0, 4294967295, 8),
-    (Encoding::Utf8, 0, 9, 8),
-    (Encoding::Utf16, 1, 2, 11),
-    (Encoding::Utf16, 2, 2, 13),
-    // Past the file.
-    (Encoding::Utf16, 3, 1, 14),
-    (Encoding::Utf8, 4, 0, 14),
-    (Encoding::Utf16, 4294967295, 4294967295, 14),
-    // Within a character: its end.
-    (Encoding::Utf16, 0, 3, 7),
-    (Encoding::Utf8, 0, 2, 3),
-    (Encoding::Utf8, 0, 4, 7),
-    (Encoding::Utf8, 0, 5, 7),
-    (Encoding::Utf8, 0, 6, 7),
-];
+// A position that no offset of that text has, and the offset that it leads to.
+fn expect_offset<R: Abort>(rt: &R, encoding: Encoding, (line, column): (u32, u32), offset: usize) {
+    assert!(rt; TEXT.len() <= MAX_LEN);
+    let found = offset_of(TEXT.as_bytes(), encoding, at(line, column));
+    assert!(rt; found == offset, "{line}:{column} is {found}");
+}
 
 #[test]
 fn other_positions_lead_to_ends(rt: HostRuntime) {
-    assert!(rt; TEXT.len() <= MAX_LEN);
-    for (encoding, line, character, offset) in ELSEWHERE {
-        let found = offset_of(TEXT.as_bytes(), *encoding, at(*line, *character));
-        assert!(rt; found == *offset, "{line}:{character} is {found}");
-    }
+    // Positions that no offset of that text has, with the offset that each leads to.
+    // Past a line.
+    expect_offset(&rt, Encoding::Utf16, (0, 6), 8);
+    expect_offset(&rt, Encoding::Utf16, (0, 4294967295), 8);
+    expect_offset(&rt, Encoding::Utf8, (0, 9), 8);
+    expect_offset(&rt, Encoding::Utf16, (1, 2), 11);
+    expect_offset(&rt, Encoding::Utf16, (2, 2), 13);
+    // Past the file.
+    expect_offset(&rt, Encoding::Utf16, (3, 1), 14);
+    expect_offset(&rt, Encoding::Utf8, (4, 0), 14);
+    expect_offset(&rt, Encoding::Utf16, (4294967295, 4294967295), 14);
+    // Within a character: its end.
+    expect_offset(&rt, Encoding::Utf16, (0, 3), 7);
+    expect_offset(&rt, Encoding::Utf8, (0, 2), 3);
+    expect_offset(&rt, Encoding::Utf8, (0, 4), 7);
+    expect_offset(&rt, Encoding::Utf8, (0, 5), 7);
+    expect_offset(&rt, Encoding::Utf8, (0, 6), 7);
 }
 
 #[test]
@@ -158,6 +157,5 @@ fn a_cursor_goes_back(rt: HostRuntime) {
 fn a_file_has_a_million_lines(rt: HostRuntime) {
     let text = b"\n".repeat(rt.alloc(), 1048576).expect(&rt, "memory");
     assert!(rt; text.len() == 1048576);
-    let found = offset_of(text.as_slice(), Encoding::Utf16, at(1048575, 7));
-    assert!(rt; found == 1048575, "{found}");
+    assert!(rt; offset_of(text.as_slice(), Encoding::Utf16, at(1048575, 7)) == 1048575);
 }

@@ -1,5 +1,6 @@
 //! Frames as editors sent them, byte for byte: each is read, and written again as it was.
 
+use crate::expecting::expect_that;
 use proto_frames::{read_frame, write_frame};
 use std::process::Abort;
 
@@ -38,9 +39,10 @@ fn expect_passed<R: AllocGlobal + Abort>(rt: &R, stream: &[u8], lengths: &[usize
     let mut from = stream;
     let mut to = Vec::new(rt.alloc());
     for length in lengths {
-        assert!(rt; pass_on(rt, &mut from, &mut to) == *length, "{length}");
+        let is_passed = pass_on(rt, &mut from, &mut to) == *length;
+        expect_that(rt, is_passed, "a length");
     }
-    assert!(rt; from.is_empty() && to.as_slice() == stream);
+    expect_that(rt, from.is_empty() && to.as_slice() == stream, "all of it");
 }
 
 #[test]

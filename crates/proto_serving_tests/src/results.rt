@@ -224,10 +224,6 @@ fn errors(rt: HostRuntime) {
     expect_error(&rt, ErrorCode::InvalidRequest, None, wanted);
     let wanted = r#"{"error":{"code":-32601,"message":"é\n"},"id":1,"jsonrpc":"2.0"}"#;
     expect_error(&rt, ErrorCode::MethodNotFound, Some(1), wanted);
-}
-
-#[test]
-fn errors_of_known_methods(rt: HostRuntime) {
     let wanted = r#"{"error":{"code":-32602,"message":"é\n"},"id":-1,"jsonrpc":"2.0"}"#;
     expect_error(&rt, ErrorCode::InvalidParams, Some(-1), wanted);
     let wanted =

@@ -19,12 +19,17 @@ struct Echo {
     is_done: bool,
 }
 
-fn reply(alloc: Global, content: &[u8], is_followed: bool) -> Result<Vec<u8>, AllocError> {
+fn put_reply(
+    replies: &mut Vec<Vec<u8>>,
+    alloc: Global,
+    content: &[u8],
+    is_followed: bool,
+) -> Result<(), AllocError> {
     let mut reply = Vec::from_slice(alloc, content)?;
     if is_followed {
         reply.push(b'+')?;
     }
-    Ok(reply)
+    Ok(replies.push(reply)?)
 }
 
 fn put_replies(
@@ -36,9 +41,9 @@ fn put_replies(
     if content == b"none".as_slice() {
         return Ok(());
     }
-    replies.push(reply(alloc, content, is_followed)?)?;
+    put_reply(replies, alloc, content, is_followed)?;
     if content == b"two".as_slice() {
-        replies.push(reply(alloc, b"2", false)?)?;
+        return put_reply(replies, alloc, b"2", false);
     }
     Ok(())
 }
@@ -143,14 +148,6 @@ fn expect_whole<R: AllocGlobal + Abort>(rt: &R, stream: &str, wanted: (&str, &st
     expect_end(rt, writer.bytes.as_slice(), end, wanted);
 }
 
-#[test]
-fn over_bytes(rt: HostRuntime) {
-    for row in STREAMS.split('|') {
-        let (stream, wanted) = parts(&rt, row);
-        expect_whole(&rt, stream, parts(&rt, wanted));
-    }
-}
-
 // The bytes, of which each read gives at most so many, behind a buffer.
 fn reader<'a, R: AllocGlobal + Abort>(
     rt: &R,
@@ -170,8 +167,7 @@ type Pace = (usize, usize);
 fn expect_paced<R: AllocGlobal + Abort>(
     rt: &R,
     stream: &str,
-    reads: Pace,
-    writes: Pace,
+    (reads, writes): (Pace, Pace),
     wanted: (&str, &str),
 ) {
     let mut reader = reader(rt, stream, reads.0, reads.1);
@@ -180,21 +176,31 @@ fn expect_paced<R: AllocGlobal + Abort>(
     expect_end(rt, writer.bytes.as_slice(), end, wanted);
 }
 
-fn expect_rows<R: AllocGlobal + Abort>(rt: &R, rows: &str, reads: Pace, writes: Pace) {
+// Of streams that are whole, or whose readers and writers have these paces.
+fn expect_rows<R: AllocGlobal + Abort>(rt: &R, rows: &str, paces: Option<(Pace, Pace)>) {
     for row in rows.split('|') {
         let (stream, wanted) = parts(rt, row);
-        expect_paced(rt, stream, reads, writes, parts(rt, wanted));
+        let wanted = parts(rt, wanted);
+        match paces {
+            Some(paces) => expect_paced(rt, stream, paces, wanted),
+            None => expect_whole(rt, stream, wanted),
+        }
     }
 }
 
 #[test]
+fn over_bytes(rt: HostRuntime) {
+    expect_rows(&rt, STREAMS, None);
+}
+
+#[test]
 fn over_what_is_read_ahead(rt: HostRuntime) {
-    expect_rows(&rt, STREAMS, (256, 1000), (1000, 1000));
+    expect_rows(&rt, STREAMS, Some(((256, 1000), (1000, 1000))));
 }
 
 #[test]
 fn one_byte_at_a_time(rt: HostRuntime) {
-    expect_rows(&rt, SLOW, (1, 1000), (1, 1000));
+    expect_rows(&rt, SLOW, Some(((1, 1000), (1, 1000))));
 }
 
 const THREE: &str =
@@ -203,7 +209,7 @@ const THREE: &str =
 // So many calls of a writer that takes ten bytes a call work: what is written then.
 fn expect_written<R: AllocGlobal + Abort>(rt: &R, calls: usize, written: &str) {
     let end = "Err(Write(Output))";
-    expect_paced(rt, THREE, (1, 1000), (10, calls), (written, end));
+    expect_paced(rt, THREE, ((1, 1000), (10, calls)), (written, end));
 }
 
 #[test]
@@ -220,7 +226,7 @@ fn a_write_fails(rt: HostRuntime) {
 // So many reads of a byte work: what is written then. A frame has 22 bytes.
 fn expect_read<R: AllocGlobal + Abort>(rt: &R, calls: usize, written: &str) {
     let end = "Err(Frame(Input))";
-    expect_paced(rt, THREE, (1, calls), (1000, 1000), (written, end));
+    expect_paced(rt, THREE, ((1, calls), (1000, 1000)), (written, end));
 }
 
 #[test]

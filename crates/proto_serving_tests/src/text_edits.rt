@@ -82,11 +82,7 @@ fn splices_are_text_edits(rt: HostRuntime) {
     let rows = &[(10, "", "x"), (10, "", "y"), (11, "\rd", "é")];
     expect_edits(&rt, rows, wanted, wanted);
     expect_edits(&rt, &[(14, "", "e")], "3:0-3:0=e;", "3:0-3:0=e;");
-}
-
-// An end within a line end, or past the text.
-#[test]
-fn other_splices_have_no_text_edits(rt: HostRuntime) {
+    // An end within a line end, or past the text.
     expect_edits(&rt, &[(8, "\r", "")], "none", "none");
     expect_edits(&rt, &[(9, "\n", "")], "none", "none");
     expect_edits(&rt, &[(14, "a", "")], "none", "none");

@@ -2,6 +2,7 @@
 
 use crate::expecting::{expect_bytes, expect_text, parts};
 use proto_uris::{file_of, path_of, uri_of};
+use std::alloc::AllocError;
 use std::process::Abort;
 
 /// A URI, a root, and the path below the root: escapes in either case and none, what is no escape, and
@@ -49,19 +50,25 @@ file:///ws/./a.proto => /ws => none
 file:///ws//a.proto => /ws => none
 file:///ws/a.proto/ => /ws => none";
 
-// The path below a root, or `none`.
-fn expect_path<R: AllocGlobal + Abort>(rt: &R, root: &str, uri: &str, wanted: &str) {
-    match path_of(rt.alloc(), root.as_bytes(), uri).expect(rt, "memory") {
+// The path below a root, or `none`, unless memory is refused.
+fn expect_path<R: AllocGlobal + Abort>(
+    rt: &R,
+    root: &str,
+    uri: &str,
+    wanted: &str,
+) -> Result<(), AllocError> {
+    match path_of(rt.alloc(), root.as_bytes(), uri)? {
         Some(path) => expect_bytes(rt, path.as_slice(), wanted),
         None => expect_text(rt, "none", wanted),
     }
+    Ok(())
 }
 
 fn expect_paths<R: AllocGlobal + Abort>(rt: &R, rows: &str) {
     for row in rows.lines() {
         let (uri, rest) = parts(rt, row);
         let (root, path) = parts(rt, rest);
-        expect_path(rt, root, uri, path);
+        expect_path(rt, root, uri, path).expect(rt, "memory");
     }
 }
 
@@ -81,29 +88,34 @@ fn a_path_may_be_no_utf8(rt: HostRuntime) {
 fn a_root_is_a_file(rt: HostRuntime) {
     let root = file_of(rt.alloc(), "file:///w%20s/").expect(&rt, "memory");
     expect_bytes(&rt, root.expect(&rt, "a path").as_slice(), "/w s/");
-    expect_no_file(&rt, "file://w/s");
-}
-
-fn expect_no_file<R: AllocGlobal + Abort>(rt: &R, uri: &str) {
-    let none = file_of(rt.alloc(), uri).expect(rt, "memory");
+    let none = file_of(rt.alloc(), "file://w/s").expect(&rt, "memory");
     assert!(rt; none.is_none());
 }
 
-// The URI of the path below the root leads back to it.
-fn expect_uri<R: AllocGlobal + Abort>(rt: &R, root: &str, path: &str, wanted: &str) {
-    let uri = uri_of(rt.alloc(), root.as_bytes(), path.as_bytes()).expect(rt, "memory");
+/// The URI of the path below the root, which leads back to it, unless memory is refused.
+pub(crate) fn expect_uri<R: AllocGlobal + Abort>(
+    rt: &R,
+    root: &str,
+    path: &str,
+    wanted: &str,
+) -> Result<(), AllocError> {
+    let uri = uri_of(rt.alloc(), root.as_bytes(), path.as_bytes())?;
     expect_text(rt, uri.as_str(), wanted);
-    expect_path(rt, root, wanted, path);
+    expect_path(rt, root, wanted, path)
+}
+
+fn expect_one<R: AllocGlobal + Abort>(rt: &R, root: &str, path: &str, wanted: &str) {
+    expect_uri(rt, root, path, wanted).expect(rt, "memory");
 }
 
 #[test]
 fn files_have_uris(rt: HostRuntime) {
-    expect_uri(&rt, "/ws", "a.proto", "file:///ws/a.proto");
-    expect_uri(&rt, "", "p/a.proto", "file:///p/a.proto");
+    expect_one(&rt, "/ws", "a.proto", "file:///ws/a.proto");
+    expect_one(&rt, "", "p/a.proto", "file:///p/a.proto");
     let wanted = "file:///ws/shop/a%20b%23%C3%A9.proto";
-    expect_uri(&rt, "/ws", "shop/a b#é.proto", wanted);
+    expect_one(&rt, "/ws", "shop/a b#é.proto", wanted);
     let wanted = "file:///w%20s/a%2Bb%25.proto";
-    expect_uri(&rt, "/w s", "a+b%.proto", wanted);
+    expect_one(&rt, "/w s", "a+b%.proto", wanted);
     let wanted = "file:///ws/a%3Fb~_-%26.proto";
-    expect_uri(&rt, "/ws", "a?b~_-&.proto", wanted);
+    expect_one(&rt, "/ws", "a?b~_-&.proto", wanted);
 }
