@@ -20,10 +20,20 @@ const GONE: &[(&str, &str)] = &[(SCHEMA, "syntax = \"proto3\";")];
 fn fails_once_its_folder_is_gone(rt: HostRuntime) {
     let root = root_of(&rt, &rt, "gone");
     let mut store = FolderStore::new(&rt, root.as_str());
-    take_all(&rt, &rt, root.as_str(), WRITTEN);
-    assert!(rt; is_held(&rt, &mut store, GONE, "") && store.failures() == 0);
-    take_all(&rt, &rt, root.as_str(), LAST);
-    expect_failures(&rt, &mut store);
+    expect_gone(&rt, &rt, root.as_str(), &mut store);
+}
+
+// The store of this folder holds what is written there, and fails once that is gone.
+fn expect_gone(
+    abort: &impl Abort,
+    rt: &HostRuntime,
+    root: &str,
+    store: &mut FolderStore<'_, HostRuntime>,
+) {
+    take_all(abort, rt, root, WRITTEN);
+    assert!(abort; is_held(abort, store, GONE, "") && store.failures() == 0);
+    take_all(abort, rt, root, LAST);
+    expect_failures(abort, store);
 }
 
 fn expect_failures<R: Files + Clock + AllocGlobal>(

@@ -57,27 +57,50 @@ fn are_renewed<R: AllocGlobal + Abort>(
     found.as_slice() == all
 }
 
+/// References, which files are marked, the references that these have now, and all of them then.
+const RENEWED: &[(&[RefId], &[bool], &[RefId], &[RefId], &str)] = &[
+    (OLD, MARKS, FRESH, BETWEEN, "between"),
+    (OLD, MARKS, &[], UNMARKED, "gone"),
+    (&[], MARKS, FRESH, FRESH, "come"),
+    (OLD, &[], &[], OLD, "unmarked"),
+    (OLD, ALL_MARKED, LAST, LAST, "all marked"),
+];
+
+const MARKS: &[bool] = &[false, true, true, false];
+
+const ALL_MARKED: &[bool] = &[true, true, false, false, true, true];
+
+const OLD: &[RefId] = &[
+    RefId { file: 0, token: 3 },
+    RefId { file: 1, token: 5 },
+    RefId { file: 1, token: 9 },
+    RefId { file: 4, token: 2 },
+];
+
+const FRESH: &[RefId] = &[
+    RefId { file: 1, token: 4 },
+    RefId { file: 2, token: 0 },
+    RefId { file: 2, token: 8 },
+];
+
+const BETWEEN: &[RefId] = &[
+    RefId { file: 0, token: 3 },
+    RefId { file: 1, token: 4 },
+    RefId { file: 2, token: 0 },
+    RefId { file: 2, token: 8 },
+    RefId { file: 4, token: 2 },
+];
+
+// The old ones of files that are not marked.
+const UNMARKED: &[RefId] = &[RefId { file: 0, token: 3 }, RefId { file: 4, token: 2 }];
+
+const LAST: &[RefId] = &[RefId { file: 3, token: 1 }, RefId { file: 5, token: 0 }];
+
 #[test]
 fn references_are_renewed(rt: HostRuntime) {
-    let marks = [false, true, true, false];
-    let old = [at(0, 3), at(1, 5), at(1, 9), at(4, 2)];
-    let fresh = [at(1, 4), at(2, 0), at(2, 8)];
-    let all = [at(0, 3), at(1, 4), at(2, 0), at(2, 8), at(4, 2)];
-    expect(&rt, are_renewed(&rt, &old, &marks, &fresh, &all), "between");
-    expect(
-        &rt,
-        are_renewed(&rt, &old, &marks, &[], &[at(0, 3), at(4, 2)]),
-        "gone",
-    );
-    expect(&rt, are_renewed(&rt, &[], &marks, &fresh, &fresh), "come");
-    expect(&rt, are_renewed(&rt, &old, &[], &[], &old), "unmarked");
-    let last = [at(3, 1), at(5, 0)];
-    let marked = [true, true, false, false, true, true];
-    expect(
-        &rt,
-        are_renewed(&rt, &old, &marked, &last, &last),
-        "all marked",
-    );
+    for (old, marks, fresh, all, row) in RENEWED {
+        expect(&rt, are_renewed(&rt, old, marks, fresh, all), row);
+    }
 }
 
 // A list of so many zeros, of which each is made one and taken back.
@@ -127,11 +150,14 @@ fn expect_change<R: AllocGlobal + Abort>(rt: &R) -> Result<(), NoMemory> {
     let mut items = Vec::from_slice(rt.alloc(), "ab".as_bytes())?;
     let mut log = Vec::new(rt.alloc());
     assert!(rt; items.len() == 2);
-    if change_at(&mut items, &mut log, 1, b'x').is_err() {
-        assert!(rt; items.as_slice() == "ab".as_bytes() && log.is_empty());
-        return Err(NoMemory);
-    }
-    assert!(rt; items.as_slice() == "ax".as_bytes() && log.len() == 1);
+    let answer = change_at(&mut items, &mut log, 1, b'x');
+    let (list, count) = if answer.is_ok() { ("ax", 1) } else { ("ab", 0) };
+    assert!(rt; items.as_slice() == list.as_bytes() && log.len() == count);
+    answer
+}
+
+// Fails only where memory is refused.
+fn expect_renewed<R: AllocGlobal + Abort>(rt: &R) -> Result<(), NoMemory> {
     let found = renewed(rt.alloc(), &[at(0, 1)], &[true], &[at(0, 2), at(0, 3)])?;
     assert!(rt; found.as_slice() == [at(0, 2), at(0, 3)].as_slice());
     Ok(())
@@ -141,4 +167,5 @@ fn expect_change<R: AllocGlobal + Abort>(rt: &R) -> Result<(), NoMemory> {
 #[test]
 fn one_is_refused(rt: HostRuntime) {
     assert!(rt; expect_change(&rt).is_ok() || expect_change(&rt).is_ok());
+    assert!(rt; expect_renewed(&rt).is_ok() || expect_renewed(&rt).is_ok());
 }

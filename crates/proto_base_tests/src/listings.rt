@@ -109,12 +109,22 @@ impl<'a> Files for Tree<'a> {
 }
 
 // The store of a folder lists these paths, a line each, in some order.
-fn expect_listed(rt: &impl Abort, tree: &Tree<'_>, root: &str, wanted: &str) {
+fn expect_listed<R: Files + Clock + AllocGlobal>(
+    rt: &impl Abort,
+    tree: &R,
+    root: &str,
+    wanted: &str,
+) {
     let mut store = FolderStore::new(tree, root);
     assert!(rt; store.failures() == 0);
-    let mut paths = store.list().expect(rt, "the paths");
+    let paths = store.list().expect(rt, "the paths");
+    expect_lines(rt, tree.alloc(), paths, wanted);
+}
+
+// These are the lines, in some order.
+fn expect_lines(rt: &impl Abort, alloc: Global, mut paths: Vec<String>, wanted: &str) {
     paths.sort_unstable();
-    let mut lines = String::new(tree.alloc);
+    let mut lines = String::new(alloc);
     for path in paths.iter() {
         lines.push_str(path.as_str()).expect(rt, "memory");
         lines.push('\n').expect(rt, "memory");
@@ -123,7 +133,7 @@ fn expect_listed(rt: &impl Abort, tree: &Tree<'_>, root: &str, wanted: &str) {
 }
 
 // The store of a folder lists nothing, and counts that.
-fn expect_failed(rt: &impl Abort, tree: &Tree<'_>, root: &str) {
+fn expect_failed<R: Files + Clock + AllocGlobal>(rt: &impl Abort, tree: &R, root: &str) {
     let mut store = FolderStore::new(tree, root);
     let is_new = store.failures() == 0;
     let lists = store.list().is_ok();

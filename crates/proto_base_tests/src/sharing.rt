@@ -57,16 +57,26 @@ fn expect_locked(abort: &impl Abort, store: &mut FolderStore<'_, HostRuntime>, i
 fn keeps_what_another_has_written_since(rt: HostRuntime) {
     for (meant, kept) in MEDDLED {
         let root = root_of(&rt, &rt, "meddled");
-        take_all(&rt, &rt, root.as_str(), BEGUN);
-        let mut store = FolderStore::new(&rt, root.as_str());
-        expect_read(&rt, &mut store);
-        take_all(&rt, &rt, root.as_str(), meant);
-        let (file, journal) = write_both(&rt, &mut store);
-        assert!(&rt; !file || !journal, "written over");
-        take_all(&rt, &rt, root.as_str(), kept);
-        take_all(&rt, &rt, root.as_str(), SECONDS);
-        take_all(&rt, &rt, root.as_str(), LAST);
+        expect_kept(&rt, &rt, root.as_str(), meant, kept);
     }
+}
+
+fn expect_kept(abort: &impl Abort, rt: &HostRuntime, root: &str, meant: &[Step], kept: &[Step]) {
+    take_all(abort, rt, root, BEGUN);
+    let (file, journal) = write_after(abort, rt, root, meant);
+    assert!(abort; !file || !journal, "written over");
+    take_all(abort, rt, root, kept);
+    take_all(abort, rt, root, SECONDS);
+    take_all(abort, rt, root, LAST);
+}
+
+// Whether the file and the journal could be written by a store that had read them before these
+// steps.
+fn write_after(abort: &impl Abort, rt: &HostRuntime, root: &str, meant: &[Step]) -> (bool, bool) {
+    let mut store = FolderStore::new(rt, root);
+    expect_read(abort, &mut store);
+    take_all(abort, rt, root, meant);
+    write_both(abort, &mut store)
 }
 
 // What somebody does between the reading and the writing of a store, and what then stands there.
@@ -159,46 +169,85 @@ fn write_both(abort: &impl Abort, store: &mut FolderStore<'_, HostRuntime>) -> (
 // folder first; any other store keeps no digest of it.
 #[test]
 fn knows_a_file_whose_bytes_stay(rt: HostRuntime) {
-    for (is_locked, kept) in [(true, "C"), (false, "A")] {
-        let root = root_of(&rt, &rt, "same");
-        take_all(&rt, &rt, root.as_str(), BEGUN);
-        let mut store = FolderStore::new(&rt, root.as_str());
-        if is_locked {
-            expect_locked(&rt, &mut store, true);
-        }
-        expect_read(&rt, &mut store);
-        // So that the change has another time than the file.
-        thread::sleep(&rt, Duration::from_millis(30));
-        take_all(&rt, &rt, root.as_str(), &[(SCHEMA, GROUPS)]);
-        let (file, journal) = write_both(&rt, &mut store);
-        assert!(&rt; file == is_locked && journal);
-        let seen = [
-            (SCHEMA, Holds::Seen(Seen::Text(kept))),
-            (SCHEMA, Holds::Seen(Seen::Mode(0o777, 0o660))),
-        ];
-        take_all(&rt, &rt, root.as_str(), &seen);
-        take_all(&rt, &rt, root.as_str(), LAST);
-    }
+    let root = root_of(&rt, &rt, "same");
+    expect_known(&rt, &rt, root.as_str(), true, "C");
+    expect_known(&rt, &rt, root.as_str(), false, "A");
 }
 
-const GROUPS: Holds = Holds::Made(Made::Mode(0o660));
+fn expect_known(
+    abort: &impl Abort,
+    rt: &HostRuntime,
+    root: &str,
+    is_locked: bool,
+    kept: &'static str,
+) {
+    take_all(abort, rt, root, BEGUN);
+    let (file, journal) = write_after_mode(abort, rt, root, is_locked);
+    assert!(abort; file == is_locked && journal);
+    let seen = [
+        (SCHEMA, Holds::Seen(Seen::Text(kept))),
+        (SCHEMA, Holds::Seen(Seen::Mode(0o777, 0o660))),
+    ];
+    take_all(abort, rt, root, &seen);
+    take_all(abort, rt, root, LAST);
+}
+
+// Whether the file and the journal could be written by a store once the file that it had read got
+// another mode; the store had locked its folder first, or not.
+fn write_after_mode(
+    abort: &impl Abort,
+    rt: &HostRuntime,
+    root: &str,
+    is_locked: bool,
+) -> (bool, bool) {
+    let mut store = FolderStore::new(rt, root);
+    if is_locked {
+        expect_locked(abort, &mut store, true);
+    }
+    expect_read(abort, &mut store);
+    // So that the change has another time than the file.
+    thread::sleep(rt, Duration::from_millis(30));
+    take_all(abort, rt, root, GROUPS);
+    write_both(abort, &mut store)
+}
+
+const GROUPS: &[Step] = &[(SCHEMA, Holds::Made(Made::Mode(0o660)))];
 
 // A list is of one time: where another file is listed by the first write, that fails.
 #[test]
 fn writes_to_no_other_list(rt: HostRuntime) {
-    for (made, is_written) in [("p/b.proto", false), ("p/b.txt", true)] {
-        let root = root_of(&rt, &rt, "listed");
-        take_all(&rt, &rt, root.as_str(), BEGUN);
-        let mut store = FolderStore::new(&rt, root.as_str());
-        expect_read(&rt, &mut store);
-        assert!(&rt; store.failures() < u64::MAX);
-        let lists = store.list().is_ok();
-        let more = [(made, Holds::Made(Made::Text("B")))];
-        take_all(&rt, &rt, root.as_str(), &more);
-        let written = write_both(&rt, &mut store);
-        assert!(&rt; lists && written == (is_written, is_written));
-        take_all(&rt, &rt, root.as_str(), LAST);
-    }
+    let root = root_of(&rt, &rt, "listed");
+    expect_listed(&rt, &rt, root.as_str(), SCHEMA_TOO, false);
+    expect_listed(&rt, &rt, root.as_str(), NO_SCHEMA, true);
+}
+
+const SCHEMA_TOO: &[Step] = &[("p/b.proto", Holds::Made(Made::Text("B")))];
+
+const NO_SCHEMA: &[Step] = &[("p/b.txt", Holds::Made(Made::Text("B")))];
+
+fn expect_listed(
+    abort: &impl Abort,
+    rt: &HostRuntime,
+    root: &str,
+    meant: &[Step],
+    is_written: bool,
+) {
+    take_all(abort, rt, root, BEGUN);
+    let written = write_listed(abort, rt, root, meant);
+    assert!(abort; written == (is_written, is_written));
+    take_all(abort, rt, root, LAST);
+}
+
+// Whether the file and the journal could be written by a store that had listed its files before
+// these steps.
+fn write_listed(abort: &impl Abort, rt: &HostRuntime, root: &str, meant: &[Step]) -> (bool, bool) {
+    let mut store = FolderStore::new(rt, root);
+    expect_read(abort, &mut store);
+    assert!(abort; store.failures() < u64::MAX);
+    let lists = store.list().is_ok();
+    assert!(abort; lists);
+    take_all(abort, rt, root, meant);
+    write_both(abort, &mut store)
 }
 
 #[test]
@@ -220,20 +269,21 @@ fn opens_a_journal_to_nobody_else(rt: HostRuntime) {
     let root = root_of(&rt, &rt, "open");
     take_all(&rt, &rt, root.as_str(), BEGUN);
     take_all(&rt, &rt, root.as_str(), SECRET);
-    let mut store = FolderStore::new(&rt, root.as_str());
-    assert!(&rt; store.failures() < u64::MAX);
-    let lists = store.list().is_ok();
-    assert!(&rt; lists && store.failures() < u64::MAX);
-    let journal = store.replace_journal(b"J").is_ok();
-    assert!(&rt; journal);
-    take_all(
-        &rt,
-        &rt,
-        root.as_str(),
-        &[(JOURNAL, Holds::Seen(Seen::Mode(0o777, 0o600)))],
-    );
+    expect_journal(&rt, &mut FolderStore::new(&rt, root.as_str()));
+    take_all(&rt, &rt, root.as_str(), OWN);
     take_all(&rt, &rt, root.as_str(), LAST);
 }
+
+// The store lists its files, and writes a journal.
+fn expect_journal(abort: &impl Abort, store: &mut FolderStore<'_, HostRuntime>) {
+    assert!(abort; store.failures() < u64::MAX);
+    let lists = store.list().is_ok();
+    assert!(abort; lists && store.failures() < u64::MAX);
+    let journal = store.replace_journal(b"J").is_ok();
+    assert!(abort; journal);
+}
+
+const OWN: &[Step] = &[(JOURNAL, Holds::Seen(Seen::Mode(0o777, 0o600)))];
 
 // A schema that its owner and a group may read, and one that the owner and all others may.
 const SECRET: &[Step] = &[

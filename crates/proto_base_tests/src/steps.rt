@@ -151,18 +151,34 @@ fn is_so(rt: &HostRuntime, root: &str, path: &str, holds: Holds) -> bool {
 fn make(rt: &HostRuntime, root: &str, path: &str, made: Made) -> io::Result<()> {
     match made {
         Made::Folder => fs::create_dir_all(rt, path),
-        Made::EmptyFolder => {
-            let _ = fs::remove_dir_all(rt, path);
-            fs::create_dir_all(rt, path)
-        }
+        Made::EmptyFolder => make_empty(rt, path),
         Made::NoFolder => fs::remove_dir_all(rt, path),
         Made::Text(text) => fs::write(rt, path, text),
         Made::NoFile => fs::remove_file(rt, path),
-        Made::Moved(from) => fs::rename(rt, below(rt, root, from)?.as_str(), path),
-        Made::Link(to) => symlink(rt, below(rt, root, to)?.as_str(), path),
-        Made::Length(length) => fs::File::create(rt, path)?.set_len(length),
+        Made::Moved(from) => bring(rt, root, from, path, false),
+        Made::Link(to) => bring(rt, root, to, path, true),
+        Made::Length(length) => make_as_long(rt, path, length),
         Made::Mode(bits) => fs::set_permissions(rt, path, Permissions::from_mode(bits)),
     }
+}
+
+fn make_empty(rt: &HostRuntime, path: &str) -> io::Result<()> {
+    let _ = fs::remove_dir_all(rt, path);
+    fs::create_dir_all(rt, path)
+}
+
+// Puts a link to another path below the root there, or else moves that file there.
+fn bring(rt: &HostRuntime, root: &str, other: &str, path: &str, is_link: bool) -> io::Result<()> {
+    let full_path = below(rt, root, other)?;
+    if is_link {
+        symlink(rt, full_path.as_str(), path)
+    } else {
+        fs::rename(rt, full_path.as_str(), path)
+    }
+}
+
+fn make_as_long(rt: &HostRuntime, path: &str, length: u64) -> io::Result<()> {
+    fs::File::create(rt, path)?.set_len(length)
 }
 
 fn is_seen(rt: &HostRuntime, path: &str, seen: Seen) -> bool {

@@ -73,20 +73,29 @@ pub(crate) fn expect_longer_second<R: AllocGlobal + Abort>(
     state: State,
     wanted: &str,
 ) -> Result<(), NoMemory> {
+    let longer = longer_second(rt, journal, state)?;
+    assert!(rt; longer.as_slice() == wanted.as_bytes());
+    Ok(())
+}
+
+// The journal with the record of the rename and its edit.
+fn longer_second<R: AllocGlobal + Abort>(
+    rt: &R,
+    journal: &str,
+    state: State,
+) -> Result<Vec<u8>, NoMemory> {
     let entry = entry_of(rt, "d_e", 48)?;
     let edit = edit_of(rt)?;
-    let bytes = journal.as_bytes();
     assert!(rt; edit.is_notable());
-    let longer = with_record(
+    let bytes = journal.as_bytes();
+    with_record(
         rt.alloc(),
         Version::Second,
         bytes,
         state,
         &entry,
         Some(&edit),
-    )?;
-    assert!(rt; longer.as_slice() == wanted.as_bytes());
-    Ok(())
+    )
 }
 
 /// Ends the test with the row unless the answer is yes.
