@@ -15,4 +15,4 @@ returns c = λ text said front.
     let words = word_at c.args.words.now in
     let same = same_Some c.in-Some.text.now text (c.in-Some.ensures ∙ ap (name_text c.args.link.now) c.symbol.ensures ∙ said) in
     let ends = c.as_str.ensures.value ∙ c.in_ok-end.ensures ∙ ap dotted_text (words_each words word.behind.now) in
-    its_end c.in-Some.text.now c.as_str.result.now text (dotted_text (map words (map (λ b. b.item) word.behind.now))) same ends c.before.result c.before.ensures.some c.before.ensures.none front)
+    its_end c.in-Some.text.now c.as_str.result.now text (dotted_text (map words (map (λ b. b.item) word.behind.now))) same ends c.before-2.result c.before-2.ensures.some c.before-2.ensures.none front)
