@@ -57,6 +57,12 @@ fn findings_text(alloc: Global, found: &[Finding]) -> Result<String, NoMemory> {
     Ok(text)
 }
 
+// What all rules find.
+fn found_text(alloc: Global, schema: &Schema) -> Result<String, NoMemory> {
+    let findings = lint(alloc, schema.files(), schema.link(), &RuleSet::all())?;
+    findings_text(alloc, findings.as_slice())
+}
+
 // Files, descriptors and findings are those of the row, or memory is wanting.
 fn expect_row<R: AllocGlobal + Abort>(
     rt: &R,
@@ -69,12 +75,7 @@ fn expect_row<R: AllocGlobal + Abort>(
         to_json(rt.alloc(), schema.descriptors())?.as_str(),
         json,
     );
-    let findings = lint(rt.alloc(), schema.files(), schema.link(), &RuleSet::all())?;
-    expect_text(
-        rt,
-        findings_text(rt.alloc(), findings.as_slice())?.as_str(),
-        found,
-    );
+    expect_text(rt, found_text(rt.alloc(), schema)?.as_str(), found);
     Ok(())
 }
 

@@ -2,8 +2,13 @@
 //! test here fails exactly where the call that follows the edit is what meets the refusal:
 //! `tools/acceptance/refused_allocations --fewer` counts these runs. In a run that refuses none it passes.
 
-ghost use Rattle.std.specs.Prelude.{◌≡◌, ◌≢◌, ◌<◌, ℕ, length, IfOk};
+ghost use Rattle.std.specs.Prelude.{◌≡◌, ◌≢◌, ◌<◌, ℕ, List, length, IfOk};
+ghost use Rattle.proto_desc.specs.Edited.{AreCleanlyDescribed};
+ghost use Rattle.proto_files.specs.Faults.{HasNoFault};
+ghost use Rattle.proto_files.specs.FilesRead.{AreRead, ReadOf};
 ghost use Rattle.proto_files.specs.GivenFiles.{file_at, paths_of};
+ghost use Rattle.proto_names.specs.LinkOfFiles.{IsLinkOf};
+ghost use Rattle.proto_names_imports.specs.Links.{LinkFaults};
 ghost use Rattle.proto_tree.specs.File.{tree_of_file};
 ghost use Rattle.proto_tree.specs.Reads.{Reads};
 
@@ -51,7 +56,7 @@ fn other_text(alloc: Global) -> Result<(Source, Vec<Token>, File), NoMemory>
 }
 
 // Gives the file at place 128 this text. Takes no memory.
-fn edit(files: &mut Files, source: Source, tokens: Vec<Token>, tree: File)
+fn put(files: &mut Files, source: Source, tokens: Vec<Token>, tree: File)
     requires place { 128 < length files.old }
     requires read { Reads source tokens.items (tree_of_file tree) }
     ensures len { length files.new ≡ length files.old }
@@ -60,6 +65,18 @@ fn edit(files: &mut Files, source: Source, tokens: Vec<Token>, tree: File)
 {
     let (_source, _tokens, old) = files.set(128, source, tokens, tree);
     old.release();
+}
+
+// Gives the file at place 128 the other text, if memory suffices.
+fn edit(alloc: Global, files: &mut Files) -> Result<(), NoMemory>
+    requires place { 128 < length files.old }
+    ensures len { length files.new ≡ length files.old }
+    ensures paths { paths_of files.old ≡ paths_of files.new }
+    ensures others { (file : ℕ) → file ≢ 128 → file_at files.old file ≡ file_at files.new file }
+{
+    let (source, tokens, tree) = other_text(alloc)?;
+    put(files, source, tokens, tree);
+    Ok(())
 }
 
 // Ends the test where the call wanted memory, or found a fault.
@@ -81,10 +98,24 @@ fn expect_link<R: AllocGlobal + Abort>(rt: &R, files: &mut Files) -> Result<(), 
         return Ok(());
     }
     let mut link = Link::new(rt.alloc(), files)?;
-    let (source, tokens, tree) = other_text(rt.alloc())?;
-    edit(files, source, tokens, tree);
-    let answer = link.replace(rt.alloc(), files, &[128]);
+    let answer = relink(rt, files, &mut link);
     link.release();
+    answer
+}
+
+// Edits the file, and has the link follow.
+fn relink<R: AllocGlobal + Abort>(
+    rt: &R,
+    files: &mut Files,
+    link: &mut Link,
+) -> Result<(), SchemaFault>
+    requires place { 128 < length files.old }
+    requires link { IsLinkOf files.old link.old }
+    requires clean { HasNoFault (LinkFaults files.old) }
+    requires read { (reads : List ReadOf) × AreRead files.old reads }
+{
+    edit(rt.alloc(), files)?;
+    let answer = link.replace(rt.alloc(), files, &[128]);
     expect_memory(rt, &answer);
     Ok(())
 }
@@ -112,11 +143,27 @@ fn expect_descriptors<R: AllocGlobal + Abort>(
     }
     let mut link = Link::new(rt.alloc(), files)?;
     let mut descriptors = check(rt.alloc(), files, &link)?;
-    let (source, tokens, tree) = other_text(rt.alloc())?;
-    edit(files, source, tokens, tree);
-    link.replace(rt.alloc(), files, &[128])?;
-    let answer = descriptors.replace(rt.alloc(), files, &link, &[128]);
+    let answer = follow_edit(rt, files, &mut link, &mut descriptors);
     link.release();
+    answer
+}
+
+// Edits the file, and has the link and the descriptors follow.
+fn follow_edit<R: AllocGlobal + Abort>(
+    rt: &R,
+    files: &mut Files,
+    link: &mut Link,
+    descriptors: &mut Descriptors,
+) -> Result<(), SchemaFault>
+    requires place { 128 < length files.old }
+    requires link { IsLinkOf files.old link.old }
+    requires clean { HasNoFault (LinkFaults files.old) }
+    requires read { (reads : List ReadOf) × AreRead files.old reads }
+    requires descriptors { AreCleanlyDescribed files.old descriptors.old }
+{
+    edit(rt.alloc(), files)?;
+    link.replace(rt.alloc(), files, &[128])?;
+    let answer = descriptors.replace(rt.alloc(), files, link, &[128]);
     expect_memory(rt, &answer);
     Ok(())
 }

@@ -1,40 +1,10 @@
-use Rattle.std.proofs.Common.{sym, arith}
-use Rattle.proto_schema_tests.proofs.FewPlaces.{one_within}
 use Rattle.proto_schema_tests.proofs.NoFaults.{no_fault}
 use Rattle.proto_schema_tests.proofs.growths.expect_descriptors.Goals as goal
 
-pub replace-requires-clause-link : goal.replace-requires-clause-link
-replace-requires-clause-link g c = (
-  c.args.files.now,
-  record {
-    link = c.in_ok-link.ensures.link;
-    clean = c.in_ok-link.ensures.clean;
-    reads = c.in_ok-link.ensures.read.0;
-    read = c.in_ok-link.ensures.read.1;
-  },
-  record {
-    paths = c.edit.ensures.paths;
-    others = λ file l other. c.edit.ensures.others file (λ e. other (0, omega (arith), sym e));
-  },
-)
-
-pub replace-answer-requires-clause-were : goal.replace-answer-requires-clause-were
-replace-answer-requires-clause-were g c = (
-  c.args.files.now,
-  record {
-    descriptors = record { described = c.in_ok-descriptors.ensures.descriptors; kept = c.in_ok-descriptors.ensures.kept };
-    clean = no_fault c.args.files.now c.len.ensures.clean c.in_ok-link.ensures.clean c.in_ok-descriptors.ensures.clean;
-    reads = c.in_ok-link.ensures.read.0;
-    read = c.in_ok-link.ensures.read.1;
-  },
-  record {
-    paths = c.edit.ensures.paths;
-    others = λ file l other. c.edit.ensures.others file (λ e. other (0, omega (arith), sym e));
-  },
-)
-
-pub replace-requires-clause-places : goal.replace-requires-clause-places
-replace-requires-clause-places g c = one_within 128 _ (omega (arith, c.edit.ensures.len, c.len.ensures.len, c.if-len-ne256.false))
-
-pub replace-answer-requires-clause-places : goal.replace-answer-requires-clause-places
-replace-answer-requires-clause-places g c = one_within 128 _ (omega (arith, c.edit.ensures.len, c.len.ensures.len, c.if-len-ne256.false))
+pub follow_edit-answer-requires-clause-descriptors : goal.follow_edit-answer-requires-clause-descriptors
+follow_edit-answer-requires-clause-descriptors g c = record {
+  descriptors = record { described = c.in_ok-descriptors.ensures.descriptors; kept = c.in_ok-descriptors.ensures.kept };
+  clean = no_fault c.args.files.now c.len.ensures.clean c.in_ok-link.ensures.clean c.in_ok-descriptors.ensures.clean;
+  reads = c.in_ok-link.ensures.read.0;
+  read = c.in_ok-link.ensures.read.1;
+}

@@ -2,7 +2,7 @@ use Rattle.std.proofs.Common.{List, length, refl, sym, ◌∙◌, ap}
 use Rattle.std.proofs.lemmas.List.{length-set}
 use Rattle.proto_files.specs.GivenFiles.{FileOf, file_at, paths_of}
 use Rattle.proto_schema_tests.proofs.OneFile.{others_stay, paths_stay}
-use Rattle.proto_schema_tests.proofs.growths.edit.Goals as goal
+use Rattle.proto_schema_tests.proofs.growths.put.Goals as goal
 
 pub returns-clause-len : goal.returns-clause-len
 returns-clause-len c = ap length c.set-source.ensures.files ∙ length-set c.args.files.now 128 _
