@@ -19,21 +19,20 @@ const GONE: &[(&str, &str)] = &[(SCHEMA, "syntax = \"proto3\";")];
 #[test]
 fn fails_once_its_folder_is_gone(rt: HostRuntime) {
     let root = root_of(&rt, &rt, "gone");
-    let mut store = FolderStore::new(&rt, root.as_str());
-    expect_gone(&rt, &rt, root.as_str(), &mut store);
+    expect_gone(&rt, &rt, root.as_str());
 }
 
 // The store of this folder holds what is written there, and fails once that is gone.
-fn expect_gone(
-    abort: &impl Abort,
-    rt: &HostRuntime,
-    root: &str,
-    store: &mut FolderStore<'_, HostRuntime>,
-) {
+fn expect_gone(abort: &impl Abort, rt: &HostRuntime, root: &str) {
+    let mut store = FolderStore::new(rt, root);
     take_all(abort, rt, root, WRITTEN);
-    assert!(abort; is_held(abort, store, GONE, "") && store.failures() == 0);
+    expect_held(abort, &mut store);
     take_all(abort, rt, root, LAST);
-    expect_failures(abort, store);
+    expect_failures(abort, &mut store);
+}
+
+fn expect_held(abort: &impl Abort, store: &mut FolderStore<'_, HostRuntime>) {
+    assert!(abort; is_held(abort, store, GONE, "") && store.failures() == 0);
 }
 
 fn expect_failures<R: Files + Clock + AllocGlobal>(

@@ -53,37 +53,111 @@ fn expect_locked(abort: &impl Abort, store: &mut FolderStore<'_, HostRuntime>, i
     );
 }
 
-#[test]
-fn keeps_what_another_has_written_since(rt: HostRuntime) {
-    for (meant, kept) in MEDDLED {
-        let root = root_of(&rt, &rt, "meddled");
-        expect_kept(&rt, &rt, root.as_str(), meant, kept);
+/// What a store does before somebody else writes its folder.
+#[derive(Clone, Copy)]
+struct First {
+    locks: bool,
+    lists: bool,
+    /// So that what is then changed has another time than the file.
+    waits: bool,
+}
+
+const READS: First = First {
+    locks: false,
+    lists: false,
+    waits: false,
+};
+
+/// Which of the file and the journal the store then writes.
+#[derive(Clone, Copy)]
+enum Written {
+    NotBoth,
+    These(bool, bool),
+}
+
+/// What a store does first, what somebody else does, what the store then writes, and what stands
+/// there in the end.
+type Row = (First, &'static [Step], Written, &'static [Step]);
+
+fn expect_rows(abort: &impl Abort, rt: &HostRuntime, name: &str, rows: &[Row]) {
+    let root = root_of(abort, rt, name);
+    for (place, row) in rows.iter().enumerate() {
+        expect_row(abort, rt, root.as_str(), place, *row);
     }
 }
 
-fn expect_kept(abort: &impl Abort, rt: &HostRuntime, root: &str, meant: &[Step], kept: &[Step]) {
+fn expect_row(
+    abort: &impl Abort,
+    rt: &HostRuntime,
+    root: &str,
+    place: usize,
+    (first, meant, written, kept): Row,
+) {
     take_all(abort, rt, root, BEGUN);
-    let (file, journal) = write_after(abort, rt, root, meant);
-    assert!(abort; !file || !journal, "written over");
+    let is_so = is_written(written, write_after(abort, rt, root, first, meant));
+    assert!(abort; is_so, "at row {place} from 0");
     take_all(abort, rt, root, kept);
     take_all(abort, rt, root, SECONDS);
     take_all(abort, rt, root, LAST);
 }
 
+fn is_written(wanted: Written, (file, journal): (bool, bool)) -> bool {
+    match wanted {
+        Written::NotBoth => !file || !journal,
+        Written::These(is_file, is_journal) => file == is_file && journal == is_journal,
+    }
+}
+
 // Whether the file and the journal could be written by a store that had read them before these
 // steps.
-fn write_after(abort: &impl Abort, rt: &HostRuntime, root: &str, meant: &[Step]) -> (bool, bool) {
+fn write_after(
+    abort: &impl Abort,
+    rt: &HostRuntime,
+    root: &str,
+    first: First,
+    meant: &[Step],
+) -> (bool, bool) {
     let mut store = FolderStore::new(rt, root);
-    expect_read(abort, &mut store);
+    begin(abort, rt, &mut store, first);
     take_all(abort, rt, root, meant);
     write_both(abort, &mut store)
 }
 
-// What somebody does between the reading and the writing of a store, and what then stands there.
-const MEDDLED: &[(&[Step], &[Step])] = &[
+fn begin(
+    abort: &impl Abort,
+    rt: &HostRuntime,
+    store: &mut FolderStore<'_, HostRuntime>,
+    first: First,
+) {
+    if first.locks {
+        expect_locked(abort, store, true);
+    }
+    expect_read(abort, store);
+    if first.lists {
+        expect_list(abort, store);
+    }
+    if first.waits {
+        thread::sleep(rt, Duration::from_millis(30));
+    }
+}
+
+fn expect_list(abort: &impl Abort, store: &mut FolderStore<'_, HostRuntime>) {
+    assert!(abort; store.failures() < u64::MAX);
+    let lists = store.list().is_ok();
+    assert!(abort; lists);
+}
+
+#[test]
+fn keeps_what_another_has_written_since(rt: HostRuntime) {
+    expect_rows(&rt, &rt, "meddled", MEDDLED);
+}
+
+const MEDDLED: &[Row] = &[
     // In place.
     (
+        READS,
         &[(SCHEMA, Holds::Made(Made::Text("by hand")))],
+        Written::NotBoth,
         &[
             (SCHEMA, Holds::Seen(Seen::Text("by hand"))),
             (JOURNAL, Holds::Seen(Seen::Text("J"))),
@@ -91,20 +165,26 @@ const MEDDLED: &[(&[Step], &[Step])] = &[
     ),
     // By another file that is moved there, with as many bytes.
     (
+        READS,
         &[
             ("p/b", Holds::Made(Made::Text("B"))),
             (SCHEMA, Holds::Made(Made::Moved("p/b"))),
         ],
+        Written::NotBoth,
         &[(SCHEMA, Holds::Seen(Seen::Text("B")))],
     ),
     // By none.
     (
+        READS,
         &[(SCHEMA, Holds::Made(Made::NoFile))],
+        Written::NotBoth,
         &[(SCHEMA, Holds::Seen(Seen::Nothing))],
     ),
     // A second file of another run.
     (
+        READS,
         &[("p/.protoref-new", Holds::Made(Made::Text("another's")))],
+        Written::NotBoth,
         &[
             (SCHEMA, Holds::Seen(Seen::Text("A"))),
             ("p/.protoref-new", Holds::Seen(Seen::Text("another's"))),
@@ -113,7 +193,9 @@ const MEDDLED: &[(&[Step], &[Step])] = &[
     ),
     // A journal where none was.
     (
+        READS,
         &[(JOURNAL, Holds::Made(Made::Text("another's")))],
+        Written::NotBoth,
         &[
             (SCHEMA, Holds::Seen(Seen::Text("C"))),
             (JOURNAL, Holds::Seen(Seen::Text("another's"))),
@@ -124,23 +206,27 @@ const MEDDLED: &[(&[Step], &[Step])] = &[
 // Who asks before the first write is told of all that, and nothing is written for it.
 #[test]
 fn tells_what_is_in_the_way(rt: HostRuntime) {
-    expect_way(&rt, &rt, &[], true);
-    for (meant, _) in MEDDLED {
-        expect_way(&rt, &rt, meant, false);
+    let root = root_of(&rt, &rt, "ahead");
+    expect_way(&rt, &rt, root.as_str(), &[], true);
+    for (_, meant, _, _) in MEDDLED {
+        expect_way(&rt, &rt, root.as_str(), meant, false);
     }
 }
 
-fn expect_way(abort: &impl Abort, rt: &HostRuntime, meant: &[Step], is_clear: bool) {
-    let root = root_of(abort, rt, "ahead");
-    take_all(abort, rt, root.as_str(), BEGUN);
-    let mut store = FolderStore::new(rt, root.as_str());
+fn expect_way(abort: &impl Abort, rt: &HostRuntime, root: &str, meant: &[Step], is_clear: bool) {
+    take_all(abort, rt, root, BEGUN);
+    let mut store = FolderStore::new(rt, root);
     expect_read(abort, &mut store);
-    take_all(abort, rt, root.as_str(), meant);
+    take_all(abort, rt, root, meant);
+    expect_told(abort, &mut store, is_clear);
+    take_all(abort, rt, root, LAST);
+}
+
+fn expect_told(abort: &impl Abort, store: &mut FolderStore<'_, HostRuntime>, is_clear: bool) {
     assert!(abort; store.failures() < u64::MAX);
     let may_replace = store.may_replace(&[SCHEMA]).is_ok();
     let failures = if is_clear { 0 } else { 1 };
     assert!(abort; may_replace == is_clear && store.failures() == failures);
-    take_all(abort, rt, root.as_str(), LAST);
 }
 
 const SECONDS: &[Step] = &[
@@ -169,86 +255,66 @@ fn write_both(abort: &impl Abort, store: &mut FolderStore<'_, HostRuntime>) -> (
 // folder first; any other store keeps no digest of it.
 #[test]
 fn knows_a_file_whose_bytes_stay(rt: HostRuntime) {
-    let root = root_of(&rt, &rt, "same");
-    expect_known(&rt, &rt, root.as_str(), true, "C");
-    expect_known(&rt, &rt, root.as_str(), false, "A");
+    expect_rows(&rt, &rt, "same", SAME);
 }
 
-fn expect_known(
-    abort: &impl Abort,
-    rt: &HostRuntime,
-    root: &str,
-    is_locked: bool,
-    kept: &'static str,
-) {
-    take_all(abort, rt, root, BEGUN);
-    let (file, journal) = write_after_mode(abort, rt, root, is_locked);
-    assert!(abort; file == is_locked && journal);
-    let seen = [
-        (SCHEMA, Holds::Seen(Seen::Text(kept))),
-        (SCHEMA, Holds::Seen(Seen::Mode(0o777, 0o660))),
-    ];
-    take_all(abort, rt, root, &seen);
-    take_all(abort, rt, root, LAST);
-}
+const SAME: &[Row] = &[
+    (
+        First {
+            locks: true,
+            lists: false,
+            waits: true,
+        },
+        &[(SCHEMA, GROUPS)],
+        Written::These(true, true),
+        &[
+            (SCHEMA, Holds::Seen(Seen::Text("C"))),
+            (SCHEMA, Holds::Seen(Seen::Mode(0o777, 0o660))),
+        ],
+    ),
+    (
+        First {
+            locks: false,
+            lists: false,
+            waits: true,
+        },
+        &[(SCHEMA, GROUPS)],
+        Written::These(false, true),
+        &[
+            (SCHEMA, Holds::Seen(Seen::Text("A"))),
+            (SCHEMA, Holds::Seen(Seen::Mode(0o777, 0o660))),
+        ],
+    ),
+];
 
-// Whether the file and the journal could be written by a store once the file that it had read got
-// another mode; the store had locked its folder first, or not.
-fn write_after_mode(
-    abort: &impl Abort,
-    rt: &HostRuntime,
-    root: &str,
-    is_locked: bool,
-) -> (bool, bool) {
-    let mut store = FolderStore::new(rt, root);
-    if is_locked {
-        expect_locked(abort, &mut store, true);
-    }
-    expect_read(abort, &mut store);
-    // So that the change has another time than the file.
-    thread::sleep(rt, Duration::from_millis(30));
-    take_all(abort, rt, root, GROUPS);
-    write_both(abort, &mut store)
-}
-
-const GROUPS: &[Step] = &[(SCHEMA, Holds::Made(Made::Mode(0o660)))];
+const GROUPS: Holds = Holds::Made(Made::Mode(0o660));
 
 // A list is of one time: where another file is listed by the first write, that fails.
 #[test]
 fn writes_to_no_other_list(rt: HostRuntime) {
-    let root = root_of(&rt, &rt, "listed");
-    expect_listed(&rt, &rt, root.as_str(), SCHEMA_TOO, false);
-    expect_listed(&rt, &rt, root.as_str(), NO_SCHEMA, true);
+    expect_rows(&rt, &rt, "listed", LISTED);
 }
 
-const SCHEMA_TOO: &[Step] = &[("p/b.proto", Holds::Made(Made::Text("B")))];
+const LISTED: &[Row] = &[
+    (
+        LISTS,
+        &[("p/b.proto", Holds::Made(Made::Text("B")))],
+        Written::These(false, false),
+        &[],
+    ),
+    (
+        LISTS,
+        &[("p/b.txt", Holds::Made(Made::Text("B")))],
+        Written::These(true, true),
+        &[],
+    ),
+];
 
-const NO_SCHEMA: &[Step] = &[("p/b.txt", Holds::Made(Made::Text("B")))];
-
-fn expect_listed(
-    abort: &impl Abort,
-    rt: &HostRuntime,
-    root: &str,
-    meant: &[Step],
-    is_written: bool,
-) {
-    take_all(abort, rt, root, BEGUN);
-    let written = write_listed(abort, rt, root, meant);
-    assert!(abort; written == (is_written, is_written));
-    take_all(abort, rt, root, LAST);
-}
-
-// Whether the file and the journal could be written by a store that had listed its files before
-// these steps.
-fn write_listed(abort: &impl Abort, rt: &HostRuntime, root: &str, meant: &[Step]) -> (bool, bool) {
-    let mut store = FolderStore::new(rt, root);
-    expect_read(abort, &mut store);
-    assert!(abort; store.failures() < u64::MAX);
-    let lists = store.list().is_ok();
-    assert!(abort; lists);
-    take_all(abort, rt, root, meant);
-    write_both(abort, &mut store)
-}
+const LISTS: First = First {
+    locks: false,
+    lists: true,
+    waits: false,
+};
 
 #[test]
 fn writes_again_what_it_has_written(rt: HostRuntime) {
@@ -266,30 +332,16 @@ fn writes_again_what_it_has_written(rt: HostRuntime) {
 
 #[test]
 fn opens_a_journal_to_nobody_else(rt: HostRuntime) {
-    let root = root_of(&rt, &rt, "open");
-    take_all(&rt, &rt, root.as_str(), BEGUN);
-    take_all(&rt, &rt, root.as_str(), SECRET);
-    expect_journal(&rt, &mut FolderStore::new(&rt, root.as_str()));
-    take_all(&rt, &rt, root.as_str(), OWN);
-    take_all(&rt, &rt, root.as_str(), LAST);
+    in_new_folder(&rt, &rt, "open", &[SECRET]);
 }
-
-// The store lists its files, and writes a journal.
-fn expect_journal(abort: &impl Abort, store: &mut FolderStore<'_, HostRuntime>) {
-    assert!(abort; store.failures() < u64::MAX);
-    let lists = store.list().is_ok();
-    assert!(abort; lists && store.failures() < u64::MAX);
-    let journal = store.replace_journal(b"J").is_ok();
-    assert!(abort; journal);
-}
-
-const OWN: &[Step] = &[(JOURNAL, Holds::Seen(Seen::Mode(0o777, 0o600)))];
 
 // A schema that its owner and a group may read, and one that the owner and all others may.
 const SECRET: &[Step] = &[
     (SCHEMA, Holds::Made(Made::Mode(0o640))),
     ("p/b.proto", Holds::Made(Made::Text("B"))),
     ("p/b.proto", Holds::Made(Made::Mode(0o604))),
+    ("", Holds::Changed(Change::NoteListed("J"))),
+    (JOURNAL, Holds::Seen(Seen::Mode(0o777, 0o600))),
 ];
 
 #[test]

@@ -68,6 +68,8 @@ pub(crate) enum Change {
     Replace(&'static str, &'static str),
     /// The journal gets this text.
     Note(&'static str),
+    /// The same, once the store has listed its files.
+    NoteListed(&'static str),
     /// What was left goes.
     Clear,
 }
@@ -201,6 +203,10 @@ fn make_change(rt: &HostRuntime, root: &str, change: Change) -> Result<(), Store
     match change {
         Change::Replace(path, text) => store.replace(path, text.as_bytes()),
         Change::Note(text) => store.replace_journal(text.as_bytes()),
+        Change::NoteListed(text) => {
+            store.list()?;
+            store.replace_journal(text.as_bytes())
+        }
         Change::Clear => store.clear_leftovers(),
     }
 }

@@ -63,20 +63,29 @@ fn found_text(alloc: Global, schema: &Schema) -> Result<String, NoMemory> {
     findings_text(alloc, findings.as_slice())
 }
 
+fn expect_texts<R: Abort>(rt: &R, schema: &Schema, texts: &str) {
+    assert!(rt; are_texts(schema, texts), "{texts}");
+}
+
+// This is the text, or memory is wanting.
+fn expect_made<R: Abort>(
+    rt: &R,
+    text: Result<String, NoMemory>,
+    wanted: &str,
+) -> Result<(), NoMemory> {
+    expect_text(rt, text?.as_str(), wanted);
+    Ok(())
+}
+
 // Files, descriptors and findings are those of the row, or memory is wanting.
 fn expect_row<R: AllocGlobal + Abort>(
     rt: &R,
     schema: &Schema,
     (texts, json, found): Row,
 ) -> Result<(), NoMemory> {
-    assert!(rt; are_texts(schema, texts), "{texts}");
-    expect_text(
-        rt,
-        to_json(rt.alloc(), schema.descriptors())?.as_str(),
-        json,
-    );
-    expect_text(rt, found_text(rt.alloc(), schema)?.as_str(), found);
-    Ok(())
+    expect_texts(rt, schema, texts);
+    expect_made(rt, to_json(rt.alloc(), schema.descriptors()), json)?;
+    expect_made(rt, found_text(rt.alloc(), schema), found)
 }
 
 /// The row, if there is one, holds twice, and once more where memory was wanting for one of them.
@@ -143,7 +152,7 @@ fn replace_second(alloc: Global, schema: &mut Schema) -> Result<(), SchemaFault>
 // The second file gets its text, at the second call if there is no memory for the first; until then the files are as before.
 fn expect_replaced<R: AllocGlobal + Abort>(rt: &R, schema: &mut Schema) -> Result<(), SchemaFault> {
     if let Err(SchemaFault::NoMemory) = replace_second(rt.alloc(), schema) {
-        assert!(rt; are_texts(schema, BEFORE), "{BEFORE}");
+        expect_texts(rt, schema, BEFORE);
         replace_second(rt.alloc(), schema)?;
     }
     expect_kept(rt, schema, Some(AFTER));

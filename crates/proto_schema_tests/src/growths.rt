@@ -142,10 +142,26 @@ fn expect_descriptors<R: AllocGlobal + Abort>(
         return Ok(());
     }
     let mut link = Link::new(rt.alloc(), files)?;
-    let mut descriptors = check(rt.alloc(), files, &link)?;
-    let answer = follow_edit(rt, files, &mut link, &mut descriptors);
+    let answer = redescribe(rt, files, &mut link);
     link.release();
     answer
+}
+
+// Describes the files, and has the descriptors follow an edit.
+fn redescribe<R: AllocGlobal + Abort>(
+    rt: &R,
+    files: &mut Files,
+    link: &mut Link,
+) -> Result<(), SchemaFault>
+    requires place { 128 < length files.old }
+    requires link { IsLinkOf files.old link.old }
+    requires clean { HasNoFault (LinkFaults files.old) }
+    requires read { (reads : List ReadOf) × AreRead files.old reads }
+{
+    // Its contract says that the files can be read.
+    files.len();
+    let mut descriptors = check(rt.alloc(), files, link)?;
+    follow_edit(rt, files, link, &mut descriptors)
 }
 
 // Edits the file, and has the link and the descriptors follow.
