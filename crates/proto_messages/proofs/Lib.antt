@@ -1,3 +1,4 @@
+mod Chains
 mod Items
 mod ObjectMembers
 mod Floats

@@ -17,7 +17,7 @@ use proto_text::{Splice, Splices};
 use std::alloc::{AllocError, Global};
 
 /// What an editor puts in the place of a range of its text: a TextEdit of the protocol.
-#[derive(Debug, Drop)]
+#[derive(Drop)]
 pub struct RangeEdit {
     /// Where the replaced text begins.
     pub start: Position,
