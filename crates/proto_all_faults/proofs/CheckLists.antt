@@ -15,7 +15,7 @@ use Rattle.proto_all_faults.specs.AllFaults.{CheckFaultsUpTo, of_flaw}
 use Rattle.proto_all_faults.specs.Common.{AreFound, faults_before, faults_in}
 
 -- what is found in a file is all that is wrong with it
-pub flaws_of_file : (files : List FileOf) (file : ℕ) (scene : Scene) (tree : Tree) (flaws : List Flaw) (reads : List ReadOf) → AreRead files reads → file < length files → IsSceneOf files file scene → IsTreeOf (file_at files file).bytes tree → AreOfWorkspace files file flaws
+pub flaws_of_file : (files : List FileOf) (file : ℕ) (scene : Scene) (tree : Tree) (flaws : List Flaw) (reads : List ReadOf) → AreRead files reads → file < length files → IsSceneOf files file scene → IsTreeOf (file_at files file) tree → AreOfWorkspace files file flaws
     → file_flaws scene tree ++ flaws ≡ all_flaws (Some past) files reads file
 flaws_of_file files file scene tree flaws reads are within is of_file others =
     ap (λ (t : Tree). file_flaws scene t ++ flaws) (sym (same_tree files reads file tree are within of_file))

@@ -1,10 +1,12 @@
 -- All faults of the first phase of the files given.
-use Rattle.std.proofs.Common.{◌≡◌, ◌≢◌, ◌⊎◌, ◌<◌, ◌≤◌, ℕ, List, Some, subst, inl, inr, arith, IsPermutation}
-use Rattle.proto_base.proofs.Common.{All-permutation, Contains-permutation, IsPermutation-sym, IsPermutation-trans, length_permutation, phase_of}
+use Rattle.std.proofs.Common.{◌≡◌, ◌≢◌, ◌⊎◌, ◌<◌, ◌≤◌, ℕ, List, [], ◌∷◌, map, Some, refl, sym, ap, ◌∙◌, subst, inl, inr, arith, IsPermutation, String, Global, string_bytes}
+use Rattle.proto_base.proofs.Common.{All-permutation, Contains-permutation, IsPermutation-sym, IsPermutation-trans, Path, Vec, length_permutation, phase_of}
 use Rattle.proto_base.specs.declared.fault.FaultKind.{FaultKind}
 use Rattle.proto_base.specs.declared.fault.SchemaFault.{SchemaFault}
 use Rattle.proto_base.specs.declared.fault.SchemaFault.TheVariants.{Schema, NoMemory}
+use Rattle.proto_base.specs.declared.profile.Profile.{Profile}
 use Rattle.proto_files.proofs.Common.{AreWorkspaceFiles, FaultAt, FileOf, HasNoFault, IsFilesError, IsLeastFault, IsWorkspacePath, PathFaults, ReadFaults, fault_at, grammar_is_phase_2, one_order, paths_are_phase_0, paths_of, texts_are_phase_1}
+use Rattle.proto_files.specs.GivenFiles.{file_of_as, files_of, files_of_as}
 use Rattle.proto_files.specs.ReadFaults.{FaultsOf, GrammarFaults, IsGrammarFault, IsTextFault, TextFaults}
 use Rattle.proto_ast.specs.Numbers.{past}
 use Rattle.proto_names_faults.specs.AllFaults.{AreAllOf}
@@ -13,6 +15,25 @@ use Rattle.proto_all_faults.specs.AllFaults.{FaultsUpTo, FileFaultsUpTo, of_chec
 use Rattle.proto_all_faults.specs.Common.{AreAllFaults, AreSortedOf, FirstPhase, HasSorted}
 use Rattle.proto_all_faults.proofs.FilePhases.{check_phase, link_phase}
 use Rattle.proto_all_faults.proofs.FirstPhases.{from_part, not_earlier, same_first}
+
+-- ---- the files given, in each language
+
+-- their paths are the same
+pub paths_of_given : (p q : Profile) (given : List (String Global × Vec ℕ)) → paths_of (files_of_as p given) ≡ paths_of (files_of_as q given)
+paths_of_given p q [] = refl
+paths_of_given p q (f ∷ given) = ap (λ (paths : List Path). string_bytes f.0 ∷ paths) (paths_of_given p q given)
+
+-- a file, of another language
+abbrev pub with_profile : Profile → FileOf → FileOf
+with_profile p f = record f { profile = p }
+
+all_with : (p : Profile) (given : List (String Global × Vec ℕ)) → files_of_as p given ≡ map (with_profile p) (files_of given)
+all_with p [] = refl
+all_with p (f ∷ given) = ap (λ (files : List FileOf). file_of_as p f ∷ files) (all_with p given)
+
+-- files that are the same in the core language are the same in each
+pub same_given : (p : Profile) (a b : List (String Global × Vec ℕ)) → files_of a ≡ files_of b → files_of_as p a ≡ files_of_as p b
+same_given p a b e = all_with p a ∙ ap (map (with_profile p)) e ∙ sym (all_with p b)
 
 -- ---- the files given, and those in order
 
@@ -45,7 +66,7 @@ files_first given sorted h listed all = files_in_order given sorted h.same h.wor
 
 -- ---- the order of files changes nothing of what is wrong with each
 
-moved : (says : List ℕ → ℕ → FaultKind → Type 0) (a b : List FileOf) → IsPermutation a b → (x : FaultAt) → FaultsOf says a x → FaultsOf says b x
+moved : (says : FileOf → ℕ → FaultKind → Type 0) (a b : List FileOf) → IsPermutation a b → (x : FaultAt) → FaultsOf says a x → FaultsOf says b x
 moved says a b same x f = (f.0, Contains-permutation a b f.0 same f.1, f.2, f.3)
 
 pub read_moved : (a b : List FileOf) → IsPermutation a b → (x : FaultAt) → ReadFaults a x → ReadFaults b x

@@ -5,7 +5,6 @@ use Rattle.proto_base.specs.declared.fault.Fault.{Fault}
 use Rattle.proto_base.specs.declared.fault.FaultKind.{FaultKind}
 use Rattle.proto_base.specs.declared.fault.SchemaFault.{SchemaFault}
 use Rattle.proto_base.specs.declared.fault.SchemaFault.TheVariants.{Schema}
-use Rattle.proto_base.specs.Texts.{Text}
 use Rattle.proto_files.specs.Faults.{FaultAt, HasNoFault, fault_at}
 use Rattle.proto_files.specs.FilesRead.{ReadOf}
 use Rattle.proto_files.specs.GivenFiles.{AreWorkspaceFiles, FileOf, paths_of}
@@ -30,8 +29,8 @@ pub record AreFound (faults : FaultAt → Type 0) (found : List FaultAt) : Type 
   pub whole : (x : FaultAt) → faults x → Contains found x
 
 -- the one fault of its phase that a file has, if it has one
-abbrev pub IsFaultIfAny : (Text → ℕ → FaultKind → Type 0) → FileOf → Option FaultAt → Type 0
-IsFaultIfAny says file None = HasNone says file.bytes
+abbrev pub IsFaultIfAny : (FileOf → ℕ → FaultKind → Type 0) → FileOf → Option FaultAt → Type 0
+IsFaultIfAny says file None = HasNone says file
 IsFaultIfAny says file (Some x) = IsOnlyFault says file x
 
 -- a fault, if there is one, as a list
@@ -44,7 +43,7 @@ abbrev pub IsAdded : SchemaFault → List FaultAt → List FaultAt → Type 0
 IsAdded e old new = (f : Fault) × (e ≡ Schema f) × (new ≡ old ++ fault_at f ∷ [])
 
 -- the one fault of its phase that a file has was added, if it has one
-abbrev pub AddsIfAny : (Text → ℕ → FaultKind → Type 0) → FileOf → List FaultAt → List FaultAt
+abbrev pub AddsIfAny : (FileOf → ℕ → FaultKind → Type 0) → FileOf → List FaultAt → List FaultAt
     → Type 0
 AddsIfAny says file old new =
     (x : Option FaultAt) × IsFaultIfAny says file x × (new ≡ old ++ as_list x)

@@ -10,5 +10,5 @@ mod paths;
 mod texts;
 
 pub use links::file_faults;
-pub use listing::faults;
+pub use listing::{faults, faults_as};
 pub use proto_base::{Fault, FaultKind, NoMemory};

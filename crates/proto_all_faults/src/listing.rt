@@ -2,7 +2,7 @@
 
 ghost use Rattle.std.specs.Prelude.{◌≡◌, map, IfOk};
 ghost use Rattle.proto_files.specs.Faults.{IsFilesError, IsLeastFault, fault_at};
-ghost use Rattle.proto_files.specs.GivenFiles.{files_of, paths_of};
+ghost use Rattle.proto_files.specs.GivenFiles.{files_of, files_of_as, paths_of};
 ghost use Rattle.proto_files.specs.PathFaults.{PathFaults};
 ghost use Rattle.proto_files.specs.ReadFaults.{ReadFaults};
 ghost use Rattle.proto_all_faults.specs.Laws.{AreAllFaults};
@@ -11,7 +11,7 @@ ghost use Rattle.proto_all_faults.specs.Steps.{AreSortedOf, HasSorted};
 use crate::links::file_faults;
 use crate::paths::path_faults;
 use crate::texts::{grammar_faults, text_faults};
-use proto_base::{Fault, NoMemory, SchemaFault};
+use proto_base::{Fault, NoMemory, Profile, SchemaFault};
 use proto_files::{Files, Paths};
 use std::alloc::Global;
 
@@ -33,16 +33,19 @@ fn copy_files(
 fn faults_of_phase(
     alloc: Global,
     given: &[(String, Vec<u8>)],
+    profile: Profile,
     least: &Fault,
 ) -> Result<Vec<Fault>, NoMemory>
-    requires sorted { HasSorted (files_of given.now) }
-    requires least { IsLeastFault (ReadFaults (files_of given.now)) (fault_at least.now) }
-    ensures { IfOk result (λ listed. AreAllFaults (files_of given.now) (map fault_at listed.items)) }
+    requires sorted { HasSorted (files_of_as profile given.now) }
+    requires least { IsLeastFault (ReadFaults (files_of_as profile given.now))
+        (fault_at least.now) }
+    ensures { IfOk result (λ listed. AreAllFaults
+        (files_of_as profile given.now) (map fault_at listed.items)) }
 {
     if least.kind.phase() == 1 {
-        text_faults(alloc, given)
+        text_faults(alloc, given, profile)
     } else {
-        grammar_faults(alloc, given)
+        grammar_faults(alloc, given, profile)
     }
 }
 
@@ -50,14 +53,16 @@ fn faults_of_phase(
 fn read_faults(
     alloc: Global,
     given: &[(String, Vec<u8>)],
+    profile: Profile,
     found: SchemaFault,
 ) -> Result<Vec<Fault>, NoMemory>
-    requires sorted { HasSorted (files_of given.now) }
-    requires least { IsFilesError (ReadFaults (files_of given.now)) found }
-    ensures { IfOk result (λ listed. AreAllFaults (files_of given.now) (map fault_at listed.items)) }
+    requires sorted { HasSorted (files_of_as profile given.now) }
+    requires least { IsFilesError (ReadFaults (files_of_as profile given.now)) found }
+    ensures { IfOk result (λ listed. AreAllFaults
+        (files_of_as profile given.now) (map fault_at listed.items)) }
 {
     match found {
-        SchemaFault::Schema(least) => faults_of_phase(alloc, given, &least),
+        SchemaFault::Schema(least) => faults_of_phase(alloc, given, profile, &least),
         SchemaFault::NoMemory => Err(NoMemory),
     }
 }
@@ -66,10 +71,12 @@ fn read_faults(
 fn faults_in_order(
     alloc: Global,
     given: &[(String, Vec<u8>)],
+    profile: Profile,
     paths: Paths,
 ) -> Result<Vec<Fault>, NoMemory>
-    requires { AreSortedOf (files_of given.now) paths }
-    ensures { IfOk result (λ listed. AreAllFaults (files_of given.now) (map fault_at listed.items)) }
+    requires { AreSortedOf (files_of_as profile given.now) paths }
+    ensures { IfOk result (λ listed. AreAllFaults
+        (files_of_as profile given.now) (map fault_at listed.items)) }
 {
     match Files::read(alloc, paths) {
         Ok(files) => {
@@ -77,7 +84,7 @@ fn faults_in_order(
             files.release();
             listed
         }
-        Err(found) => read_faults(alloc, given, found),
+        Err(found) => read_faults(alloc, given, profile, found),
     }
 }
 
@@ -85,10 +92,13 @@ fn faults_in_order(
 fn faults_of_paths(
     alloc: Global,
     given: &[(String, Vec<u8>)],
+    profile: Profile,
     found: SchemaFault,
 ) -> Result<Vec<Fault>, NoMemory>
-    requires { IsFilesError (PathFaults 4096 (paths_of (files_of given.now))) found }
-    ensures { IfOk result (λ listed. AreAllFaults (files_of given.now) (map fault_at listed.items)) }
+    requires { IsFilesError
+        (PathFaults 4096 (paths_of (files_of_as profile given.now))) found }
+    ensures { IfOk result (λ listed. AreAllFaults
+        (files_of_as profile given.now) (map fault_at listed.items)) }
 {
     match found {
         SchemaFault::Schema(_least) => path_faults(alloc, given),
@@ -104,9 +114,21 @@ fn faults_of_paths(
 pub fn faults(alloc: Global, given: &[(String, Vec<u8>)]) -> Result<Vec<Fault>, NoMemory>
     ensures { IfOk result (λ listed. AreAllFaults (files_of given.now) (map fault_at listed.items)) }
 {
+    faults_as(alloc, given, Profile::Core)
+}
+
+/// As `faults`, for files of a language: the first is the fault that `Schema::open_as` answers.
+pub fn faults_as(
+    alloc: Global,
+    given: &[(String, Vec<u8>)],
+    profile: Profile,
+) -> Result<Vec<Fault>, NoMemory>
+    ensures { IfOk result (λ listed. AreAllFaults
+        (files_of_as profile given.now) (map fault_at listed.items)) }
+{
     let copies = copy_files(alloc, given)?;
-    match Paths::new(alloc, copies) {
-        Ok(paths) => faults_in_order(alloc, given, paths),
-        Err(found) => faults_of_paths(alloc, given, found),
+    match Paths::new_as(alloc, copies, profile) {
+        Ok(paths) => faults_in_order(alloc, given, profile, paths),
+        Err(found) => faults_of_paths(alloc, given, profile, found),
     }
 }

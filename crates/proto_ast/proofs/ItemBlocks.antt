@@ -9,10 +9,12 @@ use Rattle.proto_tree.specs.declared.tree.MethodEnd.{MethodEnd}
 use Rattle.proto_tree.specs.declared.tree.MethodEnd.TheVariants as method_end
 use Rattle.proto_tree.specs.declared.tree.MethodItem.{MethodItem}
 use Rattle.proto_tree.specs.declared.tree.MethodItem.TheVariants as method_item
+use Rattle.proto_tree.specs.declared.tree.OneofItem.{OneofItem}
+use Rattle.proto_tree.specs.declared.tree.OneofItem.TheVariants as oneof_item
 use Rattle.proto_tree.specs.declared.tree.ServiceItem.{ServiceItem}
 use Rattle.proto_tree.specs.declared.tree.ServiceItem.TheVariants as service_item
 use Rattle.proto_tree.specs.declared.tree.Signature.{Signature}
-use Rattle.proto_tree.proofs.Common.{enum_item_tree, method_by, method_item_tree, service_item_tree, trees, Tree, joined_trees}
+use Rattle.proto_tree.proofs.Common.{enum_item_tree, method_by, method_item_tree, service_item_tree, trees, Tree, joined_trees, oneof_item_tree}
 use Rattle.proto_ast.specs.Parts.{BlockOf, blocks_in}
 use Rattle.proto_ast.proofs.JoinedTrees.{blocks_joined}
 
@@ -28,6 +30,10 @@ no_block_in_enum _ = refl
 pub no_block_in_method : (item : MethodItem) → blocks_in (method_item_tree item) ≡ []
 no_block_in_method (method_item.Option o) = refl
 no_block_in_method _ = refl
+
+pub no_block_in_oneof : (item : OneofItem) → blocks_in (oneof_item_tree item) ≡ []
+no_block_in_oneof (oneof_item.Field f) = refl
+no_block_in_oneof (oneof_item.Option o) = refl
 
 -- the blocks whose header is wanted
 module _ (wanted : Header → Bool) where

@@ -1,4 +1,5 @@
 pub mod Common
+pub mod CustomTrees
 mod Digits
 pub mod ItemBlocks
 pub mod JoinedTrees

@@ -1,4 +1,5 @@
 pub mod Common
+pub mod CustomNames
 pub mod JsonNames
 pub mod Labels
 pub mod Numbers

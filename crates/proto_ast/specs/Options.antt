@@ -1,10 +1,12 @@
--- The options of the language: which an element may have, and the kind of their values (a choice of
--- this profile, from the options of descriptor.proto).
+-- The options of each language: which an element may have, and the kind of their values (a choice of
+-- this product, from the options of descriptor.proto).
 use Rattle.std.specs.Prelude.{ℕ, Bool, true, false, if◌then◌else◌, List, [], ◌∷◌, flat_map, find, Option, Some, None, option_map, is_some, codes}
 use Rattle.std.specs.List.{list_any}
-use Rattle.std.specs.Option.{option_and_then}
+use Rattle.std.specs.Option.{option_and_then, option_or}
 use Rattle.std.specs.Str.{bytes_eq}
 use Rattle.proto_base.specs.Texts.{Text}
+use Rattle.proto_base.specs.declared.profile.Profile.{Profile}
+use Rattle.proto_base.specs.declared.profile.Profile.TheVariants as profile
 use Rattle.proto_tree.specs.declared.tree.Constant.{Constant}
 use Rattle.proto_tree.specs.declared.tree.Constant.TheVariants as constant
 use Rattle.proto_ast.specs.Parts.{OptionOf}
@@ -35,11 +37,16 @@ optimize_modes = codes "SPEED" ∷ codes "CODE_SIZE" ∷ codes "LITE_RUNTIME" �
 abbrev pub idempotency_levels : List Text
 idempotency_levels = codes "IDEMPOTENCY_UNKNOWN" ∷ codes "NO_SIDE_EFFECTS" ∷ codes "IDEMPOTENT" ∷ []
 
+-- what `ctype` may say
+abbrev pub c_types : List Text
+c_types = codes "STRING" ∷ codes "CORD" ∷ codes "STRING_PIECE" ∷ []
+
 -- the kind, where the name is one of these; else another kind
 abbrev pub kind_if : List Text → ValueKind → Option ValueKind → Text → Option ValueKind
 kind_if names kind other name = if is_one_of names name then Some kind else other
 
--- the kind of the value of an element's option, where the element may have the option
+-- the kind of the value of an element's option, where the element may have the option in the core
+-- language
 abbrev pub value_kind_of : Element → Text → Option ValueKind
 value_kind_of element.File name =
     kind_if file_texts value_kind.Text
@@ -60,6 +67,26 @@ value_kind_of element.Enum name =
 value_kind_of element.Method name =
     kind_if (codes "deprecated" ∷ []) value_kind.Truth
     (kind_if (codes "idempotency_level" ∷ []) value_kind.IdempotencyLevel None name) name
+
+-- the same of the options that the language as written has besides
+abbrev pub written_kind_of : Element → Text → Option ValueKind
+written_kind_of element.File name =
+    kind_if (codes "ruby_package" ∷ []) value_kind.Text
+    (kind_if (codes "java_generate_equals_and_hash" ∷ codes "java_generic_services" ∷ [])
+    value_kind.Truth None name) name
+written_kind_of element.Field name = kind_if (codes "ctype" ∷ []) value_kind.CType None name
+written_kind_of element.Extension name = kind_if (codes "ctype" ∷ []) value_kind.CType None name
+written_kind_of element.Message name = None
+written_kind_of element.Service name = None
+written_kind_of element.EnumValue name = None
+written_kind_of element.Enum name = None
+written_kind_of element.Method name = None
+
+-- the same of all options that a language has
+abbrev pub value_kind_as : Profile → Element → Text → Option ValueKind
+value_kind_as profile.Core on name = value_kind_of on name
+value_kind_as profile.AsWritten on name =
+    option_or (value_kind_of on name) (written_kind_of on name)
 
 -- ---- values
 
@@ -107,6 +134,7 @@ is_of_kind text value_kind.Text c = is_text_value c
 is_of_kind text value_kind.Truth c = is_some (truth_of text c)
 is_of_kind text value_kind.OptimizeMode c = is_word_of optimize_modes (word_of text c)
 is_of_kind text value_kind.IdempotencyLevel c = is_word_of idempotency_levels (word_of text c)
+is_of_kind text value_kind.CType c = is_word_of c_types (word_of text c)
 is_of_kind text value_kind.Default c = true
 
 -- whether there is a kind and a value is of it
@@ -114,9 +142,9 @@ abbrev pub fits_kind : (ℕ → Text) → Option ValueKind → Constant → Bool
 fits_kind text None c = false
 fits_kind text (Some kind) c = is_of_kind text kind c
 
--- whether the element may have the option, with such a value
-abbrev pub is_allowed : (ℕ → Text) → Element → OptionOf → Bool
-is_allowed text on o = fits_kind text (value_kind_of on (text o.name)) o.value
+-- whether the element may have the option in a language, with such a value
+abbrev pub is_allowed : Profile → (ℕ → Text) → Element → OptionOf → Bool
+is_allowed p text on o = fits_kind text (value_kind_as p on (text o.name)) o.value
 
 -- ---- what options say
 

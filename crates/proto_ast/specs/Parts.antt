@@ -4,6 +4,7 @@ use Rattle.std.specs.Prelude.{ℕ, suc, List, [], ◌∷◌, ◌++◌, map, flat
 use Rattle.proto_tree.specs.declared.tree.Separated.{Separated}
 use Rattle.proto_tree.specs.declared.tree.Constant.{Constant}
 use Rattle.proto_tree.specs.declared.tree.Setting.{Setting}
+use Rattle.proto_tree.specs.declared.tree.Setting.TheVariants as setting
 use Rattle.proto_tree.specs.declared.tree.Settings.{Settings}
 use Rattle.proto_tree.specs.declared.tree.FieldType.{FieldType}
 use Rattle.proto_tree.specs.declared.tree.Field.{Field}
@@ -36,21 +37,22 @@ pub record OptionOf : Type 0 where
   pub name : ℕ
   pub value : Constant
 
--- a setting between brackets as an option
-abbrev pub option_of_setting : Setting → OptionOf
-option_of_setting s = record { name = s.name; value = s.value }
+-- the option that a setting is, if it is set by its word: a custom option is none of these
+abbrev pub setting_options : Setting → List OptionOf
+setting_options (setting.Plain p) = record { name = p.name; value = p.value } ∷ []
+setting_options (setting.Custom c) = []
 
--- the options between brackets
+-- the options between brackets that are set by their words
 abbrev pub settings_of : Option Settings → List OptionOf
 settings_of None = []
-settings_of (Some s) = map option_of_setting (separated s.list)
+settings_of (Some s) = flat_map setting_options (separated s.list)
 
--- the option that a statement is, if it is one
+-- the option that a statement is, if it is one that is set by its word
 abbrev pub statement_options : Statement → List OptionOf
-statement_options (statement.Option o) = record { name = o.name; value = o.value } ∷ []
+statement_options (statement.Option o) = setting_options o.setting
 statement_options _ = []
 
--- the option statements right in a block or a file
+-- the options right in a block or a file that are set by their words
 abbrev pub options_in : Tree → List OptionOf
 options_in tree = flat_map statement_options (statements tree)
 

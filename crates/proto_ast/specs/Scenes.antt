@@ -1,10 +1,11 @@
 -- What is read of a file: the texts of its tokens, the values of its strings, its numbers, its
--- version, and what its references mean.
+-- language and version, and what its references mean.
 use Rattle.std.specs.Prelude.{ℕ, ℤ, pos, Bool, false, List, [], find, Option, Some, None, codes, ◌==◌, min, slice_get}
 use Rattle.std.specs.List.{list_any}
 use Rattle.std.specs.Option.{option_and_then}
 use Rattle.std.specs.Str.{bytes_eq}
 use Rattle.proto_base.specs.Texts.{Text}
+use Rattle.proto_base.specs.declared.profile.Profile.{Profile}
 use Rattle.proto_text.specs.Texts.{word_at}
 use Rattle.proto_text.specs.Values.{value_of}
 use Rattle.proto_text.specs.declared.kind.TokenKind.{TokenKind}
@@ -37,6 +38,7 @@ pub record MeantOf : Type 0 where
 pub record Scene : Type 0 where
   pub lexemes : List Lexeme
   pub cap : Option ℕ
+  pub profile : Profile
   pub is_proto3 : Bool
   pub means : List MeantOf
 

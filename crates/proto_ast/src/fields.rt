@@ -1,14 +1,15 @@
 //! The fields of messages and of `extend` blocks, with their options.
 
-ghost use Rattle.std.specs.Prelude.{◌≡◌, ◌≤◌, ◌++◌, [], ◌∷◌, Some, map, flat_map, option_map, IfOk, OnOk};
-ghost use Rattle.proto_tree.specs.File.{extension_tree, field_tree, member_tree, trees};
-ghost use Rattle.proto_ast.specs.Parts.{fields_from, fields_in, map_field, oneof_count, option_of_setting, plain_field, separated, settings_of, statement_fields, statements};
+ghost use Rattle.std.specs.Prelude.{◌≡◌, ◌≤◌, ◌++◌, [], ◌∷◌, Some, None, map, flat_map, option_map, IfOk, OnOk, MatchOption};
+ghost use Rattle.proto_tree.specs.File.{extension_tree, member_tree, oneof_item_tree, trees};
+ghost use Rattle.proto_ast.specs.Parts.{fields_from, fields_in, map_field, oneof_count, plain_field, separated, setting_options, settings_of, statement_fields, statements};
 ghost use Rattle.proto_ast.specs.Views.{field_of, option_of};
 
 use crate::separated::push;
 use proto_base::NoMemory;
 use proto_tree::{
-    Constant, Extension, Field, FieldType, MapField, Member, Separated, Setting, Settings,
+    Constant, Extension, Field, FieldType, MapField, Member, OneofItem, Separated, Setting,
+    Settings,
 };
 use std::alloc::Global;
 
@@ -32,12 +33,23 @@ pub struct FieldAt<'a> {
     pub settings: Option<&'a Settings>,
 }
 
-fn option_at(setting: &Setting) -> OptionAt<'_>
-    ensures { option_of result ≡ option_of_setting setting.now }
+/// Adds the option that a setting is; a custom option is none of these.
+pub fn push_setting<'a>(
+    options: &mut Vec<OptionAt<'a>>,
+    setting: &'a Setting,
+) -> Result<(), NoMemory>
+    ensures { OnOk result (map option_of options.new.items
+        ≡ map option_of options.old.items ++ setting_options setting.now) }
 {
-    OptionAt {
-        name: setting.name,
-        value: &setting.value,
+    match setting {
+        Setting::Plain(plain) => push(
+            options,
+            OptionAt {
+                name: plain.name,
+                value: &plain.value,
+            },
+        ),
+        Setting::Custom(_) => Ok(()),
     }
 }
 
@@ -46,16 +58,16 @@ fn push_settings<'a>(
     list: &'a Separated<Setting>,
 ) -> Result<(), NoMemory>
     ensures { OnOk result (map option_of options.new.items
-        ≡ map option_of options.old.items ++ map option_of_setting (separated list.now)) }
+        ≡ map option_of options.old.items ++ flat_map setting_options (separated list.now)) }
 {
-    push(options, option_at(&list.first))?;
+    push_setting(options, &list.first)?;
     for behind in list.rest.as_slice() {
-        push(options, option_at(&behind.item))?;
+        push_setting(options, &behind.item)?;
     }
     Ok(())
 }
 
-/// The options between brackets, in order.
+/// The options between brackets that are set by their words, in order.
 pub fn options_between<'a>(
     alloc: Global,
     settings: Option<&'a Settings>,
@@ -116,16 +128,32 @@ fn push_map_field<'a>(found: &mut Vec<FieldAt<'a>>, field: &'a MapField) -> Resu
     push(found, map_field(field))
 }
 
+fn push_oneof_field<'a>(
+    found: &mut Vec<FieldAt<'a>>,
+    before: usize,
+    item: &'a OneofItem,
+) -> Result<(), NoMemory>
+    ensures { OnOk result (map field_of found.new.items
+        ≡ map field_of found.old.items ++ flat_map (statement_fields (Some before))
+        (statements (oneof_item_tree item.now))) }
+{
+    match item {
+        OneofItem::Field(field) => push_field(found, Some(before), field),
+        OneofItem::Option(_) => Ok(()),
+    }
+}
+
 fn push_oneof<'a>(
     found: &mut Vec<FieldAt<'a>>,
     before: usize,
-    fields: &'a [Field],
+    items: &'a [OneofItem],
 ) -> Result<(), NoMemory>
-    ensures { OnOk result (map field_of found.new.items ≡ map field_of found.old.items
-        ++ flat_map (statement_fields (Some before)) (statements (trees field_tree fields.now))) }
+    ensures { OnOk result (map field_of found.new.items
+        ≡ map field_of found.old.items ++ flat_map (statement_fields (Some before))
+        (statements (trees oneof_item_tree items.now))) }
 {
-    for field in fields {
-        push_field(found, Some(before), field)?;
+    for item in items {
+        push_oneof_field(found, before, item)?;
     }
     Ok(())
 }
@@ -183,4 +211,21 @@ pub fn extension_fields<'a>(
         push_field(&mut fields, None, &extension.field)?;
     }
     Ok(fields)
+}
+
+/// The first field of a oneof and what stands behind it, if the oneof has a field.
+pub fn next_field(items: &[OneofItem]) -> Option<(&Field, &[OneofItem])>
+    ensures { MatchOption result
+        (fields_in (trees oneof_item_tree items.now) ≡ [])
+        (λ next. fields_in (trees oneof_item_tree items.now)
+        ≡ plain_field None next.0.now ∷ fields_in (trees oneof_item_tree next.1.now)) }
+{
+    let mut left = items;
+    while let Some((item, rest)) = left.split_first() {
+        left = rest;
+        if let OneofItem::Field(field) = item {
+            return Some((field, rest));
+        }
+    }
+    None
 }

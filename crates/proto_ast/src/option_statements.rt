@@ -1,27 +1,20 @@
 //! The option statements of files, messages, enums, services and methods.
 
-ghost use Rattle.std.specs.Prelude.{◌≡◌, ◌++◌, [], ◌∷◌, map, IfOk, OnOk};
+ghost use Rattle.std.specs.Prelude.{◌≡◌, ◌++◌, map, IfOk, OnOk};
 ghost use Rattle.proto_tree.specs.File.{enum_item_tree, item_tree, member_tree, method_item_tree, service_item_tree, tree_of_file, trees};
-ghost use Rattle.proto_ast.specs.Parts.{options_in};
+ghost use Rattle.proto_ast.specs.Parts.{options_in, setting_options};
 ghost use Rattle.proto_ast.specs.Views.{option_of};
 
-use crate::fields::OptionAt;
-use crate::separated::push;
+use crate::fields::{OptionAt, push_setting};
 use proto_base::NoMemory;
 use proto_tree::{EnumItem, File, Item, Member, MethodItem, Option_, ServiceItem};
 use std::alloc::Global;
 
 fn push_option<'a>(found: &mut Vec<OptionAt<'a>>, option: &'a Option_) -> Result<(), NoMemory>
     ensures { OnOk result (map option_of found.new.items ≡ map option_of found.old.items
-        ++ (record { name = option.now.name; value = option.now.value } ∷ [])) }
+        ++ setting_options option.now.setting) }
 {
-    push(
-        found,
-        OptionAt {
-            name: option.name,
-            value: &option.value,
-        },
-    )
+    push_setting(found, &option.setting)
 }
 
 fn push_message_option<'a>(
@@ -37,7 +30,7 @@ fn push_message_option<'a>(
     }
 }
 
-/// The option statements right in a message, in order.
+/// The options right in a message that are set by their words, in order.
 pub fn message_options<'a>(
     alloc: Global,
     members: &'a [Member],
@@ -65,7 +58,7 @@ fn push_enum_option<'a>(found: &mut Vec<OptionAt<'a>>, item: &'a EnumItem) -> Re
     }
 }
 
-/// The option statements right in an enum, in order.
+/// The options right in an enum that are set by their words, in order.
 pub fn enum_options<'a>(alloc: Global, items: &'a [EnumItem]) -> Result<Vec<OptionAt<'a>>, NoMemory>
     ensures { IfOk result (λ found. map option_of found.items
         ≡ options_in (trees enum_item_tree items.now)) }
@@ -90,7 +83,7 @@ fn push_service_option<'a>(
     }
 }
 
-/// The option statements right in a service, in order.
+/// The options right in a service that are set by their words, in order.
 pub fn service_options<'a>(
     alloc: Global,
     items: &'a [ServiceItem],
@@ -118,7 +111,7 @@ fn push_method_option<'a>(
     }
 }
 
-/// The option statements right in a method, in order.
+/// The options right in a method that are set by their words, in order.
 pub fn method_options<'a>(
     alloc: Global,
     items: &'a [MethodItem],
@@ -143,7 +136,7 @@ fn push_file_option<'a>(found: &mut Vec<OptionAt<'a>>, item: &'a Item) -> Result
     }
 }
 
-/// The option statements right in a file, in order.
+/// The options right in a file that are set by their words, in order.
 pub fn file_options<'a>(alloc: Global, file: &'a File) -> Result<Vec<OptionAt<'a>>, NoMemory>
     ensures { IfOk result (λ found. map option_of found.items
         ≡ options_in (tree_of_file file.now)) }

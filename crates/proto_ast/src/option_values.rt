@@ -2,7 +2,7 @@
 
 ghost use Rattle.std.specs.Prelude.{◌≡◌, ◌∷◌, ◌++◌, find, flat_map, map, option_map, IfOk, OnOk};
 ghost use Rattle.std.specs.String.{string_bytes};
-ghost use Rattle.proto_ast.specs.Options.{is_allowed, is_named, idempotency_levels, is_of_kind, is_word_of, optimize_modes, text_of_constant, text_option, truth_named, truth_of, truth_option, word_of, word_option};
+ghost use Rattle.proto_ast.specs.Options.{c_types, is_allowed, is_named, idempotency_levels, is_of_kind, is_word_of, optimize_modes, text_of_constant, text_option, truth_named, truth_of, truth_option, word_of, word_option};
 ghost use Rattle.proto_ast.specs.Scenes.{text, value};
 ghost use Rattle.proto_ast.specs.Views.{option_of};
 
@@ -69,6 +69,12 @@ fn is_idempotency_level(word: Option<&str>) -> bool
     )
 }
 
+fn is_c_type(word: Option<&str>) -> bool
+    ensures { result ≡ is_word_of c_types (option_map (λ w. w.now) word.entry) }
+{
+    matches!(word, Some("STRING" | "CORD" | "STRING_PIECE"))
+}
+
 fn is_of_kind(scene: &Scene, kind: ValueKind, value: &Constant) -> bool
     ensures { result ≡ is_of_kind (text scene.now) kind value.now }
 {
@@ -77,16 +83,18 @@ fn is_of_kind(scene: &Scene, kind: ValueKind, value: &Constant) -> bool
         ValueKind::Truth => truth(scene, value).is_some(),
         ValueKind::OptimizeMode => is_optimize_mode(word(scene, value)),
         ValueKind::IdempotencyLevel => is_idempotency_level(word(scene, value)),
+        ValueKind::CType => is_c_type(word(scene, value)),
         ValueKind::Default => true,
     }
 }
 
-/// Whether an element may have the option, with such a value. What may be a default, the field's
-/// type says.
+/// Whether an element may have the option in the file's language, with such a value. What may be a
+/// default, the field's type says.
 pub fn is_allowed(scene: &Scene, element: Element, option: OptionAt) -> bool
-    ensures { result ≡ is_allowed (text scene.now) element (option_of option.entry) }
+    ensures { result ≡ is_allowed scene.now.profile (text scene.now) element
+        (option_of option.entry) }
 {
-    match value_kind(element, scene.text(option.name)) {
+    match value_kind(scene.profile(), element, scene.text(option.name)) {
         Some(kind) => is_of_kind(scene, kind, option.value),
         None => false,
     }

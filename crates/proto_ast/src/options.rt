@@ -1,8 +1,10 @@
-//! The options of the language.
+//! The options of each language.
 
 ghost use Rattle.std.specs.Prelude.{◌≡◌};
-ghost use Rattle.proto_ast.specs.Options.{value_kind_of};
+ghost use Rattle.proto_ast.specs.Options.{value_kind_as, value_kind_of, written_kind_of};
 ghost use Rattle.proto_ast.specs.declared.options.Element.TheVariants as element;
+
+use proto_base::Profile;
 
 /// What an option may stand at.
 #[derive(Clone, Copy, PartialEq, Eq)]
@@ -29,6 +31,8 @@ pub enum ValueKind {
     OptimizeMode,
     /// `IDEMPOTENCY_UNKNOWN`, `NO_SIDE_EFFECTS` or `IDEMPOTENT`.
     IdempotencyLevel,
+    /// `STRING`, `CORD` or `STRING_PIECE`.
+    CType,
     /// What a field's type says.
     Default,
 }
@@ -49,8 +53,8 @@ fn file_option(name: &str) -> Option<ValueKind>
     }
 }
 
-/// The kind of the value of an element's option, where the element may have the option.
-pub(crate) fn value_kind(element: Element, name: &str) -> Option<ValueKind>
+// The kind of an option of the core language.
+fn core_option(element: Element, name: &str) -> Option<ValueKind>
     ensures { result ≡ value_kind_of element name.now }
 {
     match (element, name) {
@@ -62,5 +66,51 @@ pub(crate) fn value_kind(element: Element, name: &str) -> Option<ValueKind>
         (Element::Method, "idempotency_level") => Some(ValueKind::IdempotencyLevel),
         (_, "deprecated") => Some(ValueKind::Truth),
         _ => None,
+    }
+}
+
+fn written_file_option(name: &str) -> Option<ValueKind>
+    ensures { result ≡ written_kind_of element.File name.now }
+{
+    match name {
+        "ruby_package" => Some(ValueKind::Text),
+        "java_generate_equals_and_hash" | "java_generic_services" => Some(ValueKind::Truth),
+        _ => None,
+    }
+}
+
+fn written_field_option(name: &str) -> Option<ValueKind>
+    ensures { result ≡ written_kind_of element.Field name.now }
+{
+    match name {
+        "ctype" => Some(ValueKind::CType),
+        _ => None,
+    }
+}
+
+// The kind of an option that the language as written has besides.
+fn written_option(element: Element, name: &str) -> Option<ValueKind>
+    ensures { result ≡ written_kind_of element name.now }
+{
+    match element {
+        Element::File => written_file_option(name),
+        Element::Field | Element::Extension => written_field_option(name),
+        Element::Message
+        | Element::Service
+        | Element::EnumValue
+        | Element::Enum
+        | Element::Method => None,
+    }
+}
+
+/// The kind of the value of an element's option, where the element may have the option in the
+/// language.
+pub(crate) fn value_kind(profile: Profile, element: Element, name: &str) -> Option<ValueKind>
+    ensures { result ≡ value_kind_as profile element name.now }
+{
+    let kind = core_option(element, name);
+    match profile {
+        Profile::Core => kind,
+        Profile::AsWritten => kind.or(written_option(element, name)),
     }
 }

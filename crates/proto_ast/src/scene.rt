@@ -1,4 +1,5 @@
-//! What is read of a file: texts, strings, numbers, its version, and what its references mean.
+//! What is read of a file: texts, strings, numbers, its language and version, and what its
+//! references mean.
 
 ghost use Rattle.std.specs.Prelude.{◌≡◌, ◌<◌, ◌==◌, AllPairs, Some, map, find, option_map, IfOk};
 ghost use Rattle.std.specs.String.{string_bytes};
@@ -8,7 +9,7 @@ ghost use Rattle.proto_ast.specs.Views.{enum_of, meant_of};
 
 use crate::numbers::number_of;
 use crate::value_names::ValueNames;
-use proto_base::NoMemory;
+use proto_base::{NoMemory, Profile};
 use proto_files::Words;
 use proto_tree::{Reference, Signed};
 use std::alloc::Global;
@@ -35,6 +36,7 @@ pub struct MeantAt<'a> {
 #[derive(Drop)]
 pub struct Scene<'a> {
     words: Words<'a>,
+    profile: Profile,
     is_proto3: bool,
     means: Vec<MeantAt<'a>>,
 }
@@ -50,6 +52,7 @@ impl<'a> Model for Scene<'a> {
     ghost view = { λ s. record {
       lexemes = s.words;
       cap = Some past;
+      profile = s.profile;
       is_proto3 = s.is_proto3;
       means = map meant_of s.means.items;
     } };
@@ -68,19 +71,26 @@ fn meant_at<'a>(means: &[MeantAt<'a>], token: u32) -> Option<MeantAt<'a>>
 }
 
 impl<'a> Scene<'a> {
-    /// A file by the texts of its tokens, its version, and what its references mean, in the order
-    /// of their first tokens.
-    pub fn new(words: Words<'a>, is_proto3: bool, means: Vec<MeantAt<'a>>) -> Scene<'a>
+    /// A file by the texts of its tokens, its language and version, and what its references mean,
+    /// in the order of their first tokens.
+    pub fn new(
+        words: Words<'a>,
+        profile: Profile,
+        is_proto3: bool,
+        means: Vec<MeantAt<'a>>,
+    ) -> Scene<'a>
         requires rising { AllPairs (λ m n. m.token < n.token) means.items }
         ensures { result ≡ record {
           lexemes = words.entry;
           cap = Some past;
+          profile = profile;
           is_proto3 = is_proto3;
           means = map meant_of means.entry.items;
         } }
     {
         Scene {
             words,
+            profile,
             is_proto3,
             means,
         }
@@ -121,6 +131,13 @@ impl<'a> Scene<'a> {
         } else {
             number
         }
+    }
+
+    /// The language that the file is of.
+    pub fn profile(&self) -> Profile
+        ensures { result ≡ self.now.profile }
+    {
+        self.profile
     }
 
     /// Whether the file is proto3.

@@ -2,7 +2,7 @@
 pub use Rattle.proto_base.proofs.Lists.{any_agree, any_from, any_map, any_to, contains_cases, contains_filter, contains_head, contains_later, contains_map, contains_or_not, fails_from, found_in_map, from_filter, from_flat_map, from_map, same_from_word, to_flat_map, word_from_same}
 pub use Rattle.proto_base.proofs.Turns.{added_all, added_more, all_listed, front_element, listed_more, listed_turn, pushed_more, taken_more, then_added}
 pub use Rattle.proto_base.specs.FaultTable.{kind_number, phase_of}
-pub use Rattle.proto_base.specs.GivenFiles.{FileOf, file_of, files_of, paths_of}
+pub use Rattle.proto_base.specs.GivenFiles.{AreInLanguage, FileOf, file_of, file_of_as, files_of, files_of_as, paths_of}
 pub use Rattle.proto_base.specs.Texts.{Path, Text, or_nothing, text_limit}
 pub use Rattle.std.proofs.KnownBytes.{Appends-nil, Appends-trans, Keeps-refl}
 pub use Rattle.std.proofs.lemmas.Bool.{and_from, and_parts, both_ways, cases_Bool, cases_eq, cases_lt, cases_order, cond-false, cond-true, cond_both, false_from_ne_true, false≢true, not-true, not_from_false, not_from_true, or_cases, or_left, or_parts, or_right, true_from_ne_false}

@@ -4,8 +4,8 @@ use crate::expect::source_of;
 use crate::files::{Given, given_files, put_file, read};
 use proto_base::SchemaFault;
 use proto_files::{Files, Paths};
-use proto_text::lex;
-use proto_tree::parse;
+use proto_text::lex_as;
+use proto_tree::parse_as;
 use std::alloc::Global;
 use std::process::Abort;
 
@@ -86,8 +86,9 @@ fn is_set<R: AllocGlobal + Abort>(rt: &R, files: &mut Files, old: &str, new: &st
         return false;
     }
     let source = source_of(rt, new);
-    let tokens = lex(rt.alloc(), &source).expect(rt, "tokens");
-    let tree = parse(rt.alloc(), &source, &tokens).expect(rt, "a tree");
+    let profile = files.profile(1);
+    let tokens = lex_as(rt.alloc(), &source, profile).expect(rt, "tokens");
+    let tree = parse_as(rt.alloc(), &source, &tokens, profile).expect(rt, "a tree");
     let count = tokens.len();
     let (source, _tokens, tree) = files.set(1, source, tokens, tree);
     tree.release();

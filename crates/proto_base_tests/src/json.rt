@@ -3,7 +3,7 @@
 use crate::expect::{expect, owned_text};
 use proto_base::NoMemory;
 use proto_descriptors::{
-    EnumDescriptor, EnumOptions, EnumReservedRange, EnumValueDescriptor, EnumValueOptions,
+    CType, EnumDescriptor, EnumOptions, EnumReservedRange, EnumValueDescriptor, EnumValueOptions,
     FieldDescriptor, FieldOptions, FieldRole, FieldType, FileDescriptor, FileOptions,
     IdempotencyLevel, Label, MessageDescriptor, MessageOptions, MethodDescriptor, MethodOptions,
     NumberRange, OptimizeMode, ServiceDescriptor, ServiceOptions, Syntax, copy_files,
@@ -124,6 +124,9 @@ fn empty_file(alloc: Global, name: String, syntax: Syntax) -> FileDescriptor {
             objc_class_prefix: None,
             csharp_namespace: None,
             php_namespace: None,
+            java_generate_equals_and_hash: None,
+            java_generic_services: None,
+            ruby_package: None,
         },
         syntax,
     }
@@ -171,6 +174,7 @@ fn field_of<R: AllocGlobal + Abort>(
         },
         proto3_optional: false,
         options: FieldOptions {
+            ctype: None,
             packed: None,
             deprecated: None,
         },
@@ -442,6 +446,7 @@ enum Named {
     Label(Label),
     Mode(OptimizeMode),
     Level(IdempotencyLevel),
+    CType(CType),
 }
 
 /// All of them, with their names in descriptor.proto and in its order.
@@ -478,6 +483,9 @@ const NAMES: &[(Named, &str)] = &[
         "NO_SIDE_EFFECTS",
     ),
     (Named::Level(IdempotencyLevel::Idempotent), "IDEMPOTENT"),
+    (Named::CType(CType::String), "STRING"),
+    (Named::CType(CType::Cord), "CORD"),
+    (Named::CType(CType::StringPiece), "STRING_PIECE"),
 ];
 
 fn name_of(named: &Named) -> &'static str {
@@ -486,6 +494,7 @@ fn name_of(named: &Named) -> &'static str {
         Named::Label(label) => label.name(),
         Named::Mode(mode) => mode.name(),
         Named::Level(level) => level.name(),
+        Named::CType(c_type) => c_type.name(),
     }
 }
 

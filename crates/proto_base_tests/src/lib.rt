@@ -6,6 +6,8 @@
 #[cfg(test)]
 mod allocations;
 #[cfg(test)]
+mod as_written;
+#[cfg(test)]
 mod calls;
 #[cfg(test)]
 mod copies;
@@ -13,6 +15,8 @@ mod copies;
 mod expect;
 #[cfg(test)]
 mod files;
+#[cfg(test)]
+mod files_as_written;
 #[cfg(test)]
 mod folders;
 #[cfg(test)]

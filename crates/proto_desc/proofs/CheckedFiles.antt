@@ -29,7 +29,7 @@ pub nothing_there : {A : Type 0} (xs : List A) → ((x : A) → Contains xs x �
 nothing_there [] none = refl
 nothing_there (x ∷ xs) none = absurd (none x (contains_head x xs))
 
-module _ (files : List FileOf) (file : ℕ) (within : file < length files) (scene : Scene) (is : IsSceneOf files file scene) (tree : Tree) (of_file : IsTreeOf (file_at files file).bytes tree) (reads : List ReadOf) (are : AreRead files reads) where
+module _ (files : List FileOf) (file : ℕ) (within : file < length files) (scene : Scene) (is : IsSceneOf files file scene) (tree : Tree) (of_file : IsTreeOf (file_at files file) tree) (reads : List ReadOf) (are : AreRead files reads) where
   pub least_of_file : (flaws : List Flaw) → AreOfWorkspace files file flaws → (o : Option Flaw) → IsLeastOfFlaws (Contains (file_flaws scene tree ++ flaws)) o → IsLeastOfFlaws (Contains (flaws_of files reads file)) o
   least_of_file flaws others o least =
       caps_keep_the_least files reads file o

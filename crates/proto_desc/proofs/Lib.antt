@@ -1,5 +1,6 @@
 pub mod CheckedFiles
 pub mod Common
+mod FilesAsWritten
 pub mod GivenInOrder
 pub mod LeastCheckFault
 mod MadePut

@@ -11,19 +11,20 @@ use Rattle.proto_files.proofs.FaultOrder.{least_of_second}
 use Rattle.proto_files.proofs.LeastOfFiles.{first_is_least, grammar_phase, least_text}
 use Rattle.proto_files.proofs.Members.{Member, Contains-from_member, member_at}
 use Rattle.proto_desc.specs.NewTexts.{TextAt, file_with, with_all}
-use Rattle.proto_desc.proofs.WithTexts.{AreInPlace, each_has, file_has, file_stays, length-with_all, no_file, place_cases, workspace_stays}
+use Rattle.proto_desc.proofs.WithTexts.{AreInPlace, each_has, file_has, file_stays, length-with_all, place_cases, workspace_stays}
+use Rattle.proto_files.specs.GivenFiles.{no_file}
 
 -- ---- files without a fault of a phase
 
-pub none_of_file : (says : List ℕ → ℕ → FaultKind → Type 0) (files : List FileOf) → HasNoFault (FaultsOf says files) → (k : ℕ) → k < length files → HasNone says (file_at files k).bytes
+pub none_of_file : (says : FileOf → ℕ → FaultKind → Type 0) (files : List FileOf) → HasNoFault (FaultsOf says files) → (k : ℕ) → k < length files → HasNone says (file_at files k)
 none_of_file says files clean k l offset kind is =
     clean (record { path = (file_at files k).path; offset = offset; kind = kind })
     (file_at files k, (k, l, get_or_default files k (file_at files k) no_file l), refl, is)
 
-pub none_of_files : (says : List ℕ → ℕ → FaultKind → Type 0) (files : List FileOf) → ((k : ℕ) → k < length files → HasNone says (file_at files k).bytes) → HasNoFault (FaultsOf says files)
+pub none_of_files : (says : FileOf → ℕ → FaultKind → Type 0) (files : List FileOf) → ((k : ℕ) → k < length files → HasNone says (file_at files k)) → HasNoFault (FaultsOf says files)
 none_of_files says files none y f =
     none f.1.0 f.1.1 y.offset y.kind
-    (subst (λ (g : FileOf). says g.bytes y.offset y.kind) (sym f.1.2 ∙ get_or_default files f.1.0 f.0 no_file f.1.1) f.3)
+    (subst (λ (g : FileOf). says g y.offset y.kind) (sym f.1.2 ∙ get_or_default files f.1.0 f.0 no_file f.1.1) f.3)
 
 -- ---- the first text with a fault
 
@@ -60,7 +61,7 @@ module _ (files : List FileOf) (ts : List TextAt) (h : AreInPlace (length files)
   place_within (u ∷ us) are t (inl e) = subst (λ (x : TextAt). x.place < length files) e are.0
   place_within (u ∷ us) are t (inr m) = place_within us are.2 t m
 
-  pub first_fault : (says : List ℕ → ℕ → FaultKind → Type 0) (x : FaultAt) → ((k : ℕ) → k < length files → HasNone says (file_at files k).bytes) → IsFirstFault says given x → IsFirstFault says after x
+  pub first_fault : (says : FileOf → ℕ → FaultKind → Type 0) (x : FaultAt) → ((k : ℕ) → k < length files → HasNone says (file_at files k)) → IsFirstFault says given x → IsFirstFault says after x
   first_fault says x clean first =
       record {
         place = t.place;
@@ -81,20 +82,20 @@ module _ (files : List FileOf) (ts : List TextAt) (h : AreInPlace (length files)
       inside : t.place < length files
       inside = place_within ts h t (member_of i at)
 
-      of_text : (k : ℕ) → k < t.place → (u : TextAt) → Member u ts → k ≡ u.place → HasNone says (file_at after k).bytes
+      of_text : (k : ℕ) → k < t.place → (u : TextAt) → Member u ts → k ≡ u.place → HasNone says (file_at after k)
       of_text k lt u m e =
           let c : Contains ts u = Contains-from_member u ts m in
           let j : ℕ = c.0 in
           let there : get_or ts j no_text ≡ u = get_or_default ts j no_text u c.1 ∙ c.2 in
           let low : (get_or ts j no_text).place < t.place = subst (λ (v : TextAt). v.place < t.place) (sym there) (subst (λ (n : ℕ). n < t.place) e lt) in
           let before : j < i = earlier (length files) ts h i j no_text at c.1 low in
-          subst (λ (n : ℕ). HasNone says (file_at after n).bytes) (sym e)
-          (subst (λ (f : FileOf). HasNone says f.bytes) (given_at j c.1 ∙ ap (λ (v : TextAt). file_with files v) there ∙ sym (file_has files ts h u m)) (first.none_before j before))
+          subst (λ (n : ℕ). HasNone says (file_at after n)) (sym e)
+          (subst (HasNone says) (given_at j c.1 ∙ ap (λ (v : TextAt). file_with files v) there ∙ sym (file_has files ts h u m)) (first.none_before j before))
 
-      none_before : (k : ℕ) → k < t.place → HasNone says (file_at after k).bytes
+      none_before : (k : ℕ) → k < t.place → HasNone says (file_at after k)
       none_before k lt = elim (place_cases k ts) [
         | inl found ↦ of_text k lt found.0 found.1 found.2
-        | inr none ↦ subst (λ (f : FileOf). HasNone says f.bytes) (sym (file_stays files ts k no_file none)) (clean k (omega (arith, lt, inside)))
+        | inr none ↦ subst (HasNone says) (sym (file_stays files ts k no_file none)) (clean k (omega (arith, lt, inside)))
       ]
 
   -- ---- what is answered
@@ -106,7 +107,7 @@ module _ (files : List FileOf) (ts : List TextAt) (h : AreInPlace (length files)
         least_text after after refl (workspace_stays files ts h workspace) (Schema fault)
         (first_fault IsTextFault (fault_at fault) (none_of_file IsTextFault files (λ y f. clean y (inl f))) first)
 
-    pub grammar_error : ((t : TextAt) → Member t ts → HasNone IsTextFault t.text) → (e : SchemaFault) → IsFirstError IsGrammarFault given e → IsFilesError (ReadFaults after) e
+    pub grammar_error : ((t : TextAt) → Member t ts → HasNone IsTextFault (file_with files t)) → (e : SchemaFault) → IsFirstError IsGrammarFault given e → IsFilesError (ReadFaults after) e
     grammar_error lexed NoMemory first = tt
     grammar_error lexed (Schema fault) first =
         least_of_second (TextFaults after) (GrammarFaults after) (fault_at fault)

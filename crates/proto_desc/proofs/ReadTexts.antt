@@ -29,20 +29,20 @@ text_push v w xs news ys x y is same at =
     ap (map v) is ∙ map_push v xs x ∙ ap (λ (ts : List TextAt). ts ++ v x ∷ []) same ∙ ap (λ (t : TextAt). map w ys ++ t ∷ []) at ∙ sym (map_push w ys y)
 
 -- no text that was read so far has a fault
-pub none_lexed : (files : List FileOf) (ls : List LexedText) → All IsLexedText ls → NoneOf IsTextFault (files_with files lexed_text ls)
+pub none_lexed : (files : List FileOf) (ls : List LexedText) → All (IsLexedText files) ls → NoneOf IsTextFault (files_with files lexed_text ls)
 none_lexed files [] h f m = absurd m
-none_lexed files (l ∷ ls) h f (inl e) = subst (λ (g : FileOf). HasNone IsTextFault g.bytes) e (h 0 l (omega arith)).no_fault
+none_lexed files (l ∷ ls) h f (inl e) = subst (HasNone IsTextFault) e (h 0 l (omega arith)).no_fault
 none_lexed files (l ∷ ls) h f (inr m) = none_lexed files ls (λ k d lt. h (suc k) d (omega (arith, lt))) f m
 
-pub none_parsed : (files : List FileOf) (rs : List ReadText) → All IsParsedText rs → NoneOf IsGrammarFault (files_with files read_text rs)
+pub none_parsed : (files : List FileOf) (rs : List ReadText) → All (IsParsedText files) rs → NoneOf IsGrammarFault (files_with files read_text rs)
 none_parsed files [] h f m = absurd m
-none_parsed files (r ∷ rs) h f (inl e) = subst (λ (g : FileOf). HasNone IsGrammarFault g.bytes) e (h 0 r (omega arith)).no_fault
+none_parsed files (r ∷ rs) h f (inl e) = subst (HasNone IsGrammarFault) e (h 0 r (omega arith)).no_fault
 none_parsed files (r ∷ rs) h f (inr m) = none_parsed files rs (λ k d lt. h (suc k) d (omega (arith, lt))) f m
 
-none_of_text : (ls : List LexedText) → All IsLexedText ls → (t : TextAt) → Member t (map lexed_text ls) → HasNone IsTextFault t.text
-none_of_text [] h t m = absurd m
-none_of_text (l ∷ ls) h t (inl e) = subst (λ (u : TextAt). HasNone IsTextFault u.text) e (h 0 l (omega arith)).no_fault
-none_of_text (l ∷ ls) h t (inr m) = none_of_text ls (λ k d lt. h (suc k) d (omega (arith, lt))) t m
+none_of_text : (files : List FileOf) (ls : List LexedText) → All (IsLexedText files) ls → (t : TextAt) → Member t (map lexed_text ls) → HasNone IsTextFault (file_with files t)
+none_of_text files [] h t m = absurd m
+none_of_text files (l ∷ ls) h t (inl e) = subst (λ (u : TextAt). HasNone IsTextFault (file_with files u)) e (h 0 l (omega arith)).no_fault
+none_of_text files (l ∷ ls) h t (inr m) = none_of_text files ls (λ k d lt. h (suc k) d (omega (arith, lt))) t m
 
 within_of : (n : ℕ) (ts : List TextAt) → AreInPlace n ts → (t : TextAt) → Member t ts → t.place < n
 within_of n [] h t m = absurd m
@@ -84,9 +84,9 @@ module _ (files : List FileOf) (ps : List ℕ) (ts : List Text) (within : All (�
         open_error fault
         (text_error files at are workspace clean fault (subst (λ (fs : List FileOf). IsFirstError IsTextFault fs fault) (files_at v xs e) first))
 
-    pub first_grammar_error : (ls : List LexedText) → map lexed_text ls ≡ at → All IsLexedText ls → (e : SchemaFault) → IsFirstError IsGrammarFault (files_with files lexed_text ls) e → IsOpenError (with_texts files ps ts) e
+    pub first_grammar_error : (ls : List LexedText) → map lexed_text ls ≡ at → All (IsLexedText files) ls → (e : SchemaFault) → IsFirstError IsGrammarFault (files_with files lexed_text ls) e → IsOpenError (with_texts files ps ts) e
     first_grammar_error ls e lexed fault first =
         open_error fault
         (grammar_error files at are workspace clean
-        (λ t m. none_of_text ls lexed t (subst (λ (us : List TextAt). Member t us) (sym e) m))
+        (λ t m. none_of_text files ls lexed t (subst (λ (us : List TextAt). Member t us) (sym e) m))
         fault (subst (λ (fs : List FileOf). IsFirstError IsGrammarFault fs fault) (files_at lexed_text ls e) first))

@@ -6,9 +6,10 @@ use Rattle.proto_files.proofs.Common.{FileOf}
 use Rattle.proto_files.specs.GivenFiles.{file_at, paths_of}
 use Rattle.proto_edit_entries.specs.Putting.{with_texts}
 use Rattle.proto_names_update.specs.Edited.{AreSameBut}
+use Rattle.proto_files.specs.GivenFiles.{no_file}
 
 abbrev given : List FileOf → ℕ → Text → FileOf
-given files p t = record { path = (file_at files p).path; bytes = t }
+given files p t = record (file_at files p) { bytes = t }
 
 path_stands : (files : List FileOf) (p : ℕ) (t : Text) → paths_of (slice_set files p (given files p t)) ≡ paths_of files
 path_stands [] p t = refl
@@ -29,7 +30,7 @@ other_stands : (files : List FileOf) (ps : List ℕ) (ts : List Text) (k : ℕ) 
 other_stands files [] ts k none = refl
 other_stands files (p ∷ ps) [] k none = refl
 other_stands files (p ∷ ps) (t ∷ ts) k none =
-    sym (get_or-set_other files p k (given files p t) (record { path = []; bytes = [] }) (λ e. none (head e)))
+    sym (get_or-set_other files p k (given files p t) no_file (λ e. none (head e)))
     ∙ other_stands (slice_set files p (given files p t)) ps ts k (λ c. none (contains_later p k ps c))
   where
     head : k ≡ p → Contains (p ∷ ps) k

@@ -1,15 +1,15 @@
 -- Files with other texts at some places: which file stands where, and the way back.
-use Rattle.std.proofs.Common.{◌≡◌, ℕ, suc, ◌+◌, ◌<◌, ◌≤◌, List, [], ◌∷◌, ◌++◌, length, get_or, refl, sym, ap, ◌∙◌, subst, inl, inr, ◌⊎◌, arith, All, AllPairs, slice_set, get_or-set_same, get_or-set_other}
+use Rattle.std.proofs.Common.{◌≡◌, ℕ, zero, suc, ◌+◌, ◌<◌, ◌≤◌, List, [], ◌∷◌, ◌++◌, length, get_or, refl, sym, ap, ◌∙◌, subst, inl, inr, ◌⊎◌, arith, All, AllPairs, slice_set, get_or-set_same, get_or-set_other}
 use Rattle.std.proofs.lemmas.List.{length-set, set-set, set-get_or}
 use Rattle.proto_base.proofs.Common.{cases_eq, get_or_append_left, get_or_default, length_push, Text}
 use Rattle.proto_files.proofs.Common.{FileOf, file_at, AreWorkspaceFiles, IsBefore, IsWorkspacePath}
 use Rattle.proto_files.proofs.Members.{Member, All-member}
 use Rattle.proto_edit_entries.specs.Putting.{with_texts}
-use Rattle.proto_desc.specs.NewTexts.{TextAt, texts_at, file_with, with_text, with_all, with_old}
-
--- a file that is not there
-abbrev pub no_file : FileOf
-no_file = record { path = []; bytes = [] }
+use Rattle.proto_desc.specs.NewTexts.{IsReadText, TextAt, texts_at, file_with, with_text, with_all, with_old}
+use Rattle.proto_files.specs.GivenFiles.{no_file}
+use Rattle.proto_desc.specs.declared.texts.ReadText.{ReadText}
+use Rattle.proto_tree.proofs.Common.{ReadsIn, tree_of_file}
+use Rattle.proto_base.specs.declared.profile.Profile.{Profile}
 
 -- ---- texts with their places
 
@@ -98,6 +98,32 @@ path_of_file files t within k d = elim (cases_eq k t.place) [
   | inr apart ↦ ap (λ (g : FileOf). g.path) (other_file files t k d apart)
 ]
 
+-- languages stay
+profile_set : (files : List FileOf) (p k : ℕ) (f d : FileOf) → f.profile ≡ (file_at files p).profile → (get_or (slice_set files p f) k d).profile ≡ (get_or files k d).profile
+profile_set [] p k f d e = refl
+profile_set (x ∷ files) zero zero f d e = e
+profile_set (x ∷ files) zero (suc k) f d e = refl
+profile_set (x ∷ files) (suc p) zero f d e = refl
+profile_set (x ∷ files) (suc p) (suc k) f d e = profile_set files p k f d e
+
+profile_of_file : (files : List FileOf) (t : TextAt) (k : ℕ) (d : FileOf) → (get_or (with_text files t) k d).profile ≡ (get_or files k d).profile
+profile_of_file files t k d = profile_set files t.place k (file_with files t) d refl
+
+pub profile_stays : (files : List FileOf) (ts : List TextAt) (k : ℕ) (d : FileOf) → (get_or (with_all files ts) k d).profile ≡ (get_or files k d).profile
+profile_stays files [] k d = refl
+profile_stays files (t ∷ ts) k d = profile_stays (with_text files t) ts k d ∙ profile_of_file files t k d
+
+pub profile_of_text : (files next : List FileOf) (t : TextAt) (k : ℕ) → next ≡ with_text files t → (file_at next k).profile ≡ (file_at files k).profile
+profile_of_text files next t k e = ap (λ (fs : List FileOf). (file_at fs k).profile) e ∙ profile_of_file files t k no_file
+
+-- two files of one path and one language, with one text
+with_its_text : (f g : FileOf) (text : Text) → f.path ≡ g.path → f.profile ≡ g.profile → record f { bytes = text } ≡ record g { bytes = text }
+with_its_text f g text p l = λ i. record { path = p i; bytes = text; profile = l i }
+
+-- what is read of a text is so while the languages stay
+pub still_read : (files now : List FileOf) (t : ReadText) → ((k : ℕ) → (file_at now k).profile ≡ (file_at files k).profile) → IsReadText files t → IsReadText now t
+still_read files now t same h = subst (λ (p : Profile). ReadsIn p t.source t.tokens.items (tree_of_file t.tree)) (sym (same t.place)) h
+
 -- the texts lie at places of the files that have one text more
 still_in_place : (files : List FileOf) (t : TextAt) (ts : List TextAt) → AreInPlace (length files) ts → AreInPlace (length (with_text files t)) ts
 still_in_place files t ts h = subst (λ (n : ℕ). AreInPlace n ts) (sym (length-with_text files t)) h
@@ -131,7 +157,7 @@ file_has files (u ∷ ts) h t (inl e) =
     ∙ get_or-set_same files u.place (file_with files u) no_file h.0)
 file_has files (u ∷ ts) h t (inr m) =
     file_has (with_text files u) ts (still_in_place files u ts h.2) t m
-    ∙ ap (λ (p : List ℕ). record { path = p; bytes = t.text }) (path_of_file files u h.0 t.place no_file)
+    ∙ with_its_text (file_at (with_text files u) t.place) (file_at files t.place) t.text (path_of_file files u h.0 t.place no_file) (profile_of_file files u t.place no_file)
 
 -- whether a place is that of a text
 pub place_cases : (k : ℕ) (ts : List TextAt) → ((t : TextAt) × Member t ts × (k ≡ t.place)) ⊎ ((t : TextAt) → Member t ts → k ≡ t.place → ⊥)
@@ -149,12 +175,12 @@ place_cases k (u ∷ ts) = elim (cases_eq k u.place) [
     none_of apart none t (inr m) same = none t m same
 
 -- what holds of the files and of the texts holds of the files with them
-pub each_has : (P : List ℕ → Type 0) (files : List FileOf) (ts : List TextAt) → AreInPlace (length files) ts → ((k : ℕ) → k < length files → P (file_at files k).bytes) → ((t : TextAt) → Member t ts → P t.text) → (k : ℕ) → k < length (with_all files ts) → P (file_at (with_all files ts) k).bytes
+pub each_has : (P : FileOf → Type 0) (files : List FileOf) (ts : List TextAt) → AreInPlace (length files) ts → ((k : ℕ) → k < length files → P (file_at files k)) → ((t : TextAt) → Member t ts → P (file_with files t)) → (k : ℕ) → k < length (with_all files ts) → P (file_at (with_all files ts) k)
 each_has P files ts h old new k l = elim (place_cases k ts) [
   | inl at ↦
-      subst (λ (n : ℕ). P (file_at (with_all files ts) n).bytes) (sym at.2)
-      (subst (λ (f : FileOf). P f.bytes) (sym (file_has files ts h at.0 at.1)) (new at.0 at.1))
-  | inr none ↦ subst (λ (f : FileOf). P f.bytes) (sym (file_stays files ts k no_file none)) (old k (omega (arith, l, length-with_all files ts)))
+      subst (λ (n : ℕ). P (file_at (with_all files ts) n)) (sym at.2)
+      (subst P (sym (file_has files ts h at.0 at.1)) (new at.0 at.1))
+  | inr none ↦ subst P (sym (file_stays files ts k no_file none)) (old k (omega (arith, l, length-with_all files ts)))
 ]
 
 -- ---- one after the other, and back
@@ -177,7 +203,7 @@ text_and_back files t within =
     let p = t.place in
     let was = file_at files p in
     set-set files p (file_with files t) (file_with (with_text files t) (record { place = p; text = was.bytes }))
-    ∙ ap (slice_set files p) (ap (λ (path : List ℕ). record { path = path; bytes = was.bytes }) (path_of_file files t within p no_file))
+    ∙ ap (slice_set files p) (with_its_text (file_at (with_text files t) p) was was.bytes (path_of_file files t within p no_file) (profile_of_file files t p no_file))
     ∙ set-get_or files p no_file
 
 -- ---- the last of a list

@@ -1,3 +1,4 @@
+pub mod AsWritten
 pub mod CheckSteps
 pub mod Checked
 pub mod Common

@@ -6,11 +6,10 @@ use Rattle.proto_desc.specs.declared.texts.LexedText.{LexedText}
 use Rattle.proto_desc.specs.declared.texts.ReadText.{ReadText}
 use Rattle.proto_base.specs.Texts.{Text}
 use Rattle.proto_files.specs.GivenFiles.{FileOf, file_at}
-use Rattle.proto_files.specs.ReadFaults.{IsGrammarFault, IsTextFault}
+use Rattle.proto_files.specs.ReadFaults.{AreFileTokens, IsGrammarFault, IsTextFault}
 use Rattle.proto_files.specs.Reading.{HasNone}
-use Rattle.proto_text.specs.Tokens.{AreTokens}
 use Rattle.proto_tree.specs.File.{tree_of_file}
-use Rattle.proto_tree.specs.Reads.{Reads}
+use Rattle.proto_tree.specs.Reads.{ReadsIn}
 
 -- a text for the file at a place, counted from 0
 pub record TextAt : Type 0 where
@@ -35,9 +34,9 @@ lexed_text t = record { place = t.place; text = t.source }
 abbrev pub read_text : ReadText → TextAt
 read_text t = record { place = t.place; text = t.source }
 
--- the file at the place of a text, with this text
+-- the file at the place of a text, with this text, of the same language
 abbrev pub file_with : List FileOf → TextAt → FileOf
-file_with files t = record { path = (file_at files t.place).path; bytes = t.text }
+file_with files t = record (file_at files t.place) { bytes = t.text }
 
 -- the files with this text
 abbrev pub with_text : List FileOf → TextAt → List FileOf
@@ -53,16 +52,17 @@ abbrev pub with_old : List TextAt → List FileOf → List FileOf
 with_old [] files = files
 with_old (t ∷ ts) files = with_text (with_old ts files) t
 
--- the tokens are those of the text, which has no fault
-pub record IsLexedText (t : LexedText) : Type 0 where
-  pub tokens_are : AreTokens t.source t.tokens.items
-  pub no_fault : HasNone IsTextFault t.source
+-- the tokens are those of the text in the language of its file, and it has no fault
+pub record IsLexedText (files : List FileOf) (t : LexedText) : Type 0 where
+  pub tokens_are : AreFileTokens (file_with files (lexed_text t)) t.tokens.items
+  pub no_fault : HasNone IsTextFault (file_with files (lexed_text t))
 
--- the tokens are those of the text, and spell the tree
-abbrev pub IsReadText : ReadText → Type 0
-IsReadText t = Reads t.source t.tokens.items (tree_of_file t.tree)
+-- the tokens are those of the text, and spell the tree in the language of its file
+abbrev pub IsReadText : List FileOf → ReadText → Type 0
+IsReadText files t =
+    ReadsIn (file_at files t.place).profile t.source t.tokens.items (tree_of_file t.tree)
 
 -- so they are, and the text has no fault of the grammar
-pub record IsParsedText (t : ReadText) : Type 0 where
-  pub reads : IsReadText t
-  pub no_fault : HasNone IsGrammarFault t.source
+pub record IsParsedText (files : List FileOf) (t : ReadText) : Type 0 where
+  pub reads : IsReadText files t
+  pub no_fault : HasNone IsGrammarFault (file_with files (read_text t))

@@ -7,12 +7,12 @@ ghost use Rattle.proto_desc.specs.Opening.{IsOpenError};
 ghost use Rattle.proto_desc.specs.Whole.{FileFaults, WorkspaceFaults, IsSortedOf};
 ghost use Rattle.proto_files.specs.Faults.{HasNoFault, IsFilesError};
 ghost use Rattle.proto_files.specs.FilesRead.{ReadOf, AreRead};
-ghost use Rattle.proto_files.specs.GivenFiles.{files_of};
+ghost use Rattle.proto_files.specs.GivenFiles.{files_of, files_of_as};
 ghost use Rattle.proto_files.specs.ReadFaults.{ReadFaults};
 
 use crate::checking::describe;
 use crate::schema::files_read;
-use proto_base::SchemaFault;
+use proto_base::{Profile, SchemaFault};
 use proto_descriptors::FileDescriptor;
 use proto_files::{Files, are_read};
 use proto_resolved::Link;
@@ -73,7 +73,21 @@ impl DescribedSchema {
         ensures clean { IfOk result (λ _. HasNoFault (WorkspaceFaults (files_of files.items))) }
         ensures fault { IfErr result (λ e. IsOpenError (files_of files.items) e) }
     {
-        let files = files_read(alloc, files)?;
+        DescribedSchema::open_as(alloc, files, Profile::Core)
+    }
+
+    /// As `open`, for files of a language.
+    pub fn open_as(
+        alloc: Global,
+        files: Vec<(String, Vec<u8>)>,
+        profile: Profile,
+    ) -> Result<DescribedSchema, SchemaFault>
+        ensures files { IfOk result (λ s. IsSortedOf (files_of_as profile files.items) s) }
+        ensures clean { IfOk result (λ _. HasNoFault
+            (WorkspaceFaults (files_of_as profile files.items))) }
+        ensures fault { IfErr result (λ e. IsOpenError (files_of_as profile files.items) e) }
+    {
+        let files = files_read(alloc, files, profile)?;
         match described_files(alloc, &files) {
             Ok(file) => Ok(DescribedSchema { files, file }),
             Err(fault) => {

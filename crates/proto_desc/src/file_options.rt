@@ -73,6 +73,7 @@ fn options_of_file(
         "csharp_namespace",
         "php_namespace",
     )?;
+    let ruby_package = text_option(alloc, scene, options, "ruby_package")?;
     Ok(FileOptions {
         java_package,
         java_outer_classname,
@@ -84,6 +85,13 @@ fn options_of_file(
         objc_class_prefix,
         csharp_namespace,
         php_namespace,
+        java_generate_equals_and_hash: truth_option(
+            scene,
+            options,
+            "java_generate_equals_and_hash",
+        ),
+        java_generic_services: truth_option(scene, options, "java_generic_services"),
+        ruby_package,
     })
 }
 

@@ -26,7 +26,7 @@ pub use descriptors::Descriptors;
 pub use json_form::{files_to_json, to_json};
 pub use proto_base::{NoMemory, SchemaFault as CheckFault, SchemaFault as OpenFault};
 pub use proto_descriptors::{
-    EnumDescriptor, EnumOptions, EnumReservedRange, EnumValueDescriptor, EnumValueOptions,
+    CType, EnumDescriptor, EnumOptions, EnumReservedRange, EnumValueDescriptor, EnumValueOptions,
     FieldDescriptor, FieldOptions, FieldRole, FieldType, FileDescriptor, FileOptions,
     IdempotencyLevel, Label, MessageDescriptor, MessageOptions, MethodDescriptor, MethodOptions,
     NumberRange, OneofDescriptor, OptimizeMode, ServiceDescriptor, ServiceOptions, Syntax,

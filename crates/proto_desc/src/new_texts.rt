@@ -10,8 +10,8 @@ ghost use Rattle.proto_files.specs.Reading.{IsFileError, IsFirstError};
 use crate::texts::{GivenText, LexedText, ReadText};
 use proto_base::{NoMemory, SchemaFault};
 use proto_files::{Files, grammar_error, text_error};
-use proto_text::{Source, lex};
-use proto_tree::{Steps, parse_counted};
+use proto_text::{Source, lex_as};
+use proto_tree::{Steps, parse_counted_as};
 use std::alloc::Global;
 
 // The texts, each with the place of its file.
@@ -28,11 +28,11 @@ fn texts_at(alloc: Global, places: &[u32], texts: Vec<Vec<u8>>) -> Result<Vec<Gi
     Ok(given)
 }
 
-// A text with its tokens, or its fault.
+// A text with its tokens in the language of its file, or its fault.
 fn lex_text(alloc: Global, files: &Files, text: GivenText) -> Result<LexedText, SchemaFault>
     requires { text.place < length files.now }
     ensures same { IfOk result (λ lexed. lexed_text lexed ≡ given_text text) }
-    ensures lexed { IfOk result IsLexedText }
+    ensures lexed { IfOk result (IsLexedText files.now) }
     ensures fault { IfErr result
         (IsFileError IsTextFault (file_with files.now (given_text text))) }
 {
@@ -42,7 +42,7 @@ fn lex_text(alloc: Global, files: &Files, text: GivenText) -> Result<LexedText, 
         Ok(source) => source,
         Err(fault) => return Err(text_error(path, fault)),
     };
-    match lex(alloc, &source) {
+    match lex_as(alloc, &source, files.profile(place)) {
         Ok(tokens) => Ok(LexedText {
             place,
             source,
@@ -61,7 +61,7 @@ fn lex_texts(
     requires { All (λ t. t.place < length files.now) texts.items }
     ensures same { IfOk result
         (λ lexed. map lexed_text lexed.items ≡ map given_text texts.items) }
-    ensures lexed { IfOk result (λ lexed. All IsLexedText lexed.items) }
+    ensures lexed { IfOk result (λ lexed. All (IsLexedText files.now) lexed.items) }
     ensures fault { IfErr result (IsFirstError IsTextFault
         (map (λ t. file_with files.now (given_text t)) texts.items)) }
 {
@@ -80,10 +80,10 @@ fn parse_text(
     steps: &mut Steps,
 ) -> Result<ReadText, SchemaFault>
     requires place { text.place < length files.now }
-    requires lexed { IsLexedText text }
+    requires lexed { IsLexedText files.now text }
     requires steps { steps.old + 1 < 2 ^ 64 }
     ensures same { IfOk result (λ read. read_text read ≡ lexed_text text) }
-    ensures read { IfOk result IsParsedText }
+    ensures read { IfOk result (IsParsedText files.now) }
     ensures fault { IfErr result
         (IsFileError IsGrammarFault (file_with files.now (lexed_text text))) }
     ensures counted { OnOk result (steps.new ≡ steps.old + 1) }
@@ -96,7 +96,7 @@ fn parse_text(
         tokens,
     } = text;
     let path = String::from_str(alloc, files.path(place))?;
-    match parse_counted(alloc, &source, &tokens, steps) {
+    match parse_counted_as(alloc, &source, &tokens, files.profile(place), steps) {
         Ok(tree) => Ok(ReadText {
             place,
             source,
@@ -115,11 +115,11 @@ fn parse_texts(
     steps: &mut Steps,
 ) -> Result<Vec<ReadText>, SchemaFault>
     requires places { All (λ t. t.place < length files.now) texts.items }
-    requires lexed { All IsLexedText texts.items }
+    requires lexed { All (IsLexedText files.now) texts.items }
     requires steps { steps.old + length texts.items < 2 ^ 64 }
     ensures same { IfOk result
         (λ read. map read_text read.items ≡ map lexed_text texts.items) }
-    ensures read { IfOk result (λ read. All IsParsedText read.items) }
+    ensures read { IfOk result (λ read. All (IsParsedText files.now) read.items) }
     ensures fault { IfErr result (IsFirstError IsGrammarFault
         (map (λ t. file_with files.now (lexed_text t)) texts.items)) }
     ensures counted { OnOk result (steps.new ≡ steps.old + length texts.items) }
@@ -133,8 +133,8 @@ fn parse_texts(
     Ok(read)
 }
 
-/// Texts with their trees, each for the file at its place; or the least fault of the files with
-/// these texts. The count rises by one for each text that is parsed.
+/// Texts with their trees, each for the file at its place and in its language; or the least fault of
+/// the files with these texts. The count rises by one for each text that is parsed.
 pub fn read_texts(
     alloc: Global,
     files: &Files,
@@ -149,7 +149,7 @@ pub fn read_texts(
     ensures same { IfOk result (λ read. map read_text read.items
         ≡ texts_at places.now (map (λ t. t.items) texts.items)) }
     ensures places { IfOk result (λ read. All (λ t. t.place < length files.now) read.items) }
-    ensures read { IfOk result (λ read. All IsReadText read.items) }
+    ensures read { IfOk result (λ read. All (IsReadText files.now) read.items) }
     ensures fault { IfErr result (IsOpenError
         (with_texts files.now places.now (map (λ t. t.items) texts.items))) }
     ensures counted { OnOk result (steps.new ≡ steps.old + length places.now) }

@@ -12,11 +12,11 @@ use std::alloc::Global;
 // Puts a text at its place; answers what stood there. Takes no memory.
 fn put_text(files: &mut Files, text: ReadText) -> ReadText
     requires place { text.place < length files.old }
-    requires read { IsReadText text }
+    requires read { IsReadText files.old text }
     ensures files { files.new ≡ with_text files.old (read_text text) }
     ensures place { result.place ≡ text.place }
     ensures source { result.source ≡ (file_at files.old text.place).bytes }
-    ensures read { IsReadText result }
+    ensures read { IsReadText files.old result }
 {
     let ReadText {
         place,
@@ -41,12 +41,12 @@ pub fn put_texts(
     texts: Vec<ReadText>,
 ) -> Result<Vec<ReadText>, NoMemory>
     requires places { All (λ t. t.place < length files.old) texts.items }
-    requires read { All IsReadText texts.items }
+    requires read { All (IsReadText files.old) texts.items }
     ensures files { OnOk result (files.new ≡ with_all files.old (map read_text texts.items)) }
     ensures back { IfOk result
         (λ old. with_old (map read_text old.items) files.new ≡ files.old) }
     ensures places { IfOk result (λ old. All (λ t. t.place < length files.new) old.items) }
-    ensures read { IfOk result (λ old. All IsReadText old.items) }
+    ensures read { IfOk result (λ old. All (IsReadText files.new) old.items) }
     ensures kept { OnErr result (files.new ≡ files.old) }
 {
     let mut old = Vec::with_capacity(alloc, texts.len())?;
@@ -59,7 +59,7 @@ pub fn put_texts(
 /// Puts back what stood there. Takes no memory.
 pub fn put_back(files: &mut Files, old: Vec<ReadText>)
     requires places { All (λ t. t.place < length files.old) old.items }
-    requires read { All IsReadText old.items }
+    requires read { All (IsReadText files.old) old.items }
     ensures { files.new ≡ with_old (map read_text old.items) files.old }
 {
     let mut old = old;

@@ -5,7 +5,7 @@ ghost use Rattle.proto_desc.specs.Checked.{AreDescribed};
 ghost use Rattle.proto_desc.specs.Edited.{AreDescriptorsOf};
 ghost use Rattle.proto_desc.specs.Views.{files_desc};
 ghost use Rattle.proto_files.specs.Faults.{HasNoFault, IsFilesError};
-ghost use Rattle.proto_files.specs.GivenFiles.{files_of};
+ghost use Rattle.proto_files.specs.GivenFiles.{files_of, files_of_as};
 ghost use Rattle.proto_files.specs.ReadFaults.{ReadFaults};
 ghost use Rattle.proto_resolved.specs.LinkOfFiles.{IsLinkOf};
 ghost use Rattle.proto_files.specs.FilesRead.{ReadOf, AreRead};
@@ -14,7 +14,7 @@ ghost use Rattle.proto_desc.specs.Whole.{FileFaults, WorkspaceFaults, IsSortedOf
 
 use crate::checking::{check, pass_checks};
 use crate::descriptors::Descriptors;
-use proto_base::SchemaFault;
+use proto_base::{Profile, SchemaFault};
 use proto_files::{Files, Paths, are_read};
 use proto_resolved::Link;
 use std::alloc::Global;
@@ -90,13 +90,17 @@ pub fn link_and_descriptors(
     }
 }
 
-// The files given, in the order of their paths, where neither their paths nor their texts have a
-// fault.
-pub(crate) fn files_read(alloc: Global, given: Vec<(String, Vec<u8>)>) -> Result<Files, SchemaFault>
-    ensures read { IfOk result (AreReadOf (files_of given.items)) }
-    ensures fault { IfErr result (IsOpenError (files_of given.items)) }
+// The files given, of a language, in the order of their paths, where neither their paths nor their
+// texts have a fault.
+pub(crate) fn files_read(
+    alloc: Global,
+    given: Vec<(String, Vec<u8>)>,
+    profile: Profile,
+) -> Result<Files, SchemaFault>
+    ensures read { IfOk result (AreReadOf (files_of_as profile given.items)) }
+    ensures fault { IfErr result (IsOpenError (files_of_as profile given.items)) }
 {
-    let paths = Paths::new(alloc, given)?;
+    let paths = Paths::new_as(alloc, given, profile)?;
     Files::read(alloc, paths)
 }
 
@@ -126,7 +130,21 @@ impl CheckedSchema {
         ensures clean { IfOk result (λ _. HasNoFault (WorkspaceFaults (files_of files.items))) }
         ensures fault { IfErr result (λ e. IsOpenError (files_of files.items) e) }
     {
-        let files = files_read(alloc, files)?;
+        CheckedSchema::open_as(alloc, files, Profile::Core)
+    }
+
+    /// As `open`, for files of a language.
+    pub fn open_as(
+        alloc: Global,
+        files: Vec<(String, Vec<u8>)>,
+        profile: Profile,
+    ) -> Result<CheckedSchema, SchemaFault>
+        ensures files { IfOk result (λ s. IsSortedOf (files_of_as profile files.items) s) }
+        ensures clean { IfOk result (λ _. HasNoFault
+            (WorkspaceFaults (files_of_as profile files.items))) }
+        ensures fault { IfErr result (λ e. IsOpenError (files_of_as profile files.items) e) }
+    {
+        let files = files_read(alloc, files, profile)?;
         match checked_link(alloc, &files) {
             Ok(link) => Ok(CheckedSchema { files, link }),
             Err(fault) => {
@@ -167,7 +185,21 @@ impl Schema {
         ensures clean { IfOk result (λ _. HasNoFault (WorkspaceFaults (files_of files.items))) }
         ensures fault { IfErr result (λ e. IsOpenError (files_of files.items) e) }
     {
-        let files = files_read(alloc, files)?;
+        Schema::open_as(alloc, files, Profile::Core)
+    }
+
+    /// As `open`, for files of a language.
+    pub fn open_as(
+        alloc: Global,
+        files: Vec<(String, Vec<u8>)>,
+        profile: Profile,
+    ) -> Result<Schema, SchemaFault>
+        ensures files { IfOk result (λ s. IsSortedOf (files_of_as profile files.items) s) }
+        ensures clean { IfOk result (λ _. HasNoFault
+            (WorkspaceFaults (files_of_as profile files.items))) }
+        ensures fault { IfErr result (λ e. IsOpenError (files_of_as profile files.items) e) }
+    {
+        let files = files_read(alloc, files, profile)?;
         match link_and_descriptors(alloc, &files) {
             Ok((link, descriptors)) => Ok(Schema {
                 files,

@@ -70,7 +70,7 @@ module _ (files : List FileOf) (reads : List ReadOf) (are : AreRead files reads)
   -- a declaration of the file is one of the files
   there : (p : Placed) → Contains own p → Contains (link_skeleton files reads).declared (declares file p)
   there p c =
-      let s = tree_span (file_at files file).bytes (read_at reads file).tokens (read_at reads file).tree (are.trees file within) in
+      let s = tree_span (file_at files file).profile (file_at files file).bytes (read_at reads file).tokens (read_at reads file).tree (are.trees file within) in
       let zero_more : 0 + file ≡ file = omega arith in
       subst (λ n. Contains (all_declared 0 (map names_in reads)) (declares n p)) zero_more
       (declared_in 0 file reads p (omega (arith, within, are.same)) ((same_declared (items_in (read_at reads file).tree) s.0 s.1 s.2 p).0 c))

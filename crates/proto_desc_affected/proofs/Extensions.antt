@@ -10,7 +10,7 @@ use Rattle.proto_tree.specs.declared.piece.Header.{Header}
 use Rattle.proto_tree.specs.declared.piece.Header.TheVariants as header
 use Rattle.proto_tree.specs.declared.tree.Range.{Range}
 use Rattle.proto_tree.specs.declared.tree.Reference.{Reference}
-use Rattle.proto_files.proofs.Common.{FileOf, ReadOf, read_at}
+use Rattle.proto_files.proofs.Common.{FileOf, ReadOf, file_at, read_at}
 use Rattle.proto_names_rules.proofs.Common.{At, Declared, Used, place_of}
 use Rattle.proto_names.specs.Links.{names_in, uses_of}
 use Rattle.proto_ast.proofs.Common.{BlockOf, FieldOf, blocks_in, extension_ranges, fields_in, number_at, number_value, statements}
@@ -20,7 +20,7 @@ use Rattle.proto_desc_numbers.specs.declared.flaw.Flaw.{Flaw}
 use Rattle.proto_desc_checks.specs.FileFlaws.{file_flaws}
 use Rattle.proto_desc_checks.proofs.KnownNames.{flat_map_same}
 use Rattle.proto_resolved.specs.SceneOf.{meaning_of, scene_of}
-use Rattle.proto_desc_extensions.specs.Common.{ExtensionOf, all_flaws, block_extensions, extendee_in, extension_ranges_at, extensions_before, extensions_in, extensions_of, has_extend, is_extend, is_extendable, is_message_at, name_meant, not_extendable, ranges_at_place, ranges_within, repeated_extensions}
+use Rattle.proto_desc_extensions.specs.Common.{ExtensionOf, all_flaws, block_extensions, extendee_in, extension_ranges_at, extensions_before, extensions_in, extensions_of, has_extend, is_extend, is_extendable, is_message_at, name_meant, not_extendable, ranges_at_place, ranges_within, repeated_extensions, taken_before}
 use Rattle.proto_desc_extensions.proofs.NoExtensions.{no_flaw}
 use Rattle.proto_desc_extensions.proofs.WrittenExtensions.{from_flat_map}
 use Rattle.proto_desc_affected.specs.Extended.{ExtendsAreUnaffected, HasNoExtend, UnaffectedFilesStayFlawless, UnaffectedFlawsOfFilesStay, UnaffectedFlawsStay}
@@ -28,7 +28,7 @@ use Rattle.proto_desc_affected.specs.Unaffected.{AreSoundlyEdited, IsUnaffectedF
 use Rattle.proto_desc_affected.proofs.Declared.{found_passes}
 use Rattle.proto_desc_affected.proofs.SameScenes.{extensions_same, flaws_same}
 use Rattle.proto_desc_affected.proofs.Scenes.{name_left, reading, scene_stays}
-use Rattle.proto_desc_affected.proofs.Unedited.{same_lexemes, same_reading}
+use Rattle.proto_desc_affected.proofs.Unedited.{same_file, same_lexemes, same_reading}
 
 -- ---- a tree without extensions
 
@@ -143,6 +143,12 @@ module _ (places : List ℕ) (before : List FileOf) (was : List ReadOf) (files :
     before_stays zero l = refl
     before_stays (suc k) l = ap₂ (λ (x y : List ExtensionOf). x ++ y) (before_stays k (omega (arith, l))) (each_stays k (omega (arith, l)))
 
+    taken_stays : (file : ℕ) → IsUnaffectedFile places before was files reads file
+        → taken_before (file_at files file).profile (extensions_before None files reads file) ≡ taken_before (file_at before file).profile (extensions_before None before was file)
+    taken_stays file unaffected =
+        ap₂ (λ (f : FileOf) (es : List ExtensionOf). taken_before f.profile es) (same_file places before was files reads are.edited file unaffected.within unaffected.left)
+        (before_stays file (omega (arith, unaffected.within)))
+
     -- what an extension of an unaffected file extends stood in a file that is not edited
     extendee_elsewhere : (file : ℕ) → IsUnaffectedFile places before was files reads file → (e : ExtensionOf) → Contains (extensions_in None files reads file) e → (u : Used ℕ) → Contains (uses_of reads file) u → meaning_of files reads file u ≡ Some e.extendee → StoodElsewhere places before was e.extendee
     extendee_elsewhere file unaffected e c u there means = elim (extends.elsewhere file unaffected) [
@@ -166,7 +172,7 @@ module _ (places : List ℕ) (before : List FileOf) (was : List ReadOf) (files :
         (ap₂ (λ (x y : List Flaw). x ++ y)
         (same_outside before was files reads (extensions_in None files reads file) (extendable_stays file unaffected)
         ∙ ap (not_extendable None before was) (extensions_stay file unaffected None))
-        (ap₂ repeated_extensions (before_stays file (omega (arith, unaffected.within))) (extensions_stay file unaffected None)))
+        (ap₂ repeated_extensions (taken_stays file unaffected) (extensions_stay file unaffected None)))
 
 pub unaffected_flaws_of_files_stay : UnaffectedFlawsOfFilesStay
 unaffected_flaws_of_files_stay places before was files reads are file unaffected cap = file_flaws_stay places before was files reads are file unaffected cap

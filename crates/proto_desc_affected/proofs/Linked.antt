@@ -3,7 +3,7 @@ use Rattle.std.proofs.Common.{◌≡◌, ℕ, suc, ◌+◌, ◌<◌, Bool, true,
 use Rattle.proto_base.proofs.Common.{Contains-get_or, false_from_ne_true, contains_map, from_map, or_nothing, same_Some}
 use Rattle.proto_case.specs.Camel.{entry_name}
 use Rattle.proto_text.specs.Tokens.{lexeme_at}
-use Rattle.proto_tree.proofs.Common.{Numbered, Tree, flat, trees_are_numbered}
+use Rattle.proto_tree.proofs.Common.{Numbered, Tree, flat, trees_are_numbered_in}
 use Rattle.proto_files.proofs.Common.{AreRead, FileOf, ReadOf, file_at, read_at}
 use Rattle.proto_names_rules.specs.declared.kind.Kind.{Kind}
 use Rattle.proto_names_rules.specs.declared.kind.Kind.TheVariants.{Message}
@@ -45,7 +45,7 @@ message_no_enum files reads read name d is e =
     ∙ ap (λ (s : Source ℕ). place_from (at k 0) (map (shifted_source (at k)) (placed.above ++ s ∷ []))) h.last
     ∙ place_last k (at k 0) placed.above h.token in
     let l : k < length files = omega (arith, p.1, read.same) in
-    let numbered : Numbered 0 (flat tree) = trees_are_numbered tree (map (lexeme_at (file_at files k).bytes) (read_at reads k).tokens) (read.trees k l).spells in
+    let numbered : Numbered 0 (flat tree) = trees_are_numbered_in (file_at files k).profile tree (map (lexeme_at (file_at files k).bytes) (read_at reads k).tokens) (read.trees k l).spells in
     ap (enum_at files reads) stands
     ∙ ap (option_map (λ (b : BlockOf). enum_within (lexemes_of files reads k) (is_proto3_file files reads k) b.within)) (no_enum_there tree numbered path placed kind p.2.1 h.token h.last)
 

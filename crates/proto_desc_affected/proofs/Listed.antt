@@ -42,7 +42,7 @@ module _ (files : List FileOf) (reads : List ReadOf) (are : AreRead files reads)
       let stands : k ≡ (place_of d).file = sym (place_file k (at k 0) path refl) ∙ ap (λ (x : Declared At). (place_of x).file) is in
       let inside : k < length files = omega (arith, o.1, are.same) in
       let tree = (read_at reads k).tree in
-      let span = tree_span (file_at files k).bytes (read_at reads k).tokens tree (are.trees k inside) in
+      let span = tree_span (file_at files k).profile (file_at files k).bytes (read_at reads k).tokens tree (are.trees k inside) in
       let listed = (same_declared (items_in tree) span.0 span.1 span.2 p).1 o.2.1 in
       let here : Contains (declared_names files reads k) (name_of (λ i. text (at k i)) entry_name (whole p)) = contains_map (λ (q : Placed). name_of (λ i. text (at k i)) entry_name (whole q)) (package_first (items_in tree)) p listed in
       let name : name_of (λ i. text (at k i)) entry_name (whole p) ≡ name_of text entry_name d.path = sym (name_in text k (whole p)) ∙ ap (λ (x : Declared At). name_of text entry_name x.path) is in (

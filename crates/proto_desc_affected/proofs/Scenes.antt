@@ -90,17 +90,20 @@ module _ (places : List ℕ) (before : List FileOf) (was : List ReadOf) (files :
     version_stays : is_proto3_file files reads file ≡ version
     version_stays = same_version places before was files reads are.edited file unaffected.within unaffected.left
 
+    file_stays : file_at files file ≡ file_at before file
+    file_stays = same_file places before was files reads are.edited file unaffected.within unaffected.left
+
     pub scene_stays : (cap : Option ℕ) → IsSameScene (scene_of cap files reads file) (scene_of cap before was file)
     scene_stays cap = by version refl
       where
         by : (b : Bool) → version ≡ b → IsSameScene (scene_of cap files reads file) (scene_of cap before was file)
-        by false e = inl (λ i. record { lexemes = lexemes_stay i; cap = cap; is_proto3 = version_stays i; means = means_stay e i })
-        by true e = inr (version_stays ∙ e, λ i. record { lexemes = lexemes_stay i; cap = cap; is_proto3 = version_stays i; means = nameless_stay e i })
+        by false e = inl (λ i. record { lexemes = lexemes_stay i; cap = cap; profile = (file_stays i).profile; is_proto3 = version_stays i; means = means_stay e i })
+        by true e = inr (version_stays ∙ e, λ i. record { lexemes = lexemes_stay i; cap = cap; profile = (file_stays i).profile; is_proto3 = version_stays i; means = nameless_stay e i })
 
     descriptor_stays : (cap : Option ℕ) → file_described (scene_of cap files reads file) (file_at files file).path (read_at reads file).tree ≡ file_described (scene_of cap before was file) (file_at before file).path (read_at was file).tree
     descriptor_stays cap =
         described_same (scene_of cap files reads file) (scene_of cap before was file) (scene_stays cap) (file_at files file).path (read_at reads file).tree
-        ∙ ap₂ (λ (f : FileOf) (r : ReadOf). file_described (scene_of cap before was file) f.path r.tree) (same_file places before was files reads are.edited file unaffected.within unaffected.left) reading
+        ∙ ap₂ (λ (f : FileOf) (r : ReadOf). file_described (scene_of cap before was file) f.path r.tree) file_stays reading
 
 pub unaffected_scenes_stay : UnaffectedScenesStay
 unaffected_scenes_stay places before was files reads are file unaffected cap = scene_stays places before was files reads are file unaffected cap

@@ -3,7 +3,7 @@ use Rattle.std.proofs.Common.{◌≡◌, ℕ, ◌<◌, List, length, map, find, 
 use Rattle.proto_base.proofs.Common.{length-map}
 use Rattle.proto_text.specs.Texts.{words}
 use Rattle.proto_text.specs.Tokens.{Lexeme, lexeme_at}
-use Rattle.proto_tree.specs.Reads.{Reads}
+use Rattle.proto_tree.specs.Reads.{ReadsIn}
 use Rattle.proto_files.proofs.Common.{FileOf, ReadOf, file_at, one_reading, read_at}
 use Rattle.proto_names_rules.specs.Grown.{At, at}
 use Rattle.proto_names_imports.specs.Links.{text_of}
@@ -22,9 +22,9 @@ module _ (places : List ℕ) (before : List FileOf) (was : List ReadOf) (files :
 
     pub same_reading : read_at reads file ≡ read_at was file
     same_reading =
-        let there : Reads (file_at before file).bytes (read_at was file).tokens (read_at was file).tree = are.were_read.trees file (omega (arith, within, as_many)) in
-        one_reading (file_at files file).bytes (read_at reads file) (read_at was file) (are.are_read.trees file within)
-        (subst (λ (f : FileOf). Reads f.bytes (read_at was file).tokens (read_at was file).tree) (sym same_file) there)
+        let there : ReadsIn (file_at before file).profile (file_at before file).bytes (read_at was file).tokens (read_at was file).tree = are.were_read.trees file (omega (arith, within, as_many)) in
+        one_reading (file_at files file).profile (file_at files file).bytes (read_at reads file) (read_at was file) (are.are_read.trees file within)
+        (subst (λ (f : FileOf). ReadsIn f.profile f.bytes (read_at was file).tokens (read_at was file).tree) (sym same_file) there)
 
     pub same_text : (i : ℕ) → text_of files reads (at file i) ≡ text_of before was (at file i)
     same_text i = ap₂ (λ (f : FileOf) (r : ReadOf). words f.bytes r.tokens i) same_file same_reading

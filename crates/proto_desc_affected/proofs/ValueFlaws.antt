@@ -12,7 +12,7 @@ use Rattle.proto_ast.specs.declared.options.Element.TheVariants as element
 use Rattle.proto_desc_numbers.specs.declared.flaw.Flaw.{Flaw}
 use Rattle.proto_desc_numbers.proofs.Common.{flaw_if, number_of_field, range_of, is_field_number, outside, field_number_flaws}
 use Rattle.proto_desc_checks.specs.FieldFlaws.{default_flaws, enum_of_type, field_flaws, flaws_of_extension, is_of_proto2, is_packable_type, is_past_zero, lacks_label, map_key_flaws, option_flaws, packed_flaws, proto3_defaults, required_extensions, required_flaws, type_flaws, type_token, wrong_default}
-use Rattle.proto_desc_checks.specs.FileFlaws.{block_flaws, extend_flaws, extension_flaws, file_flaws, json_clashes, message_flaws, name_flaws}
+use Rattle.proto_desc_checks.specs.FileFlaws.{bars_extend, block_flaws, extend_flaws, extension_flaws, file_flaws, json_clashes, message_flaws, name_flaws}
 use Rattle.proto_desc_checks.proofs.KnownNames.{flat_map_same}
 use Rattle.proto_desc_affected.specs.Values.{ValueNamesMatterToNoProto3Flaws, enum_without_names, without_value_names}
 use Rattle.proto_desc_affected.proofs.ValueNames.{enum_nameless, some_nameless}
@@ -83,7 +83,7 @@ module _ (scene : Scene) (proto3 : scene.is_proto3 ≡ true) where
 
   extend_same : (keyword : ℕ) (within : Tree) → extend_flaws bare keyword within ≡ extend_flaws scene keyword within
   extend_same keyword within =
-      ap (λ (l : List Flaw). flaw_if scene.is_proto3 kind.NotInProto3 keyword ++ (outside is_field_number (map (number_of_field scene) (fields_in within)) ++ l))
+      ap (λ (l : List Flaw). flaw_if (bars_extend scene.profile scene.is_proto3) kind.NotInProto3 keyword ++ (outside is_field_number (map (number_of_field scene) (fields_in within)) ++ l))
       (flat_map_same (flaws_of_extension bare) (flaws_of_extension scene) extension_same (fields_in within))
 
   block_same : (h : Header) (within : Tree) → block_flaws bare h within ≡ block_flaws scene h within

@@ -1,3 +1,4 @@
 pub mod CappedDescriptors
 pub mod Common
 pub mod Levels
+pub mod WrittenDescriptors

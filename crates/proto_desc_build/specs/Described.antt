@@ -30,6 +30,8 @@ use Rattle.proto_desc_numbers.specs.NumberFlaws.{is_within, most_field, most_val
 use Rattle.proto_ast.specs.declared.ranges.RangeAt.{RangeAt}
 use Rattle.proto_descriptors.specs.declared.enumeration.EnumOptions.{EnumOptions}
 use Rattle.proto_descriptors.specs.declared.enumeration.EnumReservedRange.{EnumReservedRange}
+use Rattle.proto_descriptors.specs.declared.field.CType.{CType}
+use Rattle.proto_descriptors.specs.declared.field.CType.TheVariants as c_type
 use Rattle.proto_descriptors.specs.declared.field.FieldOptions.{FieldOptions}
 use Rattle.proto_descriptors.specs.declared.field.FieldType.{FieldType}
 use Rattle.proto_descriptors.specs.declared.field.FieldType.TheVariants as field_type
@@ -137,9 +139,17 @@ default_text scene (constant.Number n) = signed_decimal (default_number (signed_
 default_text scene (constant.Word w) = text scene w
 default_text scene (constant.Text j) = flat_map (value scene) (j.first ∷ j.rest)
 
--- the options at a field that its descriptor keeps: `packed` and `deprecated`
+-- the C++ type of a word; a word that names no other type is the string
+abbrev pub c_type_named : Text → CType
+c_type_named w =
+    if bytes_eq w (codes "CORD") then c_type.Cord
+    else (if bytes_eq w (codes "STRING_PIECE") then c_type.StringPiece
+    else c_type.String)
+
+-- the options at a field that its descriptor keeps: `ctype`, `packed` and `deprecated`
 abbrev pub field_options : Scene → List OptionOf → FieldOptions
 field_options scene options = record {
+  ctype = option_map c_type_named (word_option (text scene) (codes "ctype") options);
   packed = truth_option (text scene) (codes "packed") options;
   deprecated = truth_option (text scene) (codes "deprecated") options;
 }
@@ -265,7 +275,7 @@ entry_field word number_in_text kind type_name = record {
   oneof_index = None;
   json_name = Some word;
   proto3_optional = false;
-  options = record { packed = None; deprecated = None };
+  options = record { ctype = None; packed = None; deprecated = None };
 }
 
 -- the generated entry of a map field
@@ -378,6 +388,10 @@ file_options scene options = record {
   objc_class_prefix = text_option (text scene) (value scene) (codes "objc_class_prefix") options;
   csharp_namespace = text_option (text scene) (value scene) (codes "csharp_namespace") options;
   php_namespace = text_option (text scene) (value scene) (codes "php_namespace") options;
+  java_generate_equals_and_hash =
+      truth_option (text scene) (codes "java_generate_equals_and_hash") options;
+  java_generic_services = truth_option (text scene) (codes "java_generic_services") options;
+  ruby_package = text_option (text scene) (value scene) (codes "ruby_package") options;
 }
 
 -- the package's name, where the file has one

@@ -39,6 +39,7 @@ fn entry_field(
         },
         proto3_optional: false,
         options: FieldOptions {
+            ctype: None,
             packed: None,
             deprecated: None,
         },

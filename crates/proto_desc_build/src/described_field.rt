@@ -6,7 +6,7 @@ ghost use Rattle.proto_ast.specs.Options.{value_named};
 ghost use Rattle.proto_ast.specs.Scenes.{text};
 ghost use Rattle.proto_ast.specs.Views.{field_of, option_of};
 ghost use Rattle.proto_ast.specs.Labels.{has_label};
-ghost use Rattle.proto_desc_build.specs.Described.{label_of, field_type_of, field_type_name, default_text, field_options, field_with, field_described, extension_described};
+ghost use Rattle.proto_desc_build.specs.Described.{c_type_named, label_of, field_type_of, field_type_name, default_text, field_options, field_with, field_described, extension_described};
 ghost use Rattle.proto_descriptors.specs.Views.{field_desc, role_extendee, role_json_name};
 
 use crate::described_names::type_text;
@@ -14,11 +14,11 @@ use crate::described_numbers::{default_number, field_number};
 use crate::described_type::{type_name, type_of};
 use proto_ast::{
     FieldAt, OptionAt, Scene, has_label, json_name, option_named, options_between, text_value,
-    truth_option,
+    truth_option, word_option,
 };
 use proto_base::NoMemory;
 use proto_case::entry_name;
-use proto_descriptors::{FieldDescriptor, FieldOptions, FieldRole, FieldType, Label};
+use proto_descriptors::{CType, FieldDescriptor, FieldOptions, FieldRole, FieldType, Label};
 use proto_names_rules::below;
 use proto_tree::{Constant, Reference};
 use std::alloc::Global;
@@ -90,10 +90,22 @@ fn default_value(
     }
 }
 
+fn c_type_named(word: &str) -> CType
+    ensures { result ≡ c_type_named word.now }
+{
+    match word {
+        "CORD" => CType::Cord,
+        "STRING_PIECE" => CType::StringPiece,
+        _ => CType::String,
+    }
+}
+
 fn field_options(scene: &Scene, options: &[OptionAt]) -> FieldOptions
     ensures { result ≡ field_options scene.now (map option_of options.now) }
 {
+    let c_type = word_option(scene, options, "ctype");
     FieldOptions {
+        ctype: c_type.map(c_type_named),
         packed: truth_option(scene, options, "packed"),
         deprecated: truth_option(scene, options, "deprecated"),
     }

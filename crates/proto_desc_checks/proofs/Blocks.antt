@@ -1,16 +1,16 @@
 -- The blocks of trees that stand one behind another.
-use Rattle.std.proofs.Common.{◌≡◌, ℕ, false, ◌==◌, ◌<◌, List, [], ◌∷◌, ◌++◌, length, flat_map, refl, sym, ap, ◌∙◌, inl, inr, arith, eqb-true, append-nil}
-use Rattle.proto_base.proofs.Common.{cases_Bool, flat_map-append}
+use Rattle.std.proofs.Common.{◌≡◌, ℕ, List, [], ◌∷◌, ◌++◌, flat_map, refl, ap, ◌∙◌, append-nil}
+use Rattle.proto_base.proofs.Common.{flat_map-append}
 use Rattle.proto_tree.specs.declared.tree.Extension.{Extension}
-use Rattle.proto_tree.specs.declared.tree.Field.{Field}
+use Rattle.proto_tree.specs.declared.tree.OneofItem.{OneofItem}
 use Rattle.proto_tree.specs.declared.tree.EnumItem.{EnumItem}
 use Rattle.proto_tree.specs.declared.tree.MethodItem.{MethodItem}
 use Rattle.proto_tree.specs.declared.piece.Header.{Header}
 use Rattle.proto_tree.specs.File.{extension_tree}
-use Rattle.proto_tree.proofs.Common.{Tree, End, Block, joined_trees, trees, field_tree, enum_item_tree, method_item_tree}
-use Rattle.proto_ast.proofs.Common.{BlockOf, blocks_in, statements, Scene, no_block_in_enum, no_block_in_method, no_blocks, blocks_joined}
+use Rattle.proto_tree.proofs.Common.{Tree, End, Block, joined_trees, trees, oneof_item_tree, enum_item_tree, method_item_tree}
+use Rattle.proto_ast.proofs.Common.{BlockOf, blocks_in, Scene, no_block_in_enum, no_block_in_method, no_blocks, blocks_joined, no_block_in_oneof}
 use Rattle.proto_desc_numbers.specs.declared.flaw.Flaw.{Flaw}
-use Rattle.proto_desc_checks.specs.FileFlaws.{block_flaws, flaws_in_blocks, is_empty}
+use Rattle.proto_desc_checks.specs.FileFlaws.{block_flaws, flaws_in_blocks}
 
 flaws_joined : (scene : Scene) (t u : Tree) → flaws_in_blocks scene (joined_trees t u) ≡ flaws_in_blocks scene t ++ flaws_in_blocks scene u
 flaws_joined scene t u =
@@ -40,18 +40,8 @@ flaws_of_enum scene h i items j = flaws_of_flat scene h i (trees enum_item_tree 
 pub flaws_of_method : (scene : Scene) (h : Header) (i : ℕ) (items : List MethodItem) (j : ℕ) → flaws_in_blocks scene (Block h i (trees method_item_tree items) j End) ≡ block_flaws scene h (trees method_item_tree items)
 flaws_of_method scene h i items j = flaws_of_flat scene h i (trees method_item_tree items) j (no_blocks method_item_tree no_block_in_method items)
 
-pub flaws_of_oneof : (scene : Scene) (h : Header) (i : ℕ) (fields : List Field) (j : ℕ) → flaws_in_blocks scene (Block h i (trees field_tree fields) j End) ≡ block_flaws scene h (trees field_tree fields)
-flaws_of_oneof scene h i fields j = flaws_of_flat scene h i (trees field_tree fields) j (no_blocks field_tree (λ f. refl) fields)
+pub flaws_of_oneof : (scene : Scene) (h : Header) (i : ℕ) (items : List OneofItem) (j : ℕ) → flaws_in_blocks scene (Block h i (trees oneof_item_tree items) j End) ≡ block_flaws scene h (trees oneof_item_tree items)
+flaws_of_oneof scene h i items j = flaws_of_flat scene h i (trees oneof_item_tree items) j (no_blocks oneof_item_tree no_block_in_oneof items)
 
 pub flaws_of_extend : (scene : Scene) (h : Header) (i : ℕ) (extensions : List Extension) (j : ℕ) → flaws_in_blocks scene (Block h i (trees extension_tree extensions) j End) ≡ block_flaws scene h (trees extension_tree extensions)
 flaws_of_extend scene h i extensions j = flaws_of_flat scene h i (trees extension_tree extensions) j (no_blocks extension_tree (λ x. refl) extensions)
-
-pub no_fields : (fields : List Field) → is_empty (statements (trees field_tree fields)) ≡ (length fields == 0)
-no_fields [] = refl
-no_fields (f ∷ fields) = not_empty (length (f ∷ fields)) (omega arith)
-  where
-    not_empty : (n : ℕ) → 0 < n → false ≡ (n == 0)
-    not_empty n h = elim (cases_Bool (n == 0)) [
-      | inl e ↦ absurd (let is = eqb-true n 0 e in omega (arith, h, is))
-      | inr e ↦ sym e
-    ]

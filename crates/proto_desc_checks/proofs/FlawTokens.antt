@@ -25,15 +25,18 @@ use Rattle.proto_tree.specs.declared.tree.ReservedList.TheVariants as reserved_l
 use Rattle.proto_tree.specs.declared.tree.Settings.{Settings}
 use Rattle.proto_tree.specs.declared.tree.Signed.{Signed}
 use Rattle.proto_tree.specs.declared.tree.Value.{Value}
-use Rattle.proto_tree.proofs.Common.{Mark, flat_all, flat_behind, flat_header, flat_number, flat_option, flat_range, flat_reserved_list, flat_separated, flat_setting, flat_settings, flat_signed, flat_statement, flat_type, flat_up_to, flat_value, one as one_mark, only, text_mark, name, Reads, Tree, End, Leaf, Block, flat, marks_fit}
-use Rattle.proto_ast.proofs.Common.{is_allowed, is_named, FieldOf, OptionOf, BlockOf, blocks_in, closed_ranges, enum_ranges, extension_words, fields_from, fields_in, map_field, reserved_names_of, option_of_setting, options_in, plain_field, ranges_of, reserved_names, reserved_names_in, separated, settings_of, statement_fields, statement_options, statement_values, statements, values_in, Scene, text, value, json_name_of}
+use Rattle.proto_tree.proofs.Common.{Mark, flat_all, flat_behind, flat_header, flat_number, flat_option, flat_range, flat_reserved_list, flat_separated, flat_setting, flat_settings, flat_signed, flat_statement, flat_type, flat_up_to, flat_value, one as one_mark, only, text_mark, name, ReadsIn, Tree, End, Leaf, Block, flat, marks_fit_in}
+use Rattle.proto_ast.proofs.Common.{is_allowed, is_named, FieldOf, OptionOf, BlockOf, blocks_in, closed_ranges, enum_ranges, extension_words, fields_from, fields_in, map_field, reserved_names_of, options_in, setting_options, plain_field, ranges_of, reserved_names, reserved_names_in, separated, settings_of, statement_fields, statement_options, statement_values, statements, values_in, Scene, text, value, json_name_of}
 use Rattle.proto_ast.specs.declared.options.Element.{Element}
 use Rattle.proto_ast.specs.declared.options.Element.TheVariants as element
 use Rattle.proto_desc_numbers.specs.declared.flaw.Flaw.{Flaw}
 use Rattle.proto_desc_numbers.specs.declared.numbers.NumberAt.{NumberAt}
 use Rattle.proto_ast.specs.declared.ranges.RangeAt.{RangeAt}
 use Rattle.proto_desc_numbers.proofs.Common.{after_earlier, flaw_if, marked, broken_ranges, enum_range_of, first_of_signed, is_field_number, is_inside, is_sound_range, is_value_number, least_value, most_field, most_value, number_of_field, number_of_value, outside, overlaps, range_of, repeated_numbers, reserved_numbers, share, field_number_flaws}
-use Rattle.proto_desc_checks.specs.Common.{extend_flaws, flaws_of_extension, required_extensions, default_flaws, field_flaws, has_closed_enum, lacks_label, map_key_flaws, misplaced_options, option_flaws, packed_flaws, proto3_defaults, repeated_options, required_flaws, starts_wrong, type_flaws, type_token, wrong_default, alias_flaws, allows_alias, block_flaws, enum_flaws, extension_flaws, file_flaws, first_value_flaws, is_empty, json_clashes, message_flaws, name_flaws, reserved_again, value_number_flaws, value_option_flaws, with_reserved_name}
+use Rattle.proto_desc_checks.specs.Common.{bars_extend, extend_flaws, flaws_of_extension, required_extensions, default_flaws, field_flaws, has_closed_enum, lacks_label, map_key_flaws, misplaced_options, option_flaws, packed_flaws, proto3_defaults, repeated_options, required_flaws, starts_wrong, type_flaws, type_token, wrong_default, alias_flaws, allows_alias, block_flaws, enum_flaws, extension_flaws, file_flaws, first_value_flaws, is_empty, json_clashes, message_flaws, name_flaws, reserved_again, value_number_flaws, value_option_flaws, with_reserved_name}
+use Rattle.proto_tree.specs.declared.tree.Setting.{Setting}
+use Rattle.proto_tree.specs.declared.tree.Setting.TheVariants as setting
+use Rattle.proto_base.specs.declared.profile.Profile.{Profile}
 
 -- ---- lists
 
@@ -85,10 +88,14 @@ module _ (Here : ℕ → Type 0) where
   abbrev Options_here : List OptionOf → Type 0
   Options_here os = AllByRecursion (λ o. Here o.name) os
 
+  setting_here : (s : Setting) → Marks (flat_setting s) → Options_here (setting_options s)
+  setting_here (setting.Plain p) h = (h.0, tt)
+  setting_here (setting.Custom c) h = tt
+
   settings_here : (o : Option Settings) → Marks (flat_option flat_settings o) → Options_here (settings_of o)
   settings_here None h = tt
   settings_here (Some s) h =
-      all_mapped (λ x. Marks (flat_setting x)) (λ o. Here o.name) option_of_setting (λ x m. m.0) (separated s.list)
+      flattened (λ x. Marks (flat_setting x)) (λ o. Here o.name) setting_options setting_here (separated s.list)
       (separated_here class.Comma flat_setting s.list (left (flat_separated class.Comma flat_setting s.list) (one_mark class.RightBracket s.close) h.1))
 
   type_here : (t : FieldType) → Marks (flat_type t) → Here (type_token t)
@@ -161,7 +168,7 @@ module _ (Here : ℕ → Type 0) where
   fields_here oneof whole h = tt
 
   option_here : (s : Statement) → Marks (flat_statement s) → Options_here (statement_options s)
-  option_here (statement.Option o) h = (h.1.0, tt)
+  option_here (statement.Option o) h = setting_here o.setting (left (flat_setting o.setting) (one_mark class.Semicolon o.semicolon) h.1)
   option_here whole h = tt
 
   abbrev Value_here : Value → Type 0
@@ -335,7 +342,7 @@ module _ (Here : ℕ → Type 0) where
     options_stand : (on : Element) (os : List OptionOf) → Options_here os → Stand (option_flaws scene on os)
     options_stand on os h =
         join (misplaced_options scene on os) (repeated_options scene os)
-        (each (λ o. Here o.name) (λ o. flaw_if (not (is_allowed (text scene) on o)) kind.BadOption o.name) (λ o m. flaw_here (not (is_allowed (text scene) on o)) kind.BadOption o.name m) os h)
+        (each (λ o. Here o.name) (λ o. flaw_if (not (is_allowed scene.profile (text scene) on o)) kind.BadOption o.name) (λ o m. flaw_here (not (is_allowed scene.profile (text scene) on o)) kind.BadOption o.name m) os h)
         (marked_here kind.BadOption (map (λ o. o.name) os) (after_earlier bytes_eq (map (λ o. text scene o.name) os)) (all_mapped (λ o. Here o.name) Here (λ o. o.name) (λ o m. m) os h))
 
     required_stand : (o : Option ℕ) → Maybe_here o → Stand (required_flaws scene o)
@@ -439,7 +446,7 @@ module _ (Here : ℕ → Type 0) where
     extend_stands keyword within here m =
         let fs : List FieldOf = fields_in within in
         let f = all_fields_here 0 within m in
-        join (flaw_if scene.is_proto3 kind.NotInProto3 keyword) _ (flaw_here scene.is_proto3 kind.NotInProto3 keyword here)
+        join (flaw_if (bars_extend scene.profile scene.is_proto3) kind.NotInProto3 keyword) _ (flaw_here (bars_extend scene.profile scene.is_proto3) kind.NotInProto3 keyword here)
         (join (outside is_field_number (map (number_of_field scene) fs)) _ (outside_here is_field_number (map (number_of_field scene) fs) (all_mapped FieldHere (λ x. Here x.token) (number_of_field scene) (λ x h. h.of_number) fs f))
         (each FieldHere (flaws_of_extension scene) extension_stands fs f))
 
@@ -448,7 +455,7 @@ module _ (Here : ℕ → Type 0) where
       where
         go : (x : Header) → Marks (flat_header x) → Stand (block_flaws scene x b.within)
         go (header.Message x) m = message_stands b.within h.of_within
-        go (header.Oneof x) m = flaw_here (is_empty (statements b.within)) kind.EmptyOneof x.name m.1.0
+        go (header.Oneof x) m = flaw_here (is_empty (fields_in b.within)) kind.EmptyOneof x.name m.1.0
         go (header.Enum x) m = enum_stands x.name b.within m.1.0 h.of_within
         go (header.Service x) m = options_stand element.Service (options_in b.within) (parts_here (λ o. Here o.name) statement_options option_here b.within h.of_within)
         go (header.Method s) m = options_stand element.Method (options_in b.within) (parts_here (λ o. Here o.name) statement_options option_here b.within h.of_within)
@@ -465,10 +472,10 @@ each_mark : (P : Mark → Type 0) (ms : List Mark) → ((m : Mark) → Contains 
 each_mark P [] here = tt
 each_mark P (m ∷ ms) here = (here m (contains_head m ms), each_mark P ms (λ x c. here x (contains_later m x ms c)))
 
-pub flaw_within : (text : List ℕ) (tokens : List Token) (tree : Tree) → Reads text tokens tree → (scene : Scene) (f : Flaw) → Contains (file_flaws scene tree) f → f.token < length tokens
-flaw_within text tokens tree reads scene f c =
+pub flaw_within : (profile : Profile) (text : List ℕ) (tokens : List Token) (tree : Tree) → ReadsIn profile text tokens tree → (scene : Scene) (f : Flaw) → Contains (file_flaws scene tree) f → f.token < length tokens
+flaw_within profile text tokens tree reads scene f c =
     let bound = length tokens in
     let ls = map (lexeme_at text) tokens in
     let none : Lexeme = record { kind = token_kind.Word; text = [] } in
-    let marks = each_mark (λ m. m.at < bound) (flat tree) (λ m d. (let fits = marks_fit tree ls m none reads.spells d in omega (arith, fits.0, length-map tokens (lexeme_at text)))) in
+    let marks = each_mark (λ m. m.at < bound) (flat tree) (λ m d. (let fits = marks_fit_in profile tree ls m none reads.spells d in omega (arith, fits.0, length-map tokens (lexeme_at text)))) in
     All-contains (λ x. x.token < bound) (file_flaws scene tree) f (All-from_recursion (λ x. x.token < bound) (file_flaws scene tree) (file_stands (λ i. i < bound) scene tree marks)) c

@@ -6,3 +6,4 @@ mod JsonDigests
 pub mod KnownNames
 pub mod OptionNames
 pub mod Phases
+pub mod WrittenFlaws

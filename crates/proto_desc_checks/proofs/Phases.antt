@@ -15,7 +15,7 @@ use Rattle.proto_desc_numbers.specs.declared.flaw.Flaw.{Flaw}
 use Rattle.proto_desc_numbers.specs.declared.numbers.NumberAt.{NumberAt}
 use Rattle.proto_ast.specs.declared.ranges.RangeAt.{RangeAt}
 use Rattle.proto_desc_numbers.proofs.Common.{flaw, flaw_if, after_earlier, marked, number_of_field, number_of_value, range_of, enum_range_of, most_field, least_value, most_value, is_field_number, is_value_number, outside, is_sound_range, broken_ranges, is_inside, reserved_numbers, share, overlaps, repeated_numbers, field_number_flaws}
-use Rattle.proto_desc_checks.specs.Common.{extend_flaws, flaws_of_extension, required_extensions, option_flaws, type_token, lacks_label, required_flaws, no_map_keys, map_key_flaws, starts_wrong, has_closed_enum, may_be_packed, packed_flaws, may_default, wrong_default, default_flaws, proto3_defaults, type_flaws, field_flaws, name_flaws, json_clashes, extension_flaws, message_flaws, allows_alias, alias_flaws, first_value_flaws, is_empty, value_number_flaws, value_option_flaws, enum_flaws, block_flaws, file_flaws}
+use Rattle.proto_desc_checks.specs.Common.{bars_extend, extend_flaws, flaws_of_extension, required_extensions, option_flaws, type_token, lacks_label, required_flaws, no_map_keys, map_key_flaws, starts_wrong, has_closed_enum, may_be_packed, packed_flaws, may_default, wrong_default, default_flaws, proto3_defaults, type_flaws, field_flaws, name_flaws, json_clashes, extension_flaws, message_flaws, allows_alias, alias_flaws, first_value_flaws, is_empty, value_number_flaws, value_option_flaws, enum_flaws, block_flaws, file_flaws}
 
 abbrev IsOfChecks : Flaw → Type 0
 IsOfChecks f = phase_of f.kind ≡ 6
@@ -68,7 +68,7 @@ of_reserved rs ns = each_if (λ (n : NumberAt). list_any (is_inside n.number) rs
 
 of_options : (scene : Scene) (on : Element) (options : List OptionOf) → AreOfChecks (option_flaws scene on options)
 of_options scene on options =
-    both (each_if (λ (o : OptionOf). not (is_allowed (text scene) on o)) kind.BadOption (λ o. o.name) options refl)
+    both (each_if (λ (o : OptionOf). not (is_allowed scene.profile (text scene) on o)) kind.BadOption (λ o. o.name) options refl)
     (each_marked kind.BadOption (map (λ (o : OptionOf). o.name) options) (after_earlier bytes_eq (map (λ (o : OptionOf). text scene o.name) options)) refl)
 
 of_required : (scene : Scene) (label : Option ℕ) → AreOfChecks (required_flaws scene label)
@@ -173,7 +173,7 @@ of_required_extension scene (Some t) = one_if (bytes_eq (text scene t) (codes "r
 
 of_extend : (scene : Scene) (keyword : ℕ) (within : Tree) → AreOfChecks (extend_flaws scene keyword within)
 of_extend scene keyword within =
-    both (one_if scene.is_proto3 kind.NotInProto3 keyword refl)
+    both (one_if (bars_extend scene.profile scene.is_proto3) kind.NotInProto3 keyword refl)
     (both (of_limits is_field_number (map (number_of_field scene) (fields_in within)))
     (each (flaws_of_extension scene) (fields_in within) (λ f. both (of_required_extension scene f.label) (of_field scene element.Extension f))))
 
@@ -181,7 +181,7 @@ of_extend scene keyword within =
 
 of_block : (scene : Scene) (h : Header) (within : Tree) → AreOfChecks (block_flaws scene h within)
 of_block scene (header.Message h) within = of_message scene within
-of_block scene (header.Oneof h) within = one_if (is_empty (statements within)) kind.EmptyOneof h.name refl
+of_block scene (header.Oneof h) within = one_if (is_empty (fields_in within)) kind.EmptyOneof h.name refl
 of_block scene (header.Enum h) within = of_enum scene h.name within
 of_block scene (header.Service h) within = of_options scene element.Service (options_in within)
 of_block scene (header.Method s) within = of_options scene element.Method (options_in within)

@@ -20,10 +20,12 @@ use Rattle.proto_desc_numbers.specs.NumberFlaws.{is_within, most_value, least_va
 
 -- ---- options of any element
 
--- 27 BadOption at each option that the element does not have, or whose value is of another kind
+-- 27 BadOption at each option that the element does not have in the file's language, or whose value
+-- is of another kind
 abbrev pub misplaced_options : Scene → Element → List OptionOf → List Flaw
 misplaced_options scene on options =
-    flat_map (λ o. flaw_if (not (is_allowed (text scene) on o)) kind.BadOption o.name) options
+    flat_map (λ o. flaw_if
+    (not (is_allowed scene.profile (text scene) on o)) kind.BadOption o.name) options
 
 -- 27 BadOption at each option that an earlier one of the element names
 abbrev pub repeated_options : Scene → List OptionOf → List Flaw

@@ -5,6 +5,8 @@ use Rattle.std.specs.List.{list_any}
 use Rattle.std.specs.Ordering.{int_eq}
 use Rattle.std.specs.Str.{bytes_eq}
 use Rattle.proto_base.specs.declared.fault.FaultKind.TheVariants as kind
+use Rattle.proto_base.specs.declared.profile.Profile.{Profile}
+use Rattle.proto_base.specs.declared.profile.Profile.TheVariants as profile
 use Rattle.proto_tree.specs.declared.tree.Value.{Value}
 use Rattle.proto_tree.specs.declared.piece.Header.{Header}
 use Rattle.proto_tree.specs.declared.piece.Header.TheVariants as header
@@ -121,11 +123,18 @@ enum_flaws scene name within =
 
 -- ---- `extend` blocks
 
+-- whether a file, which is proto3 or not, may have no `extend` block: in the core language a proto3
+-- file may have none
+abbrev pub bars_extend : Profile → Bool → Bool
+bars_extend profile.Core proto3 = proto3
+bars_extend profile.AsWritten proto3 = false
+
 -- what is wrong with an `extend` block, the token of whose keyword is given: 31 NotInProto3 there
--- in a proto3 file, the numbers of its extensions that no field may have, and each extension
+-- in a file that may have none, the numbers of its extensions that no field may have, and each
+-- extension
 abbrev pub extend_flaws : Scene → ℕ → Tree → List Flaw
 extend_flaws scene keyword within =
-    flaw_if scene.is_proto3 kind.NotInProto3 keyword
+    flaw_if (bars_extend scene.profile scene.is_proto3) kind.NotInProto3 keyword
     ++ (outside is_field_number (map (number_of_field scene) (fields_in within))
     ++ flat_map (flaws_of_extension scene) (fields_in within))
 
@@ -135,7 +144,7 @@ extend_flaws scene keyword within =
 abbrev pub block_flaws : Scene → Header → Tree → List Flaw
 block_flaws scene (header.Message h) within = message_flaws scene within
 block_flaws scene (header.Oneof h) within =
-    flaw_if (is_empty (statements within)) kind.EmptyOneof h.name
+    flaw_if (is_empty (fields_in within)) kind.EmptyOneof h.name
 block_flaws scene (header.Enum h) within = enum_flaws scene h.name within
 block_flaws scene (header.Service h) within = option_flaws scene element.Service (options_in within)
 block_flaws scene (header.Method s) within = option_flaws scene element.Method (options_in within)

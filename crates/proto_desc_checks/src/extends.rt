@@ -1,4 +1,5 @@
-//! What is wrong with an `extend` block: its keyword in a proto3 file, and its extensions.
+//! What is wrong with an `extend` block: its keyword in a proto3 file of the core language, and its
+//! extensions.
 
 ghost use Rattle.std.specs.Prelude.{◌≡◌, ◌++◌, flat_map, map, OnOk};
 ghost use Rattle.proto_tree.specs.File.{extension_tree, trees};
@@ -6,11 +7,11 @@ ghost use Rattle.proto_ast.specs.Parts.{fields_in};
 ghost use Rattle.proto_ast.specs.Views.{field_of};
 ghost use Rattle.proto_desc_numbers.specs.NumberFlaws.{is_field_number, number_of_field, outside};
 ghost use Rattle.proto_desc_checks.specs.FieldFlaws.{flaws_of_extension, required_extensions};
-ghost use Rattle.proto_desc_checks.specs.FileFlaws.{extend_flaws};
+ghost use Rattle.proto_desc_checks.specs.FileFlaws.{bars_extend, extend_flaws};
 
 use crate::fields::add_field_flaws;
 use proto_ast::{Element, FieldAt, Scene, extension_fields};
-use proto_base::{FaultKind, NoMemory};
+use proto_base::{FaultKind, NoMemory, Profile};
 use proto_desc_numbers::{Flaw, add_if, add_outside_fields, field_numbers};
 use proto_tree::Extend;
 use std::alloc::Global;
@@ -69,6 +70,16 @@ fn add_numbers(
     add_outside_fields(found, &numbers)
 }
 
+// Whether the file may have no `extend` block.
+fn bars_extend(scene: &Scene) -> bool
+    ensures { result ≡ bars_extend scene.now.profile scene.now.is_proto3 }
+{
+    match scene.profile() {
+        Profile::Core => scene.is_proto3(),
+        Profile::AsWritten => false,
+    }
+}
+
 // What is wrong with an `extend` block of these fields.
 fn add_flaws_with_fields(
     alloc: Global,
@@ -83,12 +94,8 @@ fn add_flaws_with_fields(
         ++ extend_flaws scene.now extend.now.keyword
         (trees extension_tree extend.now.fields.items)) }
 {
-    add_if(
-        found,
-        scene.is_proto3(),
-        FaultKind::NotInProto3,
-        extend.keyword,
-    )?;
+    let is_barred = bars_extend(scene);
+    add_if(found, is_barred, FaultKind::NotInProto3, extend.keyword)?;
     add_numbers(alloc, found, scene, fields)?;
     add_extensions(alloc, found, scene, fields)
 }

@@ -1,18 +1,20 @@
 //! What is wrong with a file, block by block.
 
 ghost use Rattle.std.specs.Prelude.{◌≡◌, ◌++◌, IfOk, OnOk};
-ghost use Rattle.proto_tree.specs.File.{enum_tree, extend_tree, item_tree, member_tree, message_tree, method_tree, oneof_tree, service_item_tree, service_tree, tree_of_file, trees};
-ghost use Rattle.proto_desc_checks.specs.FileFlaws.{file_flaws, flaws_in_blocks};
+ghost use Rattle.proto_tree.specs.File.{enum_tree, extend_tree, item_tree, member_tree, message_tree, method_tree, oneof_item_tree, oneof_tree, service_item_tree, service_tree, tree_of_file, trees};
+ghost use Rattle.proto_desc_checks.specs.FileFlaws.{file_flaws, flaws_in_blocks, is_empty};
+ghost use Rattle.proto_ast.specs.Parts.{fields_in};
 
 use crate::enums::add_enum_flaws;
 use crate::extends::add_extend_flaws;
 use crate::messages::add_message_flaws;
 use crate::options::add_option_flaws;
-use proto_ast::{Element, Scene, file_options, method_options, service_options};
+use proto_ast::{Element, Scene, file_options, method_options, next_field, service_options};
 use proto_base::{FaultKind, NoMemory};
 use proto_desc_numbers::{Flaw, add_if};
 use proto_tree::{
-    Enum, Extend, File, Item, Member, Message, Method, MethodEnd, Oneof, Service, ServiceItem,
+    Enum, Extend, File, Item, Member, Message, Method, MethodEnd, Oneof, OneofItem, Service,
+    ServiceItem,
 };
 use std::alloc::Global;
 
@@ -30,12 +32,25 @@ fn add_enum(
     add_enum_flaws(alloc, found, scene, enumeration)
 }
 
+fn has_no_field(items: &[OneofItem]) -> bool
+    ensures { result ≡ is_empty (fields_in (trees oneof_item_tree items.now)) }
+{
+    match next_field(items) {
+        Some(_) => false,
+        None => true,
+    }
+}
+
 fn add_oneof(found: &mut Vec<Flaw>, scene: &Scene, oneof: &Oneof) -> Result<(), NoMemory>
     ensures { OnOk result (found.new.items ≡ found.old.items
         ++ flaws_in_blocks scene.now (oneof_tree oneof.now)) }
 {
-    let is_empty = oneof.members.is_empty();
-    add_if(found, is_empty, FaultKind::EmptyOneof, oneof.name)
+    add_if(
+        found,
+        has_no_field(&oneof.members),
+        FaultKind::EmptyOneof,
+        oneof.name,
+    )
 }
 
 // ---- `extend` blocks

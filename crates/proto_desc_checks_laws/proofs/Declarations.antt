@@ -372,13 +372,13 @@ module _ (declared : List Placed) where
 -- ---- the laws
 
 pub blocks_are_declared : BlocksAreDeclared
-blocks_are_declared tree ls spells b c =
+blocks_are_declared profile tree ls spells b c =
     let declared = file_placed (items_in tree) in
     let all = items_are declared (map (λ t. Token t) (package_of (items_in tree))) context.Start refl tree spells.well_formed (λ p d. d) in
     All-contains (Block_is declared) (blocks_in tree) b (All-from_recursion (Block_is declared) (blocks_in tree) all) c
 
 pub fields_are_declared : FieldsAreDeclared
-fields_are_declared tree ls spells b f cb cf = by b.header refl (blocks_are_declared tree ls spells b cb)
+fields_are_declared profile tree ls spells b f cb cf = by b.header refl (blocks_are_declared profile tree ls spells b cb)
   where
     by : (h : Header) → b.header ≡ h → IsDeclared (file_placed (items_in tree)) h b.within → (path : List (Source ℕ)) × IsDeclaredIn (file_placed (items_in tree)) path b f
     by (header.Message h) is d = (d.0 ++ Token h.name ∷ [], inl (d.2 f cf))
@@ -388,7 +388,7 @@ fields_are_declared tree ls spells b f cb cf = by b.header refl (blocks_are_decl
     by whole is d = absurd (none_in (fields_in b.within) f d.2 cf)
 
 pub values_are_declared : ValuesAreDeclared
-values_are_declared tree ls spells b v cb cv = by b.header refl (blocks_are_declared tree ls spells b cb)
+values_are_declared profile tree ls spells b v cb cv = by b.header refl (blocks_are_declared profile tree ls spells b cb)
   where
     by : (k : Header) → b.header ≡ k → IsDeclared (file_placed (items_in tree)) k b.within
         → (h : Heading) × (path : List (Source ℕ)) × (b.header ≡ header.Enum h) × Contains (file_placed (items_in tree)) (place path (Token h.name) Enum) × Contains (file_placed (items_in tree)) (place path (Token v.name) Value)

@@ -9,7 +9,7 @@ use Rattle.proto_tree.specs.declared.piece.Statement.{Statement}
 use Rattle.proto_tree.specs.declared.piece.Statement.TheVariants as statement
 use Rattle.proto_tree.specs.declared.tree.Field.{Field}
 use Rattle.proto_tree.specs.declared.tree.MapField.{MapField}
-use Rattle.proto_tree.proofs.Common.{Mark, mark, name, one, only, flat_field, flat_header, flat_map_field, flat_option, flat_settings, flat_statement, flat_type, Numbered, Tree, End, Leaf, Block, flat, numbered_append, numbered_at, trees_are_numbered}
+use Rattle.proto_tree.proofs.Common.{Mark, mark, name, one, only, flat_field, flat_header, flat_map_field, flat_option, flat_settings, flat_statement, flat_type, Numbered, Tree, End, Leaf, Block, flat, numbered_append, numbered_at, trees_are_numbered_in}
 use Rattle.proto_names_rules.proofs.RisingLists.{Rising, rising_append, rising_pairs, rising_within}
 use Rattle.proto_ast.specs.Parts.{BlockOf, FieldOf, blocks_in, fields_from, fields_in, map_field, plain_field, statement_fields, statements}
 use Rattle.proto_desc_checks_laws.specs.Declarations.{FieldNamesRise}
@@ -122,6 +122,6 @@ blocks_numbered (Block h i inner j rest) n num =
     ((s.a, s.inner), both IsNumbered (blocks_in inner) (blocks_in rest) (blocks_numbered inner s.a s.inner) (blocks_numbered rest s.r s.behind))
 
 pub field_names_rise : FieldNamesRise
-field_names_rise tree ls spells b c =
-    let num = All-contains IsNumbered (blocks_in tree) b (All-from_recursion IsNumbered (blocks_in tree) (blocks_numbered tree 0 (trees_are_numbered tree ls spells))) c in
+field_names_rise profile tree ls spells b c =
+    let num = All-contains IsNumbered (blocks_in tree) b (All-from_recursion IsNumbered (blocks_in tree) (blocks_numbered tree 0 (trees_are_numbered_in profile tree ls spells))) c in
     rising_pairs (λ (f : FieldOf). f.name) (λ f. Unit {0}) (fields_in b.within) num.0 (num.0 + length (flat b.within)) (fields_rise 0 b.within num.0 num.1)

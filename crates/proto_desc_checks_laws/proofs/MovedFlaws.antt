@@ -15,8 +15,8 @@ use Rattle.proto_tree.specs.declared.tree.RangeEnd.TheVariants as range_end
 use Rattle.proto_tree.specs.declared.tree.Signed.{Signed}
 use Rattle.proto_tree.specs.declared.tree.UpTo.{UpTo}
 use Rattle.proto_tree.specs.declared.tree.Value.{Value}
-use Rattle.proto_tree.proofs.Common.{Move, move_constant, move_header, move_option, move_range, move_range_end, move_separated, move_signed, move_statement, move_tree, move_type, move_up_to, move_value, Tree, first_of}
-use Rattle.proto_ast.proofs.Common.{number_value, fits_kind, idempotency_levels, is_allowed, is_named, is_one_of, is_text_value, is_word_of, optimize_modes, text_of_constant, truth_named, value_kind_of, word_of, is_true, FieldOf, OptionOf, blocks_in, closed_ranges, enum_ranges, extension_words, fields_in, options_in, reserved_names_in, settings_of, statements, values_in, Scene, number_at, signed_value, text, up_to_cap, value, is_label_word, json_name_of, written_or}
+use Rattle.proto_tree.proofs.Common.{Move, move_constant, move_header, move_option, move_range, move_range_end, move_separated, move_signed, move_tree, move_type, move_up_to, move_value, Tree, first_of}
+use Rattle.proto_ast.proofs.Common.{c_types, number_value, fits_kind, idempotency_levels, is_allowed, is_named, is_one_of, is_text_value, is_word_of, optimize_modes, text_of_constant, truth_named, value_kind_as, word_of, is_true, FieldOf, OptionOf, blocks_in, closed_ranges, enum_ranges, extension_words, fields_in, options_in, reserved_names_in, settings_of, statements, values_in, Scene, number_at, signed_value, text, up_to_cap, value, is_label_word, json_name_of, written_or}
 use Rattle.proto_ast.specs.declared.options.Element.{Element}
 use Rattle.proto_ast.specs.declared.options.Element.TheVariants as element
 use Rattle.proto_ast.specs.declared.options.ValueKind.{ValueKind}
@@ -25,9 +25,9 @@ use Rattle.proto_desc_numbers.specs.declared.flaw.Flaw.{Flaw}
 use Rattle.proto_desc_numbers.specs.declared.numbers.NumberAt.{NumberAt}
 use Rattle.proto_ast.specs.declared.ranges.RangeAt.{RangeAt}
 use Rattle.proto_desc_numbers.proofs.Common.{after_earlier, flaw_if, marked, bound_of, broken_ranges, end_of, enum_range_of, first_of_signed, is_field_number, is_inside, is_value_number, least_value, most_field, most_value, number_of_field, number_of_value, outside, overlaps, range_of, repeated_numbers, reserved_numbers, share, field_number_flaws}
-use Rattle.proto_desc_checks.proofs.Common.{default_flaws, enum_of_type, extend_flaws, field_flaws, flaws_of_extension, holds_number, is_default_of, is_of_proto2, is_packable_type, is_past_zero, is_scalar_default, is_unpackable, is_value_of, lacks_label, map_key_flaws, may_be_packed, may_default, no_map_keys, option_flaws, required_extensions, required_flaws, type_flaws, type_token, wrong_default, allows_alias, block_flaws, enum_flaws, file_flaws, first_value_flaws, is_empty, json_clashes, message_flaws, name_flaws, value_number_flaws, value_option_flaws}
+use Rattle.proto_desc_checks.proofs.Common.{default_flaws, enum_of_type, extend_flaws, field_flaws, flaws_of_extension, holds_number, is_default_of, is_of_proto2, is_packable_type, is_past_zero, is_scalar_default, is_unpackable, is_value_of, lacks_label, map_key_flaws, may_be_packed, may_default, no_map_keys, option_flaws, required_extensions, required_flaws, type_flaws, type_token, wrong_default, allows_alias, bars_extend, block_flaws, enum_flaws, file_flaws, first_value_flaws, is_empty, json_clashes, message_flaws, name_flaws, value_number_flaws, value_option_flaws}
 use Rattle.proto_desc_checks_laws.specs.Imports.{ImportsMoveFlaws, IsMoved, reindexed_flaw}
-use Rattle.proto_desc_checks_laws.proofs.MovedParts.{any_kept, closed_ranges_moved, empty_kept, enum_ranges_moved, extension_words_moved, fields_moved, file_blocks_moved, file_options_moved, find_moved, flat_kept, flat_map_moved, maps_kept, maps_moved, move_block_of, move_field_of, move_option_of, none_kept, options_moved, reserved_names_moved, settings_moved, some_kept, statements_moved, values_moved}
+use Rattle.proto_desc_checks_laws.proofs.MovedParts.{any_kept, closed_ranges_moved, empty_kept, enum_ranges_moved, extension_words_moved, fields_moved, file_blocks_moved, file_options_moved, find_moved, flat_kept, flat_map_moved, maps_kept, maps_moved, move_block_of, move_field_of, move_option_of, none_kept, options_moved, reserved_names_moved, settings_moved, some_kept, values_moved}
 use Rattle.proto_desc_checks.proofs.OptionNames.{earlier_map}
 use Rattle.proto_desc_checks_laws.proofs.RenamedFlaws.{numbered}
 
@@ -171,10 +171,14 @@ module _ (g : Move) (a b : Scene) (is : IsMoved g a b) where
   fits_moved (Some value_kind.Truth) c = ap (λ w. is_some (option_and_then truth_named w)) (word_moved c)
   fits_moved (Some value_kind.OptimizeMode) c = ap (is_word_of optimize_modes) (word_moved c)
   fits_moved (Some value_kind.IdempotencyLevel) c = ap (is_word_of idempotency_levels) (word_moved c)
+  fits_moved (Some value_kind.CType) c = ap (is_word_of c_types) (word_moved c)
   fits_moved (Some value_kind.Default) c = refl
 
-  allowed_moved : (on : Element) (o : OptionOf) → is_allowed (text b) on (move_option_of g o) ≡ is_allowed (text a) on o
-  allowed_moved on o = ap (λ w. fits_kind (text b) (value_kind_of on w) (move_constant g o.value)) (is.texts o.name) ∙ fits_moved (value_kind_of on (text a o.name)) o.value
+  allowed_moved : (on : Element) (o : OptionOf) → is_allowed b.profile (text b) on (move_option_of g o) ≡ is_allowed a.profile (text a) on o
+  allowed_moved on o =
+      ap (λ p. is_allowed p (text b) on (move_option_of g o)) (sym is.profile)
+      ∙ ap (λ w. fits_kind (text b) (value_kind_as a.profile on w) (move_constant g o.value)) (is.texts o.name)
+      ∙ fits_moved (value_kind_as a.profile on (text a o.name)) o.value
 
   pub named_moved : (w : List ℕ) (o : OptionOf) → is_named (text b) w (move_option_of g o) ≡ is_named (text a) w o
   named_moved w o = ap (λ v. bytes_eq v w) (is.texts o.name)
@@ -363,7 +367,7 @@ module _ (g : Move) (a b : Scene) (is : IsMoved g a b) where
   extend_moved keyword within =
       let fs : List FieldOf = fields_in within in
       let f : fields_in (move_tree g within) ≡ map (move_field_of g) fs = fields_moved g 0 within in
-      join (if_moved g kind.NotInProto3 keyword version)
+      join (if_moved g kind.NotInProto3 keyword (ap₂ bars_extend (sym is.profile) version))
       (join (outside_moved g is_field_number (map (number_of_field a) fs)
       (ap (map (number_of_field b)) f ∙ maps_moved (move_field_of g) (move_number_at g) (number_of_field a) (number_of_field b) field_number_moved fs))
       (each g (move_field_of g) (flaws_of_extension a) (flaws_of_extension b) extension_moved fs f))
@@ -372,7 +376,7 @@ module _ (g : Move) (a b : Scene) (is : IsMoved g a b) where
 
   pub block_moved : (h : Header) (within : Tree) → Moves g (block_flaws b (move_header g h) (move_tree g within)) (block_flaws a h within)
   block_moved (header.Message h) within = message_moved within
-  block_moved (header.Oneof h) within = if_moved g kind.EmptyOneof h.name (ap is_empty (statements_moved g within) ∙ empty_kept (move_statement g) (statements within))
+  block_moved (header.Oneof h) within = if_moved g kind.EmptyOneof h.name (ap is_empty (fields_moved g 0 within) ∙ empty_kept (move_field_of g) (fields_in within))
   block_moved (header.Enum h) within = enum_flaws_moved h.name within
   block_moved (header.Service h) within = option_flaws_moved element.Service (options_in within) (options_moved g within)
   block_moved (header.Method s) within = option_flaws_moved element.Method (options_in within) (options_moved g within)

@@ -11,9 +11,11 @@ use Rattle.proto_tree.specs.declared.piece.Statement.{Statement}
 use Rattle.proto_tree.specs.declared.piece.Statement.TheVariants as statement
 use Rattle.proto_tree.specs.declared.piece.Header.TheVariants as header
 use Rattle.proto_tree.proofs.Common.{Move, move_behind, move_constant, move_header, move_option, move_range, move_reserved_list, move_separated, move_setting, move_settings, move_signed, move_statement, move_tree, move_type, move_value, Tree, End, Leaf, Block}
-use Rattle.proto_ast.specs.Parts.{BlockOf, FieldOf, OptionOf, blocks_in, closed_ranges, enum_ranges, extension_ranges, extension_words, fields_from, reserved_names_of, option_of_setting, options_in, ranges_of, reserved_names, reserved_names_in, reserved_ranges, separated, settings_of, statement_fields, statement_options, statement_values, statements, values_in}
+use Rattle.proto_ast.specs.Parts.{BlockOf, FieldOf, OptionOf, blocks_in, closed_ranges, enum_ranges, extension_ranges, extension_words, fields_from, reserved_names_of, options_in, setting_options, ranges_of, reserved_names, reserved_names_in, reserved_ranges, separated, settings_of, statement_fields, statement_options, statement_values, statements, values_in}
 use Rattle.proto_desc_checks.specs.FileFlaws.{is_empty}
 use Rattle.proto_desc_checks_laws.specs.Imports.{without_imports}
+use Rattle.proto_tree.specs.declared.tree.Setting.{Setting}
+use Rattle.proto_tree.specs.declared.tree.Setting.TheVariants as setting
 
 -- ---- lists
 
@@ -96,12 +98,16 @@ module _ (g : Move) where
 
   -- ---- options
 
+  pub setting_options_moved : (s : Setting) → setting_options (move_setting g s) ≡ map (move_option_of g) (setting_options s)
+  setting_options_moved (setting.Plain p) = refl
+  setting_options_moved (setting.Custom c) = refl
+
   pub settings_moved : (o : Option Settings) → settings_of (move_option (move_settings g) o) ≡ map (move_option_of g) (settings_of o)
   settings_moved None = refl
-  settings_moved (Some s) = ap (map option_of_setting) (separated_moved (move_setting g) s.list) ∙ maps_moved (move_setting g) (move_option_of g) option_of_setting option_of_setting (λ x. refl) (separated s.list)
+  settings_moved (Some s) = ap (flat_map setting_options) (separated_moved (move_setting g) s.list) ∙ flat_map_moved (move_setting g) (move_option_of g) setting_options setting_options setting_options_moved (separated s.list)
 
   pub statement_options_moved : (s : Statement) → statement_options (move_statement g s) ≡ map (move_option_of g) (statement_options s)
-  statement_options_moved (statement.Option o) = refl
+  statement_options_moved (statement.Option o) = setting_options_moved o.setting
   statement_options_moved _ = refl
 
   pub options_moved : (t : Tree) → options_in (move_tree g t) ≡ map (move_option_of g) (options_in t)

@@ -13,7 +13,7 @@ use Rattle.proto_desc_numbers.specs.declared.flaw.Flaw.{Flaw}
 use Rattle.proto_desc_numbers.specs.declared.numbers.NumberAt.{NumberAt}
 use Rattle.proto_ast.specs.declared.ranges.RangeAt.{RangeAt}
 use Rattle.proto_desc_numbers.proofs.Common.{after_earlier, flaw, flaw_if, marked, broken_ranges, enum_range_of, field_number_flaws, is_field_number, is_value_number, least_value, most_field, most_value, number_of_field, number_of_value, outside, overlaps, range_of, repeated_numbers, reserved_numbers, share}
-use Rattle.proto_desc_checks.proofs.Common.{default_flaws, extend_flaws, field_flaws, flaws_of_extension, has_closed_enum, lacks_label, map_key_flaws, may_be_packed, may_default, option_flaws, required_extensions, required_flaws, starts_wrong, type_flaws, type_token, wrong_default, alias_flaws, allows_alias, block_flaws, enum_flaws, file_flaws, first_value_flaws, json_clashes, message_flaws, name_flaws, value_number_flaws, value_option_flaws}
+use Rattle.proto_desc_checks.proofs.Common.{default_flaws, extend_flaws, field_flaws, flaws_of_extension, has_closed_enum, lacks_label, map_key_flaws, may_be_packed, may_default, option_flaws, required_extensions, required_flaws, starts_wrong, type_flaws, type_token, wrong_default, alias_flaws, allows_alias, bars_extend, block_flaws, enum_flaws, file_flaws, first_value_flaws, json_clashes, message_flaws, name_flaws, value_number_flaws, value_option_flaws}
 use Rattle.proto_desc_checks_laws.specs.Renamed.{but_names, is_of_names}
 use Rattle.proto_desc_checks_laws.specs.NamedFlaws.{FlawsOfNames, NoFlawComesIn, flaws_of_block, of_names}
 
@@ -70,7 +70,7 @@ either false h k = k
 module _ (s : Scene) where
   options_none : (on : Element) (os : List OptionOf) → Leaves (option_flaws s on os) []
   options_none on os =
-      none_before (each_none (λ (o : OptionOf). flaw_if (not (is_allowed (text s) on o)) kind.BadOption o.name) (λ o. if_none kind.BadOption refl _ o.name) os)
+      none_before (each_none (λ (o : OptionOf). flaw_if (not (is_allowed s.profile (text s) on o)) kind.BadOption o.name) (λ o. if_none kind.BadOption refl _ o.name) os)
       (marked_none kind.BadOption refl (map (λ (o : OptionOf). o.name) os) (after_earlier bytes_eq (map (λ (o : OptionOf). text s o.name) os)))
 
   required_none : (o : Option ℕ) → Leaves (required_flaws s o) []
@@ -165,7 +165,7 @@ module _ (s : Scene) where
 
   extend_leaves : (keyword : ℕ) (within : Tree) → Leaves (extend_flaws s keyword within) (flat_map (default_flaws s) (fields_in within))
   extend_leaves keyword within =
-      none_before (if_none kind.NotInProto3 refl s.is_proto3 keyword)
+      none_before (if_none kind.NotInProto3 refl (bars_extend s.profile s.is_proto3) keyword)
       (none_before (outside_none is_field_number (map (number_of_field s) (fields_in within)))
       (each (flaws_of_extension s) (default_flaws s) (λ f. none_before (required_extension_none f.label) (field_leaves element.Extension f)) (fields_in within)))
 

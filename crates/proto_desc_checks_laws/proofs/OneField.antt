@@ -1,6 +1,6 @@
 -- A token names one field, or an option of one field (for the crates above).
 use Rattle.std.proofs.Common.{◌≡◌, ℕ, suc, ◌+◌, List, [], ◌∷◌, ◌++◌, length, map, flat_map, Option, Some, None, refl, sym, subst, ◌∙◌, arith, inl, inr, Contains}
-use Rattle.proto_base.proofs.Common.{Contains-append_cases, Contains-append_left, Contains-append_right, contains_cases, contains_head, contains_later, from_map, from_flat_map}
+use Rattle.proto_base.proofs.Common.{Contains-append_cases, Contains-append_left, Contains-append_right, contains_cases, contains_head, contains_later, from_flat_map}
 use Rattle.proto_tree.specs.declared.class.Class.TheVariants as class
 use Rattle.proto_tree.specs.declared.class.Expected.TheVariants as want
 use Rattle.proto_tree.specs.declared.piece.Header.TheVariants as header
@@ -10,9 +10,11 @@ use Rattle.proto_tree.specs.declared.tree.Behind.{Behind}
 use Rattle.proto_tree.specs.declared.tree.Field.{Field}
 use Rattle.proto_tree.specs.declared.tree.MapField.{MapField}
 use Rattle.proto_tree.specs.declared.tree.Setting.{Setting}
+use Rattle.proto_tree.specs.declared.tree.Setting.TheVariants as setting
+use Rattle.proto_tree.specs.Flat.{flat_plain}
 use Rattle.proto_tree.specs.declared.tree.Settings.{Settings}
-use Rattle.proto_tree.proofs.Common.{Mark, mark, name, one, only, flat_all, flat_behind, flat_constant, flat_field, flat_header, flat_map_field, flat_option, flat_separated, flat_setting, flat_settings, flat_statement, flat_type, Numbered, Tree, End, Leaf, Block, flat, numbered_append, numbered_at, trees_are_numbered}
-use Rattle.proto_ast.specs.Parts.{BlockOf, FieldOf, OptionOf, blocks_in, fields_from, map_field, option_of_setting, plain_field, separated, settings_of, statement_fields, statements}
+use Rattle.proto_tree.proofs.Common.{Mark, mark, name, one, only, flat_all, flat_behind, flat_constant, flat_field, flat_header, flat_map_field, flat_option, flat_separated, flat_setting, flat_settings, flat_statement, flat_type, Numbered, Tree, End, Leaf, Block, flat, numbered_append, numbered_at, trees_are_numbered_in}
+use Rattle.proto_ast.specs.Parts.{BlockOf, FieldOf, OptionOf, blocks_in, fields_from, map_field, plain_field, separated, setting_options, settings_of, statement_fields, statements}
 use Rattle.proto_desc_checks_laws.specs.OneField.{IsSameField, NamesAreOfOneField, OptionsAreOfOneField}
 
 -- the statements of a tree, with those in its blocks
@@ -119,8 +121,14 @@ field_statement n (Block whole i within j rest) f c = let r = behind_block withi
 
 -- ---- its name and options
 
-setting_mark : (y : Setting) → Contains (flat_setting y) (mark want.OptionName y.name)
-setting_mark y = contains_head (mark want.OptionName y.name) (one class.Equals y.equals ++ flat_constant y.value)
+setting_mark : (y : Setting) (x : OptionOf) → Contains (setting_options y) x → Contains (flat_setting y) (mark want.OptionName x.name)
+setting_mark (setting.Plain p) x c =
+    let o : OptionOf = record { name = p.name; value = p.value } in
+    elim (contains_cases o x [] c) [
+      | inl e ↦ subst (λ (z : OptionOf). Contains (flat_plain p) (mark want.OptionName z.name)) e (contains_head (mark want.OptionName p.name) (one class.Equals p.equals ++ flat_constant p.value))
+      | inr d ↦ absurd (omega (arith, d.1))
+    ]
+setting_mark (setting.Custom q) x c = absurd (omega (arith, c.1))
 
 behind_mark : (bs : List (Behind Setting)) (y : Setting) (m : Mark) → Contains (map (λ b. b.item) bs) y → Contains (flat_setting y) m → Contains (flat_all (flat_behind class.Comma flat_setting) bs) m
 behind_mark [] y m c h = absurd (omega (arith, c.1))
@@ -134,9 +142,9 @@ behind_mark (b ∷ bs) y m c h = elim (contains_cases b.item y (map (λ b. b.ite
 settings_mark : (o : Option Settings) (x : OptionOf) → Contains (settings_of o) x → Contains (flat_option flat_settings o) (mark want.OptionName x.name)
 settings_mark None x c = absurd (omega (arith, c.1))
 settings_mark (Some s) x c =
-    let y = from_map option_of_setting (separated s.list) x c in
+    let y = from_flat_map setting_options (separated s.list) x c in
     let m : Mark = mark want.OptionName x.name in
-    let here : Contains (flat_setting y.0) (mark want.OptionName x.name) = subst (λ (z : OptionOf). Contains (flat_setting y.0) (mark want.OptionName z.name)) y.2 (setting_mark y.0) in
+    let here : Contains (flat_setting y.0) (mark want.OptionName x.name) = setting_mark y.0 x y.2 in
     let items : Contains (flat_separated class.Comma flat_setting s.list) (mark want.OptionName x.name) = elim (contains_cases s.list.first y.0 (map (λ b. b.item) s.list.rest) y.1) [
       | inl e ↦ Contains-append_left (flat_setting s.list.first) (flat_all (flat_behind class.Comma flat_setting) s.list.rest) m (subst (λ (z : Setting). Contains (flat_setting z) m) (sym e) here)
       | inr d ↦ Contains-append_right (flat_setting s.list.first) (flat_all (flat_behind class.Comma flat_setting) s.list.rest) m (behind_mark s.list.rest y.0 m d here)
@@ -219,18 +227,18 @@ same_field o p (statement.MapField x) f g c d = elim (contains_cases (map_field 
 same_field o p _ f g c d = absurd (omega (arith, c.1))
 
 pub names_are_of_one_field : NamesAreOfOneField
-names_are_of_one_field t ls spells b d f g cb cd cf cg e =
+names_are_of_one_field profile t ls spells b d f g cb cd cf cg e =
     let r = field_statement 0 b.within f cf in
     let u = field_statement 0 d.within g cg in
     let same =
-    one_statement 0 t (trees_are_numbered t ls spells) r.s u.s (blocks_within t b cb r.s r.there) (blocks_within t d cd u.s u.there) (mark want.Name f.name) (mark want.Name g.name) (name_mark r.oneof r.s f r.field) (name_mark u.oneof u.s g u.field) e in
+    one_statement 0 t (trees_are_numbered_in profile t ls spells) r.s u.s (blocks_within t b cb r.s r.there) (blocks_within t d cd u.s u.there) (mark want.Name f.name) (mark want.Name g.name) (name_mark r.oneof r.s f r.field) (name_mark u.oneof u.s g u.field) e in
     same_field r.oneof u.oneof r.s f g r.field (subst (λ z. Contains (statement_fields u.oneof z) g) (sym same) u.field)
 
 pub options_are_of_one_field : OptionsAreOfOneField
-options_are_of_one_field t ls spells b d f g x y cb cd cf cg cx cy e =
+options_are_of_one_field profile t ls spells b d f g x y cb cd cf cg cx cy e =
     let r = field_statement 0 b.within f cf in
     let u = field_statement 0 d.within g cg in
     let same =
-    one_statement 0 t (trees_are_numbered t ls spells) r.s u.s (blocks_within t b cb r.s r.there) (blocks_within t d cd u.s u.there) (mark want.OptionName x.name) (mark want.OptionName y.name)
+    one_statement 0 t (trees_are_numbered_in profile t ls spells) r.s u.s (blocks_within t b cb r.s r.there) (blocks_within t d cd u.s u.there) (mark want.OptionName x.name) (mark want.OptionName y.name)
     (option_mark r.oneof r.s f r.field x cx) (option_mark u.oneof u.s g u.field y cy) e in
     same_field r.oneof u.oneof r.s f g r.field (subst (λ z. Contains (statement_fields u.oneof z) g) (sym same) u.field)

@@ -3,6 +3,8 @@ use Rattle.std.proofs.Common.{◌≡◌, ℕ, ℤ, pos, neg_ℤ, Bool, true, fal
 use Rattle.proto_base.proofs.Common.{AllByRecursion, list_any, filter-append, recursion_from_All, word_from_same}
 use Rattle.proto_base.specs.declared.fault.FaultKind.{FaultKind}
 use Rattle.proto_base.specs.declared.fault.FaultKind.TheVariants as kind
+use Rattle.proto_base.specs.declared.profile.Profile.{Profile}
+use Rattle.proto_base.specs.declared.profile.Profile.TheVariants as language
 use Rattle.proto_tree.specs.declared.piece.Header.{Header}
 use Rattle.proto_tree.specs.declared.piece.Header.TheVariants as header
 use Rattle.proto_tree.specs.declared.tree.Constant.{Constant}
@@ -16,7 +18,7 @@ use Rattle.proto_tree.specs.declared.tree.Signed.{Signed}
 use Rattle.proto_tree.specs.declared.tree.UpTo.{UpTo}
 use Rattle.proto_tree.specs.declared.tree.Value.{Value}
 use Rattle.proto_tree.specs.Tree.{Tree}
-use Rattle.proto_ast.proofs.Common.{number_value, fits_kind, idempotency_levels, is_allowed, is_named, is_word_of, optimize_modes, truth_named, truth_of, value_kind_of, word_of, is_true, BlockOf, FieldOf, OptionOf, blocks_in, closed_ranges, enum_ranges, extension_words, fields_in, options_in, reserved_names_in, settings_of, statements, values_in, EnumOf, Scene, enum_meant, number_at, signed_value, text, up_to_cap, value, is_label_word, json_name_of}
+use Rattle.proto_ast.proofs.Common.{c_types, number_value, fits_kind, idempotency_levels, is_allowed, is_named, is_word_of, optimize_modes, truth_named, truth_of, value_kind_as, word_of, is_true, BlockOf, FieldOf, OptionOf, blocks_in, closed_ranges, enum_ranges, extension_words, fields_in, options_in, reserved_names_in, settings_of, statements, values_in, EnumOf, Scene, enum_meant, number_at, signed_value, text, up_to_cap, value, is_label_word, json_name_of}
 use Rattle.proto_ast.specs.declared.options.Element.{Element}
 use Rattle.proto_ast.specs.declared.options.Element.TheVariants as element
 use Rattle.proto_ast.specs.declared.options.ValueKind.{ValueKind}
@@ -25,7 +27,7 @@ use Rattle.proto_desc_numbers.specs.declared.flaw.Flaw.{Flaw}
 use Rattle.proto_desc_numbers.specs.declared.numbers.NumberAt.{NumberAt}
 use Rattle.proto_ast.specs.declared.ranges.RangeAt.{RangeAt}
 use Rattle.proto_desc_numbers.proofs.Common.{after_earlier, flaw, flaw_if, marked, bound_of, broken_ranges, end_of, enum_range_of, first_of_signed, is_field_number, is_value_number, least_value, most_field, most_value, number_of_field, number_of_value, outside, overlaps, range_of, repeated_numbers, reserved_numbers, field_number_flaws}
-use Rattle.proto_desc_checks.proofs.Common.{default_flaws, enum_of_type, extend_flaws, field_flaws, flaws_of_extension, is_packable_type, is_unpackable, map_key_flaws, may_default, no_map_keys, option_flaws, required_extensions, required_flaws, type_flaws, type_token, wrong_default, block_flaws, enum_flaws, file_flaws, first_value_flaws, json_clashes, message_flaws, name_flaws, value_number_flaws, value_option_flaws, aft, fore}
+use Rattle.proto_desc_checks.proofs.Common.{bars_extend, default_flaws, enum_of_type, extend_flaws, field_flaws, flaws_of_extension, is_packable_type, is_unpackable, map_key_flaws, may_default, no_map_keys, option_flaws, required_extensions, required_flaws, type_flaws, type_token, wrong_default, block_flaws, enum_flaws, file_flaws, first_value_flaws, json_clashes, message_flaws, name_flaws, value_number_flaws, value_option_flaws, aft, fore}
 use Rattle.proto_desc_checks_laws.specs.Renamed.{DifferInNames, NamesDecideThreeKinds, SameButValues, asked_tokens, block_tokens, but_names, constant_tokens, end_tokens, enum_tokens, field_tokens, header_tokens, is_of_names, message_tokens, option_tokens, range_tokens, scalar_tokens, up_to_tokens, value_tokens}
 
 -- ---- flaws that are the same but for those of names
@@ -136,17 +138,26 @@ module _ (named : ℕ → Bool) (a b : Scene) (differ : DifferInNames named a b)
   fits_same (Some value_kind.Truth) c e = ap (λ w. is_some (option_and_then truth_named w)) e
   fits_same (Some value_kind.OptimizeMode) c e = ap (is_word_of optimize_modes) e
   fits_same (Some value_kind.IdempotencyLevel) c e = ap (is_word_of idempotency_levels) e
+  fits_same (Some value_kind.CType) c e = ap (is_word_of c_types) e
   fits_same (Some value_kind.Default) c e = refl
 
-  fits_default : (on : Element) (c : Constant) → fits_kind (text a) (value_kind_of on (codes "default")) c ≡ fits_kind (text b) (value_kind_of on (codes "default")) c
-  fits_default element.File c = refl
-  fits_default element.Message c = refl
-  fits_default element.Service c = refl
-  fits_default element.EnumValue c = refl
-  fits_default element.Field c = refl
-  fits_default element.Extension c = refl
-  fits_default element.Enum c = refl
-  fits_default element.Method c = refl
+  fits_default : (p : Profile) (on : Element) (c : Constant) → fits_kind (text a) (value_kind_as p on (codes "default")) c ≡ fits_kind (text b) (value_kind_as p on (codes "default")) c
+  fits_default language.Core element.File c = refl
+  fits_default language.Core element.Message c = refl
+  fits_default language.Core element.Service c = refl
+  fits_default language.Core element.EnumValue c = refl
+  fits_default language.Core element.Field c = refl
+  fits_default language.Core element.Extension c = refl
+  fits_default language.Core element.Enum c = refl
+  fits_default language.Core element.Method c = refl
+  fits_default language.AsWritten element.File c = refl
+  fits_default language.AsWritten element.Message c = refl
+  fits_default language.AsWritten element.Service c = refl
+  fits_default language.AsWritten element.EnumValue c = refl
+  fits_default language.AsWritten element.Field c = refl
+  fits_default language.AsWritten element.Extension c = refl
+  fits_default language.AsWritten element.Enum c = refl
+  fits_default language.AsWritten element.Method c = refl
 
   -- what is asked of the name and the word of an option, but for the word of a default
   asked_same : {X : Type 0} (asked : (ℕ → List ℕ) → List ℕ → X) (o : OptionOf) → asked (text a) (codes "default") ≡ asked (text b) (codes "default") → ((w : List ℕ) → word_of (text a) o.value ≡ word_of (text b) o.value → asked (text a) w ≡ asked (text b) w)
@@ -157,8 +168,10 @@ module _ (named : ℕ → Bool) (a b : Scene) (differ : DifferInNames named a b)
       go true e h = ap (asked (text a)) (e refl) ∙ at_default ∙ ap (asked (text b)) (sym (e refl))
       go false e h = by_word (text a o.name) (word_same o.value h)
 
-  allowed_same : (on : Element) (o : OptionOf) → Kept (option_tokens a o) → is_allowed (text a) on o ≡ is_allowed (text b) on o
-  allowed_same on o = asked_same (λ t w. fits_kind t (value_kind_of on w) o.value) o (fits_default on o.value) (λ w. fits_same (value_kind_of on w) o.value)
+  allowed_same : (on : Element) (o : OptionOf) → Kept (option_tokens a o) → is_allowed a.profile (text a) on o ≡ is_allowed b.profile (text b) on o
+  allowed_same on o k =
+      asked_same (λ t w. fits_kind t (value_kind_as a.profile on w) o.value) o (fits_default a.profile on o.value) (λ w. fits_same (value_kind_as a.profile on w) o.value) k
+      ∙ ap (λ p. is_allowed p (text b) on o) differ.profile
 
   named_same : (w : List ℕ) (o : OptionOf) → Kept (option_tokens a o) → is_named (text a) w o ≡ is_named (text b) w o
   named_same w o k = ap (λ v. bytes_eq v w) (differ.texts o.name k.0)
@@ -308,7 +321,7 @@ module _ (named : ℕ → Bool) (a b : Scene) (differ : DifferInNames named a b)
   extend_same : (keyword : ℕ) (within : Tree) → Kept (flat_map (field_tokens a) (fields_in within)) → SameBut (extend_flaws a keyword within) (extend_flaws b keyword within)
   extend_same keyword within k =
       let fs : List FieldOf = fields_in within in
-      join (equal (ap (λ v. flaw_if v kind.NotInProto3 keyword) differ.version))
+      join (equal (ap₂ (λ p v. flaw_if (bars_extend p v) kind.NotInProto3 keyword) differ.profile differ.version))
       (join (equal (ap (outside is_field_number) (maps (field_tokens a) (number_of_field a) (number_of_field b) field_number_same fs k)))
       (each (field_tokens a) (flaws_of_extension a) (flaws_of_extension b) extension_same fs k))
 

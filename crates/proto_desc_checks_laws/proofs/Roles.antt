@@ -27,11 +27,13 @@ use Rattle.proto_tree.specs.declared.tree.Settings.{Settings}
 use Rattle.proto_tree.specs.declared.tree.Signed.{Signed}
 use Rattle.proto_tree.specs.declared.tree.UpTo.{UpTo}
 use Rattle.proto_tree.specs.declared.tree.Value.{Value}
-use Rattle.proto_tree.proofs.Common.{Mark, mark, flat_all, flat_behind, flat_constant, flat_header, flat_number, flat_option, flat_range, flat_range_end, flat_reserved_list, flat_separated, flat_setting, flat_settings, flat_signed, flat_statement, flat_type, flat_up_to, name as name_mark, one as one_mark, only, Numbered, HasRole, Role, is_number, is_other, is_scalar, is_value, labels, names, names_option, refers, role_of, Tree, End, Leaf, Block, Spells, flat, classes, trees_are_numbered, roles_are_one}
-use Rattle.proto_ast.proofs.Common.{is_named, FieldOf, OptionOf, BlockOf, blocks_in, closed_ranges, enum_ranges, fields_from, fields_in, map_field, option_of_setting, options_in, plain_field, ranges_of, separated, settings_of, statement_fields, statement_options, statement_values, statements, values_in, Scene, text}
-use Rattle.proto_desc_checks.proofs.FlawTokens.{both, flattened, all_mapped}
+use Rattle.proto_tree.proofs.Common.{Mark, mark, flat_all, flat_behind, flat_constant, flat_header, flat_number, flat_option, flat_range, flat_range_end, flat_reserved_list, flat_separated, flat_setting, flat_settings, flat_signed, flat_statement, flat_type, flat_up_to, name as name_mark, one as one_mark, only, Numbered, HasRole, Role, is_number, is_other, is_scalar, is_value, labels, names, names_option, refers, role_of, Tree, End, Leaf, Block, Spells, flat, classes_in, trees_are_numbered_in, roles_are_one_in}
+use Rattle.proto_ast.proofs.Common.{is_named, FieldOf, OptionOf, BlockOf, blocks_in, closed_ranges, enum_ranges, fields_from, fields_in, map_field, options_in, setting_options, plain_field, ranges_of, separated, settings_of, statement_fields, statement_options, statement_values, statements, values_in, Scene, text}
+use Rattle.proto_desc_checks.proofs.FlawTokens.{both, flattened}
 use Rattle.proto_desc_checks_laws.specs.Renamed.{asked_tokens, block_tokens, constant_tokens, end_tokens, field_tokens, header_tokens, option_tokens, range_tokens, scalar_tokens, up_to_tokens, value_tokens}
 use Rattle.proto_desc_checks_laws.specs.Roles.{AskedTokensHaveRoles, DefaultsAreNotAsked, FieldOptionsHaveRoles, IsOtherValue, NamesAreNotAsked, ValueHasRole, ValueNumbersAreNumbers, is_asked, is_of_declarations}
+use Rattle.proto_tree.specs.declared.tree.Setting.TheVariants as setting
+use Rattle.proto_base.specs.declared.profile.Profile.{Profile}
 
 -- ---- lists
 
@@ -98,24 +100,22 @@ module _ (tree : Tree) where
       signed_has n (tail (mark (want.One class.Equals) equals) (flat_signed n) behind)
   value_has name equals (constant.Text j) h = tt
 
-  setting_has : (s : Setting) → Run (flat_setting s) → OptionHas (option_of_setting s)
-  setting_has s h = (stands (mark want.OptionName s.name) (one_mark class.Equals s.equals ++ flat_constant s.value) h, value_has s.name s.equals s.value h)
+  setting_has : (s : Setting) → Run (flat_setting s) → AllByRecursion OptionHas (setting_options s)
+  setting_has (setting.Plain p) h = ((stands (mark want.OptionName p.name) (one_mark class.Equals p.equals ++ flat_constant p.value) h, value_has p.name p.equals p.value h), tt)
+  setting_has (setting.Custom c) h = tt
 
   settings_has : (o : Option Settings) → Run (flat_option flat_settings o) → AllByRecursion OptionHas (settings_of o)
   settings_has None h = tt
   settings_has (Some s) h =
       let list : List Mark = flat_separated class.Comma flat_setting s.list in
       let behind = tail (mark (want.One class.LeftBracket) s.open) (list ++ one_mark class.RightBracket s.close) h in
-      all_mapped (λ x. Run (flat_setting x)) OptionHas option_of_setting setting_has (separated s.list)
+      flattened (λ x. Run (flat_setting x)) OptionHas setting_options setting_has (separated s.list)
       (separated_has class.Comma flat_setting s.list (left list (one_mark class.RightBracket s.close) behind))
 
   option_has : (s : Statement) → Run (flat_statement s) → AllByRecursion OptionHas (statement_options s)
   option_has (statement.Option o) h =
-      let ends : List Mark = flat_constant o.value ++ one_mark class.Semicolon o.semicolon in
-      let named = tail (mark (want.One class.Option) o.keyword) (mark want.OptionName o.name ∷ mark (want.One class.Equals) o.equals ∷ ends) h in
-      let front : List Mark = mark want.OptionName o.name ∷ mark (want.One class.Equals) o.equals ∷ flat_constant o.value in
-      let kept = left front (one_mark class.Semicolon o.semicolon) named in
-      ((stands (mark want.OptionName o.name) (mark (want.One class.Equals) o.equals ∷ flat_constant o.value) kept, value_has o.name o.equals o.value kept), tt)
+      let behind = tail (mark (want.One class.Option) o.keyword) (flat_setting o.setting ++ one_mark class.Semicolon o.semicolon) h in
+      setting_has o.setting (left (flat_setting o.setting) (one_mark class.Semicolon o.semicolon) behind)
   option_has _ h = tt
 
   -- ---- fields
@@ -365,30 +365,30 @@ from_numbered : (tree : Tree) (n : ℕ) (ms : List Mark) → Numbered n ms → (
 from_numbered tree n [] num f = tt
 from_numbered tree n (m ∷ ms) num f = (num.0, f m (contains_head m ms), from_numbered tree (suc n) ms num.1 (λ x c. f x (contains_later m x ms c)))
 
-whole : (tree : Tree) (ls : List Lexeme) → Spells tree (classes 0 ls) → Run tree (flat tree)
-whole tree ls spells = (0, from_numbered tree 0 (flat tree) (trees_are_numbered tree ls spells) (λ m c. c))
+whole : (profile : Profile) (tree : Tree) (ls : List Lexeme) → Spells tree (classes_in profile 0 ls) → Run tree (flat tree)
+whole profile tree ls spells = (0, from_numbered tree 0 (flat tree) (trees_are_numbered_in profile tree ls spells) (λ m c. c))
 
 pub field_options_have_roles : FieldOptionsHaveRoles
-field_options_have_roles tree ls spells b f o cb cf co =
-    let block = one_of (BlockRun tree) (blocks_in tree) b (blocks_run tree tree (whole tree ls spells)) cb in
+field_options_have_roles profile tree ls spells b f o cb cf co =
+    let block = one_of (BlockRun tree) (blocks_in tree) b (blocks_run tree tree (whole profile tree ls spells)) cb in
     let field = one_of (FieldHas tree) (fields_in b.within) f (all_fields_have tree 0 b.within block) cf in
     one_of (OptionHas tree) f.options o field.of_options co
 
 pub value_numbers_are_numbers : ValueNumbersAreNumbers
-value_numbers_are_numbers tree ls spells b v cb cv =
-    let block = one_of (BlockRun tree) (blocks_in tree) b (blocks_run tree tree (whole tree ls spells)) cb in
+value_numbers_are_numbers profile tree ls spells b v cb cv =
+    let block = one_of (BlockRun tree) (blocks_in tree) b (blocks_run tree tree (whole profile tree ls spells)) cb in
     (one_of (ValueHas tree) (values_in b.within) v (parts_have tree (ValueHas tree) statement_values (values_have tree) b.within block) cv).0
 
 pub asked_tokens_have_roles : AskedTokensHaveRoles
-asked_tokens_have_roles scene tree ls spells token c = one_of (Asked tree scene) (asked_tokens scene tree) token (tree_asked tree scene (whole tree ls spells)) c
+asked_tokens_have_roles profile scene tree ls spells token c = one_of (Asked tree scene) (asked_tokens scene tree) token (tree_asked tree scene (whole profile tree ls spells)) c
 
 differ : false ≡ true → ⊥
 differ e = cc
 
 pub names_are_not_asked : NamesAreNotAsked
-names_are_not_asked scene tree ls spells role token is has c = elim (asked_tokens_have_roles scene tree ls spells token c) [
-  | inl a ↦ other role is (subst (λ r. is_asked r ≡ true) (roles_are_one tree ls a.0 role token spells a.2 has) a.1)
-  | inr v ↦ no_value (subst (λ r. is_of_declarations r ≡ true) (roles_are_one tree ls role is_value token spells has v.value) is)
+names_are_not_asked profile scene tree ls spells role token is has c = elim (asked_tokens_have_roles profile scene tree ls spells token c) [
+  | inl a ↦ other role is (subst (λ r. is_asked r ≡ true) (roles_are_one_in profile tree ls a.0 role token spells a.2 has) a.1)
+  | inr v ↦ no_value (subst (λ r. is_of_declarations r ≡ true) (roles_are_one_in profile tree ls role is_value token spells has v.value) is)
 ]
   where
     other : (r : Role) → is_of_declarations r ≡ true → is_asked r ≡ true → ⊥
@@ -405,10 +405,10 @@ names_are_not_asked scene tree ls spells role token is has c = elim (asked_token
     no_value e = differ e
 
 pub defaults_are_not_asked : DefaultsAreNotAsked
-defaults_are_not_asked scene tree ls spells b f o cb cf co named word is c =
-    let has : ValueHasRole tree o.name (constant.Word word) = subst (λ v. ValueHasRole tree o.name v) is (field_options_have_roles tree ls spells b f o cb cf co).1 in
-    elim (asked_tokens_have_roles scene tree ls spells word c) [
-      | inl a ↦ no_value (subst (λ r. is_asked r ≡ true) (roles_are_one tree ls a.0 is_value word spells a.2 has.0) a.1)
+defaults_are_not_asked profile scene tree ls spells b f o cb cf co named word is c =
+    let has : ValueHasRole tree o.name (constant.Word word) = subst (λ v. ValueHasRole tree o.name v) is (field_options_have_roles profile tree ls spells b f o cb cf co).1 in
+    elim (asked_tokens_have_roles profile scene tree ls spells word c) [
+      | inl a ↦ no_value (subst (λ r. is_asked r ≡ true) (roles_are_one_in profile tree ls a.0 is_value word spells a.2 has.0) a.1)
       | inr v ↦
           let same : v.option.name ≡ o.name = omega (arith, v.behind, has.1) in
           differ (sym v.no_default ∙ ap (λ i. bytes_eq (text scene i) (codes "default")) same ∙ named)

@@ -8,12 +8,13 @@ use Rattle.proto_tree.specs.declared.piece.Header.TheVariants as header
 use Rattle.proto_tree.specs.declared.piece.Heading.{Heading}
 use Rattle.proto_tree.specs.declared.tree.Value.{Value as ValueParts}
 use Rattle.proto_tree.specs.Tree.{Tree, Spells}
-use Rattle.proto_tree.specs.Words.{classes}
+use Rattle.proto_tree.specs.Words.{classes_in}
 use Rattle.proto_names_rules.specs.declared.kind.Kind.TheVariants.{Message, Entry, Enum, Service, Field, Oneof, Value, Method, Extension}
 use Rattle.proto_names_rules.specs.Skeleton.{Source, Token, EntryOf}
 use Rattle.proto_names_rules.specs.Tree.{Placed, file_placed, place}
 use Rattle.proto_names_outline.specs.FromTree.{items_in}
 use Rattle.proto_ast.specs.Parts.{BlockOf, FieldOf, blocks_in, fields_in, values_in}
+use Rattle.proto_base.specs.declared.profile.Profile.{Profile}
 
 -- a field is declared below a path, and the entry of a map field beside it
 abbrev pub IsDeclaredField : List Placed → List (Source ℕ) → FieldOf → Type 0
@@ -56,7 +57,8 @@ IsDeclared declared (header.Extend e) within =
 
 -- Each block of a tree that was read is declared,
 abbrev pub BlocksAreDeclared : Type 0
-BlocksAreDeclared = (tree : Tree) (ls : List Lexeme) → Spells tree (classes 0 ls)
+BlocksAreDeclared =
+    (profile : Profile) (tree : Tree) (ls : List Lexeme) → Spells tree (classes_in profile 0 ls)
     → (b : BlockOf) → Contains (blocks_in tree) b
     → IsDeclared (file_placed (items_in tree)) b.header b.within
 
@@ -68,13 +70,15 @@ IsDeclaredIn declared path b f =
 
 -- so each field of a block is,
 abbrev pub FieldsAreDeclared : Type 0
-FieldsAreDeclared = (tree : Tree) (ls : List Lexeme) → Spells tree (classes 0 ls)
+FieldsAreDeclared =
+    (profile : Profile) (tree : Tree) (ls : List Lexeme) → Spells tree (classes_in profile 0 ls)
     → (b : BlockOf) (f : FieldOf) → Contains (blocks_in tree) b → Contains (fields_in b.within) f
     → (path : List (Source ℕ)) × IsDeclaredIn (file_placed (items_in tree)) path b f
 
 -- and each value, beside its enum.
 abbrev pub ValuesAreDeclared : Type 0
-ValuesAreDeclared = (tree : Tree) (ls : List Lexeme) → Spells tree (classes 0 ls)
+ValuesAreDeclared =
+    (profile : Profile) (tree : Tree) (ls : List Lexeme) → Spells tree (classes_in profile 0 ls)
     → (b : BlockOf) (v : ValueParts) → Contains (blocks_in tree) b → Contains (values_in b.within) v
     → (h : Heading) × (path : List (Source ℕ)) × (b.header ≡ header.Enum h)
     × Contains (file_placed (items_in tree)) (place path (Token h.name) Enum)
@@ -82,6 +86,7 @@ ValuesAreDeclared = (tree : Tree) (ls : List Lexeme) → Spells tree (classes 0 
 
 -- The name tokens of a block's fields rise.
 abbrev pub FieldNamesRise : Type 0
-FieldNamesRise = (tree : Tree) (ls : List Lexeme) → Spells tree (classes 0 ls)
+FieldNamesRise =
+    (profile : Profile) (tree : Tree) (ls : List Lexeme) → Spells tree (classes_in profile 0 ls)
     → (b : BlockOf) → Contains (blocks_in tree) b
     → AllPairs (λ f g. f.name < g.name) (fields_in b.within)

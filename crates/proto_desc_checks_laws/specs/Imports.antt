@@ -10,6 +10,7 @@ use Rattle.proto_desc_checks.specs.FileFlaws.{file_flaws}
 
 -- the second scene reads at the other index of each token what the first reads at the token
 pub record IsMoved (g : Move) (a b : Scene) : Type 0 where
+  pub profile : a.profile ≡ b.profile
   pub version : a.is_proto3 ≡ b.is_proto3
   pub caps : a.cap ≡ b.cap
   pub texts : (t : ℕ) → text b (g t) ≡ text a t

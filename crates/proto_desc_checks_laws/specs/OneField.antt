@@ -3,8 +3,9 @@ use Rattle.std.specs.Prelude.{◌≡◌, List}
 use Rattle.std.specs.List.{Contains}
 use Rattle.proto_text.specs.Tokens.{Lexeme}
 use Rattle.proto_tree.specs.Tree.{Tree, Spells}
-use Rattle.proto_tree.specs.Words.{classes}
+use Rattle.proto_tree.specs.Words.{classes_in}
 use Rattle.proto_ast.specs.Parts.{BlockOf, FieldOf, OptionOf, blocks_in, fields_in}
+use Rattle.proto_base.specs.declared.profile.Profile.{Profile}
 
 -- two fields are of one statement, whether or not that is read as one of a oneof
 pub record IsSameField (f g : FieldOf) : Type 0 where
@@ -15,14 +16,16 @@ pub record IsSameField (f g : FieldOf) : Type 0 where
 
 -- Fields of a tree whose names are one token are one field.
 abbrev pub NamesAreOfOneField : Type 0
-NamesAreOfOneField = (tree : Tree) (ls : List Lexeme) → Spells tree (classes 0 ls)
+NamesAreOfOneField =
+    (profile : Profile) (tree : Tree) (ls : List Lexeme) → Spells tree (classes_in profile 0 ls)
     → (b d : BlockOf) (f g : FieldOf) → Contains (blocks_in tree) b → Contains (blocks_in tree) d
     → Contains (fields_in b.within) f → Contains (fields_in d.within) g
     → f.name ≡ g.name → IsSameField f g
 
 -- Fields of a tree that have options whose names are one token are one field.
 abbrev pub OptionsAreOfOneField : Type 0
-OptionsAreOfOneField = (tree : Tree) (ls : List Lexeme) → Spells tree (classes 0 ls)
+OptionsAreOfOneField =
+    (profile : Profile) (tree : Tree) (ls : List Lexeme) → Spells tree (classes_in profile 0 ls)
     → (b d : BlockOf) (f g : FieldOf) (x y : OptionOf)
     → Contains (blocks_in tree) b → Contains (blocks_in tree) d
     → Contains (fields_in b.within) f → Contains (fields_in d.within) g

@@ -36,6 +36,7 @@ SameButValues (Some d) None = ⊥
 
 -- the scenes differ at most in the texts of these tokens, and in what means are called
 pub record DifferInNames (named : ℕ → Bool) (a b : Scene) : Type 0 where
+  pub profile : a.profile ≡ b.profile
   pub version : a.is_proto3 ≡ b.is_proto3
   pub caps : a.cap ≡ b.cap
   pub texts : (t : ℕ) → named t ≡ false → text a t ≡ text b t

@@ -7,11 +7,12 @@ use Rattle.proto_tree.specs.declared.tree.Constant.TheVariants as constant
 use Rattle.proto_tree.specs.declared.tree.Value.{Value}
 use Rattle.proto_tree.specs.Roles.{HasRole, Role, is_number, is_scalar, is_value, labels, names, names_option, refers}
 use Rattle.proto_tree.specs.Tree.{Tree, Spells}
-use Rattle.proto_tree.specs.Words.{classes}
+use Rattle.proto_tree.specs.Words.{classes_in}
 use Rattle.proto_ast.specs.Options.{is_named}
 use Rattle.proto_ast.specs.Parts.{BlockOf, FieldOf, OptionOf, blocks_in, fields_in, values_in}
 use Rattle.proto_ast.specs.Scenes.{Scene, text}
 use Rattle.proto_desc_checks_laws.specs.Renamed.{asked_tokens}
+use Rattle.proto_base.specs.declared.profile.Profile.{Profile}
 
 -- ---- options
 
@@ -24,14 +25,16 @@ ValueHasRole tree name (constant.Text j) = Unit {0}
 
 -- The options of fields have names, and words or numbers for values.
 abbrev pub FieldOptionsHaveRoles : Type 0
-FieldOptionsHaveRoles = (tree : Tree) (ls : List Lexeme) → Spells tree (classes 0 ls)
+FieldOptionsHaveRoles =
+    (profile : Profile) (tree : Tree) (ls : List Lexeme) → Spells tree (classes_in profile 0 ls)
     → (b : BlockOf) (f : FieldOf) (o : OptionOf)
     → Contains (blocks_in tree) b → Contains (fields_in b.within) f → Contains f.options o
     → HasRole tree names_option o.name × ValueHasRole tree o.name o.value
 
 -- The numbers of enums' values are numbers.
 abbrev pub ValueNumbersAreNumbers : Type 0
-ValueNumbersAreNumbers = (tree : Tree) (ls : List Lexeme) → Spells tree (classes 0 ls)
+ValueNumbersAreNumbers =
+    (profile : Profile) (tree : Tree) (ls : List Lexeme) → Spells tree (classes_in profile 0 ls)
     → (b : BlockOf) (v : Value) → Contains (blocks_in tree) b → Contains (values_in b.within) v
     → HasRole tree is_number v.number.number
 
@@ -56,8 +59,9 @@ pub record IsOtherValue (scene : Scene) (tree : Tree) (token : ℕ) : Type 0 whe
 -- Each is a label, a scalar type, a number, an option's name, or the value of an option that is no
 -- default.
 abbrev pub AskedTokensHaveRoles : Type 0
-AskedTokensHaveRoles = (scene : Scene) (tree : Tree) (ls : List Lexeme)
-    → Spells tree (classes 0 ls) → (token : ℕ) → Contains (asked_tokens scene tree) token
+AskedTokensHaveRoles =
+    (profile : Profile) (scene : Scene) (tree : Tree) (ls : List Lexeme)
+    → Spells tree (classes_in profile 0 ls) → (token : ℕ) → Contains (asked_tokens scene tree) token
     → ((role : Role) × (is_asked role ≡ true) × HasRole tree role token)
     ⊎ IsOtherValue scene tree token
 
@@ -71,13 +75,17 @@ is_of_declarations _ = false
 
 -- Names and words of references are not asked for,
 abbrev pub NamesAreNotAsked : Type 0
-NamesAreNotAsked = (scene : Scene) (tree : Tree) (ls : List Lexeme) → Spells tree (classes 0 ls)
+NamesAreNotAsked =
+    (profile : Profile) (scene : Scene) (tree : Tree) (ls : List Lexeme)
+    → Spells tree (classes_in profile 0 ls)
     → (role : Role) (token : ℕ) → is_of_declarations role ≡ true → HasRole tree role token
     → Contains (asked_tokens scene tree) token → ⊥
 
 -- and no words that are defaults.
 abbrev pub DefaultsAreNotAsked : Type 0
-DefaultsAreNotAsked = (scene : Scene) (tree : Tree) (ls : List Lexeme) → Spells tree (classes 0 ls)
+DefaultsAreNotAsked =
+    (profile : Profile) (scene : Scene) (tree : Tree) (ls : List Lexeme)
+    → Spells tree (classes_in profile 0 ls)
     → (b : BlockOf) (f : FieldOf) (o : OptionOf)
     → Contains (blocks_in tree) b → Contains (fields_in b.within) f → Contains f.options o
     → is_named (text scene) (codes "default") o ≡ true

@@ -17,7 +17,7 @@ use Rattle.proto_desc_checks.proofs.CappedFlaws.{covered_file}
 use Rattle.proto_resolved.specs.SceneOf.{declared_as, scene_of}
 use Rattle.proto_desc_extensions.specs.Capped.{CapsKeepTheLeastOfFile}
 use Rattle.proto_desc_extensions.specs.Common.{ExtensionOf, all_flaws, are_same, is_extendable, is_message_at, ranges_at_place, ranges_named, ranges_within, workspace_flaws}
-use Rattle.proto_desc_extensions.proofs.WrittenExtensions.{Written, again_of, as_extension, flaws_written, outside_of, written_before, written_in, written_number, wrong_there}
+use Rattle.proto_desc_extensions.proofs.WrittenExtensions.{Written, again_of, as_extension, flaws_written, outside_of, written_in, written_number, written_taken, wrong_there}
 
 module _ (files : List FileOf) (reads : List ReadOf) where
   abbrev scene : Option ℕ → ℕ → Scene
@@ -115,9 +115,9 @@ module _ (files : List FileOf) (reads : List ReadOf) where
       covered_again : Covered zs (again_of files reads c file) (again_of files reads d file)
       covered_again =
           marked_from zs are_same kind.DuplicateExtension (λ (w : Written). w.token) (ext c) (ext d) (written_in files reads file) still_same (written_in files reads file) (λ w h. h)
-          (map (ext c) (written_before files reads file)) (map (ext d) (written_before files reads file))
+          (map (ext c) (written_taken files reads file)) (map (ext d) (written_taken files reads file))
           (λ b h e. elim (cases_Bool (is_field_number (number c b))) [
-            | inl t ↦ inl (any_still b t (written_before files reads file) e)
+            | inl t ↦ inl (any_still b t (written_taken files reads file) e)
             | inr f ↦ inr (beneath kind.DuplicateExtension (omega arith) b h f)
           ])
 

@@ -3,12 +3,12 @@ use Rattle.std.proofs.Common.{◌≡◌, Bool, true, false, ◌||◌, List, [], 
 use Rattle.proto_base.proofs.Common.{list_any, list_any-append}
 use Rattle.proto_tree.specs.declared.tree.Block.{Block as Braced}
 use Rattle.proto_tree.specs.declared.tree.EnumItem.{EnumItem}
-use Rattle.proto_tree.specs.declared.tree.Field.{Field}
+use Rattle.proto_tree.specs.declared.tree.OneofItem.{OneofItem}
 use Rattle.proto_tree.specs.declared.tree.Member.{Member}
 use Rattle.proto_tree.specs.declared.tree.ServiceItem.{ServiceItem}
-use Rattle.proto_tree.specs.File.{enum_item_tree, enum_tree, field_tree, member_tree, message_tree, oneof_tree, service_item_tree, service_tree, trees}
+use Rattle.proto_tree.specs.File.{enum_item_tree, enum_tree, oneof_item_tree, member_tree, message_tree, oneof_tree, service_item_tree, service_tree, trees}
 use Rattle.proto_tree.proofs.Common.{Tree, joined_trees}
-use Rattle.proto_ast.proofs.Common.{BlockOf, blocks_in, no_block_in_enum, no_method_within, none_within}
+use Rattle.proto_ast.proofs.Common.{BlockOf, blocks_in, no_block_in_enum, no_method_within, none_within, no_block_in_oneof}
 use Rattle.proto_ast.proofs.JoinedTrees.{blocks_joined}
 use Rattle.proto_desc_extensions.specs.Common.{has_extend, is_extend}
 
@@ -30,8 +30,8 @@ none_there (b ∷ bs) e = kept (is_extend b.header) (list_any (λ c. is_extend c
 pub not_in_enum : (e : Braced EnumItem) → has_extend (enum_tree e) ≡ false
 not_in_enum e = none_there (blocks_in (trees enum_item_tree e.members.items) ++ []) (none_within is_extend enum_item_tree no_block_in_enum e.members.items)
 
-pub not_in_oneof : (o : Braced Field) → has_extend (oneof_tree o) ≡ false
-not_in_oneof o = none_there (blocks_in (trees field_tree o.members.items) ++ []) (none_within is_extend field_tree (λ f. refl) o.members.items)
+pub not_in_oneof : (o : Braced OneofItem) → has_extend (oneof_tree o) ≡ false
+not_in_oneof o = none_there (blocks_in (trees oneof_item_tree o.members.items) ++ []) (none_within is_extend oneof_item_tree no_block_in_oneof o.members.items)
 
 pub not_in_service : (s : Braced ServiceItem) → has_extend (service_tree s) ≡ false
 not_in_service s = none_there (blocks_in (trees service_item_tree s.members.items) ++ []) (no_method_within is_extend (λ m. refl) s.members.items)

@@ -1,6 +1,7 @@
 pub mod CappedExtensions
 pub mod ExtendTrees
 pub mod Extendees
+pub mod FlawsAsWritten
 pub mod MovedExtensions
 pub mod NoExtensions
 pub mod OpenRows

@@ -3,11 +3,13 @@ use Rattle.std.proofs.Common.{◌≡◌, ℕ, zero, suc, ◌<◌, Bool, true, fa
 use Rattle.proto_base.proofs.Common.{contains_head, contains_later, list_any, list_any-append, map-append}
 use Rattle.proto_base.specs.declared.fault.FaultKind.{FaultKind}
 use Rattle.proto_base.specs.declared.fault.FaultKind.TheVariants as kind
-use Rattle.proto_files.proofs.Common.{FileOf, ReadOf}
+use Rattle.proto_base.specs.declared.profile.Profile.{Profile}
+use Rattle.proto_base.specs.declared.profile.Profile.TheVariants as language
+use Rattle.proto_files.proofs.Common.{FileOf, ReadOf, file_at}
 use Rattle.proto_names_rules.specs.Names.{same_name}
 use Rattle.proto_desc_numbers.specs.declared.flaw.Flaw.{Flaw}
 use Rattle.proto_desc_numbers.proofs.Common.{earlier, flaw_if, is_inside, marked}
-use Rattle.proto_desc_extensions.specs.Common.{ExtensionOf, are_same, extensions_before, extensions_in, is_extendable, not_extendable, ranges_named, repeated_extensions, workspace_flaws}
+use Rattle.proto_desc_extensions.specs.Common.{ExtensionOf, are_same, extensions_before, extensions_in, is_extendable, not_extendable, ranges_named, repeated_extensions, taken_before, workspace_flaws}
 
 -- an extension whose token is moved, and what it extends named anew
 abbrev pub moved_extension : (ℕ → ℕ) → (List (List ℕ) → List (List ℕ)) → ExtensionOf → ExtensionOf
@@ -38,6 +40,7 @@ module _ (files : List FileOf) (reads : List ReadOf) (after : List FileOf) (seen
 
   -- how the second has them: what they extend holds the same numbers, and different names stay different
   pub record AreMoved : Type 0 where
+    pub profiles : (k : ℕ) → k < length files → (file_at after k).profile ≡ (file_at files k).profile
     pub extensions : (k : ℕ) → k < length files → extensions_in None after seen k ≡ map (moved_extension (move k) turn) (extensions_in None files reads k)
     pub ranges : (e : ExtensionOf) → IsExtension e → list_any (is_inside e.number.number) (ranges_named None after seen (turn e.extendee)) ≡ list_any (is_inside e.number.number) (ranges_named None files reads e.extendee)
     pub apart : (d e : ExtensionOf) → IsExtension d → IsExtension e → same_name (turn d.extendee) (turn e.extendee) ≡ same_name d.extendee e.extendee
@@ -62,6 +65,17 @@ module _ (files : List FileOf) (reads : List ReadOf) (after : List FileOf) (seen
         (ap (list_any (λ p. are_same p (moved_extension (move k) turn e))) (are.extensions file (omega (arith, l)))
         ∙ any_there k file e q (extensions_in None files reads file) (λ d c. record { file = file; within = omega (arith, l); there = c }))
         ∙ sym (list_any-append (λ p. are_same p e) (extensions_before None files reads file) (extensions_in None files reads file))
+
+    -- and among those of them that are taken
+    any_taken : (k : ℕ) → k < length files → (e : ExtensionOf) → IsExtension e
+        → list_any (λ p. are_same p (moved_extension (move k) turn e)) (taken_before (file_at after k).profile (extensions_before None after seen k)) ≡ list_any (λ p. are_same p e) (taken_before (file_at files k).profile (extensions_before None files reads k))
+    any_taken k l e q =
+        ap (λ (s : Profile). list_any (λ p. are_same p (moved_extension (move k) turn e)) (taken_before s (extensions_before None after seen k))) (are.profiles k l)
+        ∙ by (file_at files k).profile
+      where
+        by : (s : Profile) → list_any (λ p. are_same p (moved_extension (move k) turn e)) (taken_before s (extensions_before None after seen k)) ≡ list_any (λ p. are_same p e) (taken_before s (extensions_before None files reads k))
+        by language.Core = any_before k e q k (omega (arith, l))
+        by language.AsWritten = refl
 
     outside_moved : (k : ℕ) (es : List ExtensionOf) → ((e : ExtensionOf) → Contains es e → IsExtension e) → not_extendable None after seen (map (moved_extension (move k) turn) es) ≡ map (moved_flaw (move k)) (not_extendable None files reads es)
     outside_moved k [] within = refl
@@ -95,13 +109,13 @@ module _ (files : List FileOf) (reads : List ReadOf) (after : List FileOf) (seen
     pub workspace_moved : (k : ℕ) → k < length files → workspace_flaws None after seen k ≡ map (moved_flaw (move k)) (workspace_flaws None files reads k)
     workspace_moved k l =
         let es : List ExtensionOf = extensions_in None files reads k in
-        let was : List ExtensionOf = extensions_before None files reads k in
-        let before : List ExtensionOf = extensions_before None after seen k in
+        let was : List ExtensionOf = taken_before (file_at files k).profile (extensions_before None files reads k) in
+        let before : List ExtensionOf = taken_before (file_at after k).profile (extensions_before None after seen k) in
         let own : (e : ExtensionOf) → Contains es e → IsExtension e = λ e c. record { file = k; within = l; there = c } in
         ap (λ (xs : List ExtensionOf). not_extendable None after seen xs ++ repeated_extensions before xs) (are.extensions k l)
         ∙ ap (λ (fs : List Flaw). fs ++ repeated_extensions before (map (moved_extension (move k) turn) es)) (outside_moved k es own)
         ∙ ap (λ (fs : List Flaw). map (moved_flaw (move k)) (not_extendable None files reads es) ++ fs)
         (ap (λ (ts : List ℕ). marked kind.DuplicateExtension ts (earlier are_same before (map (moved_extension (move k) turn) es))) (tokens_moved k es)
-        ∙ ap (marked kind.DuplicateExtension (map (move k) (map (λ (e : ExtensionOf). e.number.token) es))) (earlier_moved k before was es (λ e q. any_before k e q k (omega (arith, l))) own)
+        ∙ ap (marked kind.DuplicateExtension (map (move k) (map (λ (e : ExtensionOf). e.number.token) es))) (earlier_moved k before was es (any_taken k l) own)
         ∙ moved_marked (move k) kind.DuplicateExtension (map (λ (e : ExtensionOf). e.number.token) es) (earlier are_same was es))
         ∙ sym (map-append (moved_flaw (move k)) (not_extendable None files reads es) (repeated_extensions was es))

@@ -11,7 +11,7 @@ use Rattle.std.specs.Global.{Vec}
 use Rattle.proto_desc_numbers.specs.declared.flaw.Flaw.{Flaw}
 use Rattle.proto_ast.proofs.Common.{BlockOf, blocks_in, past}
 use Rattle.proto_resolved.specs.SceneOf.{scene_of}
-use Rattle.proto_desc_extensions.specs.Common.{AreWorkspaceFlaws, ExtensionOf, block_extensions, extendee_in, extensions_before, extensions_of, has_extend, is_extend, name_meant, not_extendable, repeated_extensions, some_has_extend, workspace_flaws}
+use Rattle.proto_desc_extensions.specs.Common.{AreWorkspaceFlaws, ExtensionOf, block_extensions, extendee_in, extensions_before, extensions_of, has_extend, is_extend, name_meant, not_extendable, repeated_extensions, some_has_extend, taken_before, workspace_flaws}
 
 module _ (cap : Option ℕ) (files : List FileOf) (reads : List ReadOf) (file : ℕ) where
   E : BlockOf → List ExtensionOf
@@ -36,7 +36,7 @@ module _ (cap : Option ℕ) (files : List FileOf) (reads : List ReadOf) (file : 
 
   pub no_flaw : has_extend (read_at reads file).tree ≡ false → workspace_flaws cap files reads file ≡ []
   no_flaw e =
-      ap (λ (es : List ExtensionOf). not_extendable cap files reads es ++ repeated_extensions (extensions_before cap files reads file) es) (none_of (blocks_in (read_at reads file).tree) e)
+      ap (λ (es : List ExtensionOf). not_extendable cap files reads es ++ repeated_extensions (taken_before (file_at files file).profile (extensions_before cap files reads file)) es) (none_of (blocks_in (read_at reads file).tree) e)
 
 -- ---- all files
 
@@ -44,13 +44,13 @@ module _ (cap : Option ℕ) (files : List FileOf) (reads : List ReadOf) (file : 
 front_read : (reads : List ReadOf) (file : ℕ) → file < length reads → some_has_extend (drop file reads) ≡ (has_extend (read_at reads file).tree || some_has_extend (drop (file + 1) reads))
 front_read reads file l = ap some_has_extend (drop_more reads file (record { tokens = []; tree = End }) l)
 
-pub found_there : (files : List FileOf) (file : ℕ) → file < length files → (tree : Tree) → IsTreeOf (file_at files file).bytes tree → (reads : List ReadOf) → AreRead files reads → has_extend tree ≡ true → some_has_extend (drop file reads) ≡ true
+pub found_there : (files : List FileOf) (file : ℕ) → file < length files → (tree : Tree) → IsTreeOf (file_at files file) tree → (reads : List ReadOf) → AreRead files reads → has_extend tree ≡ true → some_has_extend (drop file reads) ≡ true
 found_there files file l tree of_file reads are e =
     front_read reads file (omega (arith, l, are.same))
     ∙ ap (λ (t : Tree). has_extend t || some_has_extend (drop (file + 1) reads)) (same_tree files reads file tree are l of_file)
     ∙ ap (λ (b : Bool). b || some_has_extend (drop (file + 1) reads)) e
 
-pub turn_without : (files : List FileOf) (file : ℕ) → file < length files → (tree : Tree) → IsTreeOf (file_at files file).bytes tree → (reads : List ReadOf) → AreRead files reads → has_extend tree ≡ false → some_has_extend (drop file reads) ≡ some_has_extend (drop (file + 1) reads)
+pub turn_without : (files : List FileOf) (file : ℕ) → file < length files → (tree : Tree) → IsTreeOf (file_at files file) tree → (reads : List ReadOf) → AreRead files reads → has_extend tree ≡ false → some_has_extend (drop file reads) ≡ some_has_extend (drop (file + 1) reads)
 turn_without files file l tree of_file reads are e =
     front_read reads file (omega (arith, l, are.same))
     ∙ ap (λ (t : Tree). has_extend t || some_has_extend (drop (file + 1) reads)) (same_tree files reads file tree are l of_file)

@@ -5,7 +5,7 @@ use Rattle.indexmap.specs.IndexMap.{IndexMap, IsEmpty, get}
 use Rattle.proto_tree.specs.declared.tree.Block.{Block as Braced}
 use Rattle.proto_tree.specs.declared.tree.EnumItem.{EnumItem}
 use Rattle.proto_tree.specs.declared.tree.Extend.{Extend}
-use Rattle.proto_tree.specs.declared.tree.Field.{Field}
+use Rattle.proto_tree.specs.declared.tree.OneofItem.{OneofItem}
 use Rattle.proto_tree.specs.declared.tree.Member.{Member}
 use Rattle.proto_tree.proofs.Common.{Tree, End}
 use Rattle.proto_files.proofs.Common.{FileOf, file_at, Each, ReadOf, AreRead, read_at, IsTreeOf, same_tree}
@@ -34,7 +34,7 @@ module _ (scene : Scene) where
 
   -- ---- one block more
 
-  pub oneof_added : {S : Type 0} → (blocks : List BlockOf) (o : Braced Field) (rows : IndexMap ℕ (Vec RangeAt) S) → AreRowsOf scene blocks rows → AreRowsOf scene (blocks ++ oneof_block o ∷ []) rows
+  pub oneof_added : {S : Type 0} → (blocks : List BlockOf) (o : Braced OneofItem) (rows : IndexMap ℕ (Vec RangeAt) S) → AreRowsOf scene blocks rows → AreRowsOf scene (blocks ++ oneof_block o ∷ []) rows
   oneof_added blocks o rows h token = subst (λ (o : Option BlockOf). IsRangeRowOf scene o (get nat_eq rows token)) (found_before (is_it token) blocks (oneof_block o) refl) (h token)
 
   pub enum_added : {S : Type 0} → (blocks : List BlockOf) (e : Braced EnumItem) (rows : IndexMap ℕ (Vec RangeAt) S) → AreRowsOf scene blocks rows → AreRowsOf scene (blocks ++ enum_block e ∷ []) rows
@@ -86,7 +86,7 @@ module _ (scene : Scene) where
   row_index (Some b) (Some row) h = h
 
 -- what the code reads of a file is what is read of it
-pub rows_read : {S : Type 0} → (files : List FileOf) (file : ℕ) → file < length files → (scene : Scene) → IsSceneOf files file scene → (tree : Tree) → IsTreeOf (file_at files file).bytes tree → (reads : List ReadOf) → AreRead files reads → (rows : IndexMap ℕ (Vec RangeAt) S)
+pub rows_read : {S : Type 0} → (files : List FileOf) (file : ℕ) → file < length files → (scene : Scene) → IsSceneOf files file scene → (tree : Tree) → IsTreeOf (file_at files file) tree → (reads : List ReadOf) → AreRead files reads → (rows : IndexMap ℕ (Vec RangeAt) S)
     → AreRowsOf scene (blocks_in tree) rows → AreRowsOf (scene_of (Some past) files reads file) (blocks_in (read_at reads file).tree) rows
 rows_read files file within scene is tree of_file reads are rows h =
     subst (λ (s : Scene). AreRowsOf s (blocks_in (read_at reads file).tree) rows) (is reads are)

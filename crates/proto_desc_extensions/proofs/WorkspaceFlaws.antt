@@ -56,7 +56,7 @@ module _ (cap : Option ℕ) (files : List FileOf) (reads : List ReadOf) (file : 
 
   module _ (are : AreRead files reads) (within : file < length files) where
     in_file : (scene : Scene) (f : Flaw) → Contains (file_flaws scene (read_at reads file).tree) f → f.token < length (read_at reads file).tokens
-    in_file scene f c = flaw_within (file_at files file).bytes (read_at reads file).tokens (read_at reads file).tree (are.trees file within) scene f c
+    in_file scene f c = flaw_within (file_at files file).profile (file_at files file).bytes (read_at reads file).tokens (read_at reads file).tree (are.trees file within) scene f c
 
     -- where all numbers are read as 0, each number of an extension is a flaw of the file alone
     number_there : (w : Written) → Contains (written_in files reads file) w → w.token < length (read_at reads file).tokens

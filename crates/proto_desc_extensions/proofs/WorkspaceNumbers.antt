@@ -2,9 +2,11 @@
 use Rattle.std.proofs.Common.{◌≡◌, ℕ, zero, suc, Bool, not, ◌&&◌, ◌||◌, List, [], ◌∷◌, ◌++◌, map, flat_map, Option, Some, None, option_and_then, refl, sym, ap, subst, ◌∙◌, bytes_eq, int_eq, find, ◌==◌}
 use Rattle.proto_base.proofs.Common.{AllByRecursion, bytes_eq-Decides, list_any, map-append}
 use Rattle.proto_base.specs.declared.fault.FaultKind.TheVariants as kind
+use Rattle.proto_base.specs.declared.profile.Profile.{Profile}
+use Rattle.proto_base.specs.declared.profile.Profile.TheVariants as language
 use Rattle.proto_tree.specs.References.{first_of}
 use Rattle.proto_tree.specs.declared.tree.Reference.{Reference}
-use Rattle.proto_files.proofs.Common.{FileOf, ReadOf, read_at}
+use Rattle.proto_files.proofs.Common.{FileOf, ReadOf, file_at, read_at}
 use Rattle.proto_names_rules.proofs.Common.{ArePlain, joined, joined_apart, meant, name_from_same, same_from_name, same_name, Used}
 use Rattle.proto_names.specs.Links.{names_of_files, text_of, uses_of, used_named}
 use Rattle.proto_names.proofs.Common.{IsLinkRead, LinkOf}
@@ -15,7 +17,7 @@ use Rattle.proto_desc_numbers.proofs.CappedRanges.{agree}
 use Rattle.proto_desc_checks.proofs.FlawTokens.{both}
 use Rattle.proto_resolved.specs.SceneOf.{meaning_of, scene_of}
 use Rattle.indexmap.specs.IndexSet.{IndexSet}
-use Rattle.proto_desc_extensions.specs.Common.{ExtensionOf, HasSeen, Key, Told, again, are_one, are_same, block_extensions, extendee_in, extensions_before, extensions_in, extensions_of, is_extendable, name_meant, not_extendable, outside_ranges, repeated_extensions, told, workspace_flaws}
+use Rattle.proto_desc_extensions.specs.Common.{ExtensionOf, HasSeen, Key, Told, again, are_one, are_same, block_extensions, extendee_in, extensions_before, extensions_in, extensions_of, is_extendable, name_meant, not_extendable, outside_ranges, repeated_extensions, taken_before, told, workspace_flaws}
 
 abbrev pub HasPlainName : ExtensionOf → Type 0
 HasPlainName e = ArePlain e.extendee
@@ -57,6 +59,15 @@ module _ (files : List FileOf) (reads : List ReadOf) where
       ap (λ (ts : List ℕ). marked kind.DuplicateExtension ts (earlier are_one (map T before) (map T es))) (tokens_told es)
       ∙ ap (marked kind.DuplicateExtension (map (λ (e : ExtensionOf). e.number.token) es)) (earlier_told before es h k)
 
+  -- those that are taken before
+  taken_told : (p : Profile) (before : List ExtensionOf) → taken_before p (map T before) ≡ map T (taken_before p before)
+  taken_told language.Core before = refl
+  taken_told language.AsWritten before = refl
+
+  taken_plain : (p : Profile) (before : List ExtensionOf) → AllByRecursion HasPlainName before → AllByRecursion HasPlainName (taken_before p before)
+  taken_plain language.Core before h = h
+  taken_plain language.AsWritten before h = tt
+
   -- ---- names that are meant are plain
 
   module _ (l : LinkOf) (link : IsLinkRead files reads l) where
@@ -90,14 +101,18 @@ module _ (files : List FileOf) (reads : List ReadOf) where
     plain_before (suc file) = both HasPlainName (extensions_before (Some past) files reads file) (extensions_in (Some past) files reads file) (plain_before file) (plain_blocks file (blocks_in (read_at reads file).tree))
 
     -- what is found in a file is what is wrong with it
-    pub flaws_told : (file : ℕ) (es : List Told) → es ≡ map T (extensions_in (Some past) files reads file)
-        → outside_ranges es ++ again (map T (extensions_before (Some past) files reads file)) es ≡ workspace_flaws (Some past) files reads file
-    flaws_told file es is =
-        let own = extensions_in (Some past) files reads file in
-        let before = extensions_before (Some past) files reads file in
-        ap (λ (ts : List Told). outside_ranges ts ++ again (map T before) ts) is
-        ∙ ap (λ (fs : List Flaw). fs ++ again (map T before) (map T own)) (outside_told own)
-        ∙ ap (λ (fs : List Flaw). not_extendable (Some past) files reads own ++ fs) (again_told before own (plain_before file) (plain_blocks file (blocks_in (read_at reads file).tree)))
+    pub flaws_told : (file : ℕ) (p : Profile) → p ≡ (file_at files file).profile → (es : List Told) → es ≡ map T (extensions_in (Some past) files reads file)
+        → outside_ranges es ++ again (taken_before p (map T (extensions_before (Some past) files reads file))) es ≡ workspace_flaws (Some past) files reads file
+    flaws_told file p q es is =
+        let own : List ExtensionOf = extensions_in (Some past) files reads file in
+        let before : List ExtensionOf = extensions_before (Some past) files reads file in
+        let profile : Profile = (file_at files file).profile in
+        ap (λ (r : Profile). outside_ranges es ++ again (taken_before r (map T before)) es) q
+        ∙ ap (λ (ts : List Told). outside_ranges ts ++ again (taken_before profile (map T before)) ts) is
+        ∙ ap (λ (fs : List Flaw). fs ++ again (taken_before profile (map T before)) (map T own)) (outside_told own)
+        ∙ ap (λ (ts : List Told). not_extendable (Some past) files reads own ++ again ts (map T own)) (taken_told profile before)
+        ∙ ap (λ (fs : List Flaw). not_extendable (Some past) files reads own ++ fs)
+        (again_told (taken_before profile before) own (taken_plain profile before (plain_before file)) (plain_blocks file (blocks_in (read_at reads file).tree)))
 
   pub before_more : (file next : ℕ) → next ≡ suc file → (es : List Told) → es ≡ map T (extensions_in (Some past) files reads file)
       → map T (extensions_before (Some past) files reads file) ++ es ≡ map T (extensions_before (Some past) files reads next)

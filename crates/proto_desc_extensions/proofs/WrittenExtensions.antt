@@ -2,20 +2,22 @@
 use Rattle.std.proofs.Common.{◌≡◌, ℕ, zero, suc, ℤ, not, List, [], ◌∷◌, ◌++◌, map, flat_map, Option, Some, None, option_and_then, refl, sym, ◌∙◌, ap, subst, arith, Contains, false}
 use Rattle.proto_base.proofs.Common.{Contains-append_left, Contains-append_right, from_map, map-append}
 use Rattle.proto_base.specs.declared.fault.FaultKind.TheVariants as kind
+use Rattle.proto_base.specs.declared.profile.Profile.{Profile}
+use Rattle.proto_base.specs.declared.profile.Profile.TheVariants as language
 pub use Rattle.proto_base.proofs.Common.{from_flat_map}
 use Rattle.proto_tree.specs.declared.piece.Header.{Header}
 use Rattle.proto_tree.specs.declared.piece.Header.TheVariants as header
 use Rattle.proto_tree.specs.Tree.{Tree}
-use Rattle.proto_files.proofs.Common.{FileOf, ReadOf, read_at}
+use Rattle.proto_files.proofs.Common.{FileOf, ReadOf, file_at, read_at}
 use Rattle.proto_ast.proofs.Common.{BlockOf, FieldOf, blocks_in, fields_in, number_at, options_in, Scene}
 use Rattle.proto_ast.specs.declared.options.Element.TheVariants as element
 use Rattle.proto_desc_numbers.specs.declared.flaw.Flaw.{Flaw}
 use Rattle.proto_desc_numbers.proofs.Common.{earlier, flaw, flaw_if, is_field_number, marked, number_of_field, outside}
 use Rattle.proto_desc_numbers.proofs.CappedCovers.{contains_flat}
 use Rattle.proto_desc_numbers.proofs.CappedRanges.{outside_here}
-use Rattle.proto_desc_checks.proofs.Common.{block_flaws, extend_flaws, file_flaws, flaws_in_blocks, flaws_of_extension, option_flaws}
+use Rattle.proto_desc_checks.proofs.Common.{bars_extend, block_flaws, extend_flaws, file_flaws, flaws_in_blocks, flaws_of_extension, option_flaws}
 use Rattle.proto_resolved.specs.SceneOf.{scene_of}
-use Rattle.proto_desc_extensions.specs.Common.{ExtensionOf, are_same, block_extensions, extendee_in, extensions_before, extensions_in, extensions_of, is_extendable, name_meant, not_extendable, repeated_extensions, workspace_flaws}
+use Rattle.proto_desc_extensions.specs.Common.{ExtensionOf, are_same, block_extensions, extendee_in, extensions_before, extensions_in, extensions_of, is_extendable, name_meant, not_extendable, repeated_extensions, taken_before, workspace_flaws}
 
 -- an extension as it is written: where its number stands, and the name of what it extends
 pub record Written : Type 0 where
@@ -53,6 +55,10 @@ module _ (files : List FileOf) (reads : List ReadOf) where
   written_before zero = []
   written_before (suc file) = written_before file ++ written_in file
 
+  -- those whose numbers the extensions of the file may not have
+  abbrev pub written_taken : ℕ → List Written
+  written_taken file = taken_before (file_at files file).profile (written_before file)
+
   module _ (cap : Option ℕ) where
     fields_written : (file : ℕ) (name : List (List ℕ)) (fs : List FieldOf) → map (λ f. record { number = number_of_field (scene cap file) f; extendee = name }) fs ≡ map (as_extension cap) (map (written_as file name) fs)
     fields_written file name [] = refl
@@ -79,6 +85,13 @@ module _ (files : List FileOf) (reads : List ReadOf) where
         ∙ ap (λ (es : List ExtensionOf). map (as_extension cap) (written_before file) ++ es) (in_written file)
         ∙ sym (map-append (as_extension cap) (written_before file) (written_in file))
 
+    taken_written : (file : ℕ) → taken_before (file_at files file).profile (extensions_before cap files reads file) ≡ map (as_extension cap) (written_taken file)
+    taken_written file = by (file_at files file).profile
+      where
+        by : (p : Profile) → taken_before p (extensions_before cap files reads file) ≡ map (as_extension cap) (taken_before p (written_before file))
+        by language.Core = before_written file
+        by language.AsWritten = refl
+
     tokens_written : (ws : List Written) → map (λ e. e.number.token) (map (as_extension cap) ws) ≡ map (λ w. w.token) ws
     tokens_written [] = refl
     tokens_written (w ∷ ws) = ap (λ (ts : List ℕ). w.token ∷ ts) (tokens_written ws)
@@ -91,14 +104,15 @@ module _ (files : List FileOf) (reads : List ReadOf) where
     outside_written (w ∷ ws) = ap (λ (fs : List Flaw). outside_of w ++ fs) (outside_written ws)
 
     abbrev pub again_of : ℕ → List Flaw
-    again_of file = marked kind.DuplicateExtension (map (λ w. w.token) (written_in file)) (earlier are_same (map (as_extension cap) (written_before file)) (map (as_extension cap) (written_in file)))
+    again_of file = marked kind.DuplicateExtension (map (λ w. w.token) (written_in file)) (earlier are_same (map (as_extension cap) (written_taken file)) (map (as_extension cap) (written_in file)))
 
     pub flaws_written : (file : ℕ) → workspace_flaws cap files reads file ≡ flat_map outside_of (written_in file) ++ again_of file
     flaws_written file =
-        ap (λ (es : List ExtensionOf). not_extendable cap files reads es ++ repeated_extensions (extensions_before cap files reads file) es) (in_written file)
-        ∙ ap (λ (fs : List Flaw). fs ++ repeated_extensions (extensions_before cap files reads file) (map (as_extension cap) (written_in file))) (outside_written (written_in file))
-        ∙ ap (λ (es : List ExtensionOf). flat_map outside_of (written_in file) ++ repeated_extensions es (map (as_extension cap) (written_in file))) (before_written file)
-        ∙ ap (λ (ts : List ℕ). flat_map outside_of (written_in file) ++ marked kind.DuplicateExtension ts (earlier are_same (map (as_extension cap) (written_before file)) (map (as_extension cap) (written_in file)))) (tokens_written (written_in file))
+        let taken : List ExtensionOf = taken_before (file_at files file).profile (extensions_before cap files reads file) in
+        ap (λ (es : List ExtensionOf). not_extendable cap files reads es ++ repeated_extensions taken es) (in_written file)
+        ∙ ap (λ (fs : List Flaw). fs ++ repeated_extensions taken (map (as_extension cap) (written_in file))) (outside_written (written_in file))
+        ∙ ap (λ (es : List ExtensionOf). flat_map outside_of (written_in file) ++ repeated_extensions es (map (as_extension cap) (written_in file))) (taken_written file)
+        ∙ ap (λ (ts : List ℕ). flat_map outside_of (written_in file) ++ marked kind.DuplicateExtension ts (earlier are_same (map (as_extension cap) (written_taken file)) (map (as_extension cap) (written_in file)))) (tokens_written (written_in file))
 
   -- ---- in the file alone
 
@@ -120,7 +134,7 @@ module _ (files : List FileOf) (reads : List ReadOf) where
             let limit : is_field_number (number_at (scene d file) f.0.number) ≡ false = ap (λ (x : Written). is_field_number (written_number d x)) f.2 ∙ e in
             let here : Contains (outsides within) (flaw kind.NumberRange f.0.number) =
             outside_here is_field_number (λ (y : FieldOf). y.number) (λ y. number_at (scene d file) y.number) (fields_in within) f.0 f.1 limit in
-            Contains-append_right (flaw_if (scene d file).is_proto3 kind.NotInProto3 x.keyword) (outsides within ++ others within) (flaw kind.NumberRange w.token)
+            Contains-append_right (flaw_if (bars_extend (scene d file).profile (scene d file).is_proto3) kind.NotInProto3 x.keyword) (outsides within ++ others within) (flaw kind.NumberRange w.token)
             (Contains-append_left (outsides within) (others within) (flaw kind.NumberRange w.token) (subst (λ (y : Written). Contains (outsides within) (flaw kind.NumberRange y.token)) f.2 here))
     in_extend whole within w c e = absurd (omega (arith, c.1))
 

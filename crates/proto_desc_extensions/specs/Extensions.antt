@@ -6,13 +6,15 @@ use Rattle.std.specs.Option.{option_and_then}
 use Rattle.std.specs.Ordering.{int_eq}
 use Rattle.proto_base.specs.Texts.{Text}
 use Rattle.proto_base.specs.declared.fault.FaultKind.TheVariants as kind
+use Rattle.proto_base.specs.declared.profile.Profile.{Profile}
+use Rattle.proto_base.specs.declared.profile.Profile.TheVariants as profile
 use Rattle.proto_tree.specs.References.{first_of}
 use Rattle.proto_tree.specs.Tree.{Tree}
 use Rattle.proto_tree.specs.declared.piece.Header.{Header}
 use Rattle.proto_tree.specs.declared.piece.Header.TheVariants as header
 use Rattle.proto_tree.specs.declared.tree.Reference.{Reference}
 use Rattle.proto_files.specs.FilesRead.{ReadOf, read_at}
-use Rattle.proto_files.specs.GivenFiles.{FileOf}
+use Rattle.proto_files.specs.GivenFiles.{FileOf, file_at}
 use Rattle.proto_names_rules.specs.Faults.{place_of}
 use Rattle.proto_names_rules.specs.Grown.{At}
 use Rattle.proto_names_rules.specs.Names.{same_name}
@@ -76,6 +78,12 @@ extensions_before cap files reads zero = []
 extensions_before cap files reads (suc file) =
     extensions_before cap files reads file ++ extensions_in cap files reads file
 
+-- of the extensions before a file those whose numbers its own may not have: in the core language
+-- all, as written none (two files may use one number there)
+abbrev pub taken_before : {A : Type 0} → Profile → List A → List A
+taken_before profile.Core before = before
+taken_before profile.AsWritten before = []
+
 -- ---- what messages leave to extensions
 
 -- the header is that of a message whose name is at this token (as `is_enum_at` of proto_resolved is
@@ -132,7 +140,7 @@ abbrev pub are_same : ExtensionOf → ExtensionOf → Bool
 are_same a b = same_name a.extendee b.extendee && int_eq a.number.number b.number.number
 
 -- 37 DuplicateExtension at each number that an earlier extension of the same message has: one of
--- those before all of these, or one of these
+-- those that are taken before all of these, or one of these
 abbrev pub repeated_extensions : List ExtensionOf → List ExtensionOf → List Flaw
 repeated_extensions before es =
     marked kind.DuplicateExtension (map (λ e. e.number.token) es) (earlier are_same before es)
@@ -141,7 +149,8 @@ repeated_extensions before es =
 abbrev pub workspace_flaws : Option ℕ → List FileOf → List ReadOf → ℕ → List Flaw
 workspace_flaws cap files reads file =
     not_extendable cap files reads (extensions_in cap files reads file)
-    ++ repeated_extensions (extensions_before cap files reads file)
+    ++ repeated_extensions
+    (taken_before (file_at files file).profile (extensions_before cap files reads file))
     (extensions_in cap files reads file)
 
 -- what is wrong with a file of a workspace: with the file alone, and with it in its workspace

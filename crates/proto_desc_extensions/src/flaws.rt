@@ -3,6 +3,7 @@
 ghost use Rattle.std.specs.Prelude.{◌≡◌, ◌++◌, [], List, map, replicate, IfOk, OnOk};
 ghost use Rattle.proto_resolved.specs.LinkOfFiles.{IsLinkOf};
 ghost use Rattle.proto_resolved.specs.Scenes.{AreScenes};
+ghost use Rattle.proto_desc_extensions.specs.Extensions.{taken_before};
 ghost use Rattle.proto_desc_extensions.specs.Listed.{AreWorkspaceFlaws, HasSeen, Told, again, outside_ranges, told_by};
 ghost use Rattle.proto_desc_extensions.specs.OpenTables.{IsOpenTable};
 
@@ -11,7 +12,7 @@ use crate::listed::{ExtensionAt, extensions};
 use crate::open_table::open_table;
 use indexmap::{IndexMap, IndexSet};
 use proto_ast::Scene;
-use proto_base::{FaultKind, NoMemory};
+use proto_base::{FaultKind, NoMemory, Profile};
 use proto_desc_numbers::{Flaw, NumberAt, RangeAt, add_if};
 use proto_files::Files;
 use proto_resolved::Link;
@@ -93,6 +94,35 @@ fn flaws_of<'a>(
     Ok(found)
 }
 
+/// The same where no extension stands before.
+fn own_flaws(alloc: Global, extensions: &[ExtensionAt]) -> Result<Vec<Flaw>, NoMemory>
+    ensures { IfOk result (λ found. found.items ≡ outside_ranges (map told_by extensions.now)
+        ++ again [] (map told_by extensions.now)) }
+{
+    let mut seen = IndexSet::new(alloc);
+    flaws_of(alloc, &mut seen, extensions)
+}
+
+/// The flaws of the extensions of a file of the language, which are kept for later, too.
+fn flaws_in<'a>(
+    alloc: Global,
+    profile: Profile,
+    seen: &mut IndexSet<Key<'a>>,
+    extensions: &[ExtensionAt<'a>],
+) -> Result<Vec<Flaw>, NoMemory>
+    ensures flaws { IfOk result (λ found. (before : List Told) → HasSeen seen.old before
+        → found.items ≡ outside_ranges (map told_by extensions.now)
+        ++ again (taken_before profile before) (map told_by extensions.now)) }
+    ensures seen { OnOk result ((before : List Told) → HasSeen seen.old before
+        → HasSeen seen.new (before ++ map told_by extensions.now)) }
+{
+    let found = flaws_of(alloc, seen, extensions)?;
+    match profile {
+        Profile::Core => Ok(found),
+        Profile::AsWritten => own_flaws(alloc, extensions),
+    }
+}
+
 /// No flaw in each of so many files.
 fn no_flaws(alloc: Global, count: usize) -> Result<Vec<Vec<Flaw>>, NoMemory>
     ensures { IfOk result (λ found. map (λ v. v.items) found.items ≡ replicate count []) }
@@ -122,15 +152,15 @@ fn flaws_with(
     for file in 0..files.len() as u32 {
         let scene = &scenes[file as usize];
         let extensions = extensions(alloc, files, link, table, scene, file)?;
-        found.push(flaws_of(alloc, &mut seen, &extensions)?)?;
+        found.push(flaws_in(alloc, files.profile(file), &mut seen, &extensions)?)?;
     }
     Ok(found)
 }
 
 /// For each file, in the order of their paths, what is wrong with it that its workspace decides:
 /// the numbers of its extensions, each inside no extension range of the message that it extends, or
-/// that of an earlier extension of that message. The link and the scenes are those of the files.
-/// Fails only when out of memory.
+/// that of an earlier extension of that message (as written, of one of its file). The link and the
+/// scenes are those of the files. Fails only when out of memory.
 pub fn workspace_flaws(
     alloc: Global,
     files: &Files,

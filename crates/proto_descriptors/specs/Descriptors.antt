@@ -88,6 +88,9 @@ pub record FileOptionsDesc : Type 0 where
   pub objc_class_prefix : Option Text
   pub csharp_namespace : Option Text
   pub php_namespace : Option Text
+  pub java_generate_equals_and_hash : Option Bool
+  pub java_generic_services : Option Bool
+  pub ruby_package : Option Text
 
 -- a file by its path; `public_dependency` has places in `dependency`, from 0
 pub record FileDesc : Type 0 where

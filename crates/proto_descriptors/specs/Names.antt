@@ -1,6 +1,8 @@
--- The names that descriptor.proto gives to labels, types, modes and levels.
+-- The names that descriptor.proto gives to labels, types, modes, levels and C++ types.
 use Rattle.std.specs.Prelude.{codes}
 use Rattle.proto_base.specs.Texts.{Text}
+use Rattle.proto_descriptors.specs.declared.field.CType.{CType}
+use Rattle.proto_descriptors.specs.declared.field.CType.TheVariants as c_type
 use Rattle.proto_descriptors.specs.declared.field.FieldType.{FieldType}
 use Rattle.proto_descriptors.specs.declared.field.FieldType.TheVariants as field_type
 use Rattle.proto_descriptors.specs.declared.field.Label.{Label}
@@ -47,3 +49,9 @@ abbrev pub idempotency_level_name : IdempotencyLevel → Text
 idempotency_level_name idempotency_level.Unknown = codes "IDEMPOTENCY_UNKNOWN"
 idempotency_level_name idempotency_level.NoSideEffects = codes "NO_SIDE_EFFECTS"
 idempotency_level_name idempotency_level.Idempotent = codes "IDEMPOTENT"
+
+-- the word of a C++ type, as a field writes it at its option `ctype`
+abbrev pub c_type_name : CType → Text
+c_type_name c_type.String = codes "STRING"
+c_type_name c_type.Cord = codes "CORD"
+c_type_name c_type.StringPiece = codes "STRING_PIECE"

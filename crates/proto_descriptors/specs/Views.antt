@@ -128,6 +128,9 @@ file_options_desc o = record {
   objc_class_prefix = option_map string_bytes o.objc_class_prefix;
   csharp_namespace = option_map string_bytes o.csharp_namespace;
   php_namespace = option_map string_bytes o.php_namespace;
+  java_generate_equals_and_hash = o.java_generate_equals_and_hash;
+  java_generic_services = o.java_generic_services;
+  ruby_package = option_map string_bytes o.ruby_package;
 }
 
 -- a file with all that it declares, in order

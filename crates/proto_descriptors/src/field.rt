@@ -2,7 +2,7 @@
 
 ghost use Rattle.std.specs.Prelude.{◌≡◌, IfOk};
 ghost use Rattle.proto_descriptors.specs.Descriptors.{FieldDesc};
-ghost use Rattle.proto_descriptors.specs.Names.{label_name, type_word};
+ghost use Rattle.proto_descriptors.specs.Names.{c_type_name, label_name, type_word};
 ghost use Rattle.proto_descriptors.specs.Views.{field_desc, role_extendee, role_json_name};
 
 use crate::copying::{HasCopy, copied_text};
@@ -102,10 +102,23 @@ pub enum FieldType {
 /// The options that stand at a field.
 #[derive(Clone, Copy)]
 pub struct FieldOptions {
+    /// The C++ type of a text.
+    pub ctype: Option<CType>,
     /// Whether the values of a repeated field stand in one block.
     pub packed: Option<bool>,
     /// Whether the field is no longer to be used.
     pub deprecated: Option<bool>,
+}
+
+/// The C++ type of a text.
+#[derive(Clone, Copy)]
+pub enum CType {
+    /// `std::string`.
+    String,
+    /// A cord, whose parts are shared.
+    Cord,
+    /// A part of a text that stands elsewhere.
+    StringPiece,
 }
 
 impl HasCopy for FieldDescriptor {
@@ -186,6 +199,19 @@ impl FieldType {
             FieldType::Sfixed64 => "TYPE_SFIXED64",
             FieldType::Sint32 => "TYPE_SINT32",
             FieldType::Sint64 => "TYPE_SINT64",
+        }
+    }
+}
+
+impl CType {
+    /// The name in descriptor.proto.
+    pub fn name(self) -> &'static str
+        ensures { result.now ≡ c_type_name self }
+    {
+        match self {
+            CType::String => "STRING",
+            CType::Cord => "CORD",
+            CType::StringPiece => "STRING_PIECE",
         }
     }
 }

@@ -163,18 +163,52 @@ pub struct FileOptions {
     pub csharp_namespace: Option<String>,
     /// The namespace of the PHP classes.
     pub php_namespace: Option<String>,
+    /// Whether Java classes have `equals` and `hashCode`; of no effect any more.
+    pub java_generate_equals_and_hash: Option<bool>,
+    /// Whether Java classes of services are made that stand on no RPC system.
+    pub java_generic_services: Option<bool>,
+    /// The package of the Ruby classes.
+    pub ruby_package: Option<String>,
+}
+
+/// The same texts, each where there is one. Three at a time, since each early exit drops the texts
+/// before it.
+fn copied_texts(
+    alloc: Global,
+    first: &Option<String>,
+    second: &Option<String>,
+    third: &Option<String>,
+) -> Result<(Option<String>, Option<String>, Option<String>), NoMemory>
+    ensures first { IfOk result (λ t.
+        option_map string_bytes t.0 ≡ option_map string_bytes first.now) }
+    ensures second { IfOk result (λ t.
+        option_map string_bytes t.1 ≡ option_map string_bytes second.now) }
+    ensures third { IfOk result (λ t.
+        option_map string_bytes t.2 ≡ option_map string_bytes third.now) }
+{
+    let first = copied_text(alloc, first)?;
+    let second = copied_text(alloc, second)?;
+    let third = copied_text(alloc, third)?;
+    Ok((first, second, third))
 }
 
 /// The same options.
 fn copied_options(alloc: Global, options: &FileOptions) -> Result<FileOptions, NoMemory>
     ensures { IfOk result (λ copy. file_options_desc copy ≡ file_options_desc options.now) }
 {
-    let java_package = copied_text(alloc, &options.java_package)?;
-    let java_outer_classname = copied_text(alloc, &options.java_outer_classname)?;
-    let go_package = copied_text(alloc, &options.go_package)?;
-    let objc_class_prefix = copied_text(alloc, &options.objc_class_prefix)?;
-    let csharp_namespace = copied_text(alloc, &options.csharp_namespace)?;
-    let php_namespace = copied_text(alloc, &options.php_namespace)?;
+    let (java_package, java_outer_classname, go_package) = copied_texts(
+        alloc,
+        &options.java_package,
+        &options.java_outer_classname,
+        &options.go_package,
+    )?;
+    let (objc_class_prefix, csharp_namespace, php_namespace) = copied_texts(
+        alloc,
+        &options.objc_class_prefix,
+        &options.csharp_namespace,
+        &options.php_namespace,
+    )?;
+    let ruby_package = copied_text(alloc, &options.ruby_package)?;
     Ok(FileOptions {
         java_package,
         java_outer_classname,
@@ -186,6 +220,9 @@ fn copied_options(alloc: Global, options: &FileOptions) -> Result<FileOptions, N
         objc_class_prefix,
         csharp_namespace,
         php_namespace,
+        java_generate_equals_and_hash: options.java_generate_equals_and_hash,
+        java_generic_services: options.java_generic_services,
+        ruby_package,
     })
 }
 

@@ -15,7 +15,7 @@ use Rattle.proto_descriptors.specs.declared.message.MessageOptions.{MessageOptio
 use Rattle.proto_descriptors.specs.declared.message.NumberRange.{NumberRange}
 use Rattle.proto_descriptors.specs.declared.service.MethodOptions.{MethodOptions}
 use Rattle.proto_descriptors.specs.declared.service.ServiceOptions.{ServiceOptions}
-pub use Rattle.proto_descriptors.specs.Names.{label_name, type_word, optimize_mode_name, idempotency_level_name}
+pub use Rattle.proto_descriptors.specs.Names.{c_type_name, label_name, type_word, optimize_mode_name, idempotency_level_name}
 
 -- ---- names
 
@@ -29,7 +29,8 @@ syntax_name syntax.Proto3 = Some (codes "proto3")
 -- the options at a field, each left out where it is not written
 abbrev pub field_options_slots : FieldOptions → List Slot
 field_options_slots o =
-    (codes "deprecated", option_map boolean_text o.deprecated)
+    (codes "ctype", option_map (λ t. json_string (c_type_name t)) o.ctype)
+    ∷ (codes "deprecated", option_map boolean_text o.deprecated)
     ∷ (codes "packed", option_map boolean_text o.packed) ∷ []
 
 -- a field: label, name, number and type always stand, any other key only where it says something
@@ -193,6 +194,11 @@ file_options_slots o =
     ∷ (codes "csharpNamespace", option_map json_string o.csharp_namespace)
     ∷ (codes "deprecated", option_map boolean_text o.deprecated)
     ∷ (codes "goPackage", option_map json_string o.go_package)
+    ∷ (
+      codes "javaGenerateEqualsAndHash",
+      option_map boolean_text o.java_generate_equals_and_hash,
+    )
+    ∷ (codes "javaGenericServices", option_map boolean_text o.java_generic_services)
     ∷ (codes "javaMultipleFiles", option_map boolean_text o.java_multiple_files)
     ∷ (codes "javaOuterClassname", option_map json_string o.java_outer_classname)
     ∷ (codes "javaPackage", option_map json_string o.java_package)
@@ -202,7 +208,8 @@ file_options_slots o =
       option_map (λ mode. json_string (optimize_mode_name mode))
           o.optimize_for,
     )
-    ∷ (codes "phpNamespace", option_map json_string o.php_namespace) ∷ []
+    ∷ (codes "phpNamespace", option_map json_string o.php_namespace)
+    ∷ (codes "rubyPackage", option_map json_string o.ruby_package) ∷ []
 
 -- a file: its path always stands, any other key only where it says something
 abbrev pub file_slots : FileDesc → List Slot

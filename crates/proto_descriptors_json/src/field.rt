@@ -1,7 +1,7 @@
 //! The text of fields of messages.
 
 ghost use Rattle.std.specs.Prelude.{[], ◌∷◌, OnOk, take, drop, codes, option_map};
-ghost use Rattle.proto_descriptors_json.specs.DescriptorText.{label_name, type_word, field_slots, field_text, field_options_slots};
+ghost use Rattle.proto_descriptors_json.specs.DescriptorText.{c_type_name, label_name, type_word, field_slots, field_text, field_options_slots};
 ghost use Rattle.proto_descriptors_json.specs.JsonText.{json_string};
 ghost use Rattle.proto_descriptors_json.specs.Written.{PutsMember, PutsMembers, options_slot};
 ghost use Rattle.proto_descriptors.specs.Views.{field_desc, role_extendee, role_json_name};
@@ -9,7 +9,7 @@ ghost use Rattle.proto_descriptors.specs.Views.{field_desc, role_extendee, role_
 use crate::members::{put, put_mark, put_optional};
 use crate::options::{close, put_option};
 use crate::values::ToJson;
-use proto_descriptors::{FieldDescriptor, FieldOptions, FieldRole, FieldType, Label};
+use proto_descriptors::{CType, FieldDescriptor, FieldOptions, FieldRole, FieldType, Label};
 use serde::Serializer;
 
 impl ToJson for Label {
@@ -22,6 +22,14 @@ impl ToJson for Label {
 
 impl ToJson for FieldType {
     ghost text = { λ t. json_string (type_word t) };
+
+    fn send<S: Serializer>(&self, out: &mut S) -> Result<(), S::Error> {
+        out.str(self.name())
+    }
+}
+
+impl ToJson for CType {
+    ghost text = { λ t. json_string (c_type_name t) };
 
     fn send<S: Serializer>(&self, out: &mut S) -> Result<(), S::Error> {
         out.str(self.name())
@@ -81,7 +89,8 @@ fn put_options<S: Serializer>(out: &mut S, options: &FieldOptions) -> Result<(),
     ensures { OnOk result (PutsMember (options_slot (field_options_slots options.now))
         (S.written out.old) (S.written out.new)) }
 {
-    let is_open = put_option(out, false, "deprecated", &options.deprecated)?;
+    let is_open = put_option(out, false, "ctype", &options.ctype)?;
+    let is_open = put_option(out, is_open, "deprecated", &options.deprecated)?;
     let is_open = put_option(out, is_open, "packed", &options.packed)?;
     close(out, is_open)
 }

@@ -115,13 +115,14 @@ fn put_options<S: Serializer>(out: &mut S, options: &FileOptions) -> Result<(), 
         (S.written out.old) (S.written out.new)) }
 {
     let is_open = put_first_options(out, options)?;
+    let is_open = put_java_options(out, is_open, options)?;
     put_later_options(out, is_open, options)
 }
 
-/// The options up to `javaMultipleFiles`. Answers whether their object has begun.
+/// The options up to `goPackage`. Answers whether their object has begun.
 fn put_first_options<S: Serializer>(out: &mut S, options: &FileOptions) -> Result<bool, S::Error>
     ensures { IfOk result (λ is_open. (last : Log)
-        → EndsOptions is_open (drop 5 (file_options_slots (file_options_desc options.now)))
+        → EndsOptions is_open (drop 4 (file_options_slots (file_options_desc options.now)))
         (S.written out.new) last
         → PutsMember (options_slot (file_options_slots (file_options_desc options.now)))
         (S.written out.old) last) }
@@ -129,34 +130,45 @@ fn put_first_options<S: Serializer>(out: &mut S, options: &FileOptions) -> Resul
     let is_open = put_option(out, false, "ccEnableArenas", &options.cc_enable_arenas)?;
     let is_open = put_option(out, is_open, "csharpNamespace", &options.csharp_namespace)?;
     let is_open = put_option(out, is_open, "deprecated", &options.deprecated)?;
-    let is_open = put_option(out, is_open, "goPackage", &options.go_package)?;
-    put_option(
-        out,
-        is_open,
-        "javaMultipleFiles",
-        &options.java_multiple_files,
-    )
+    put_option(out, is_open, "goPackage", &options.go_package)
 }
 
-/// The options from `javaOuterClassname` on, and the end of their object.
+/// The options of Java. Answers whether the object has begun.
+fn put_java_options<S: Serializer>(
+    out: &mut S,
+    is_open: bool,
+    options: &FileOptions,
+) -> Result<bool, S::Error>
+    ensures { IfOk result (λ is_open_then. (last : Log)
+        → EndsOptions is_open_then (drop 9 (file_options_slots (file_options_desc options.now)))
+        (S.written out.new) last
+        → EndsOptions is_open (drop 4 (file_options_slots (file_options_desc options.now)))
+        (S.written out.old) last) }
+{
+    let equals = &options.java_generate_equals_and_hash;
+    let is_open = put_option(out, is_open, "javaGenerateEqualsAndHash", equals)?;
+    let services = &options.java_generic_services;
+    let is_open = put_option(out, is_open, "javaGenericServices", services)?;
+    let multiple = &options.java_multiple_files;
+    let is_open = put_option(out, is_open, "javaMultipleFiles", multiple)?;
+    let outer = &options.java_outer_classname;
+    let is_open = put_option(out, is_open, "javaOuterClassname", outer)?;
+    put_option(out, is_open, "javaPackage", &options.java_package)
+}
+
+/// The options from `objcClassPrefix` on, and the end of their object.
 fn put_later_options<S: Serializer>(
     out: &mut S,
     is_open: bool,
     options: &FileOptions,
 ) -> Result<(), S::Error>
     ensures { OnOk result (EndsOptions
-        is_open (drop 5 (file_options_slots (file_options_desc options.now)))
+        is_open (drop 9 (file_options_slots (file_options_desc options.now)))
         (S.written out.old) (S.written out.new)) }
 {
-    let is_open = put_option(
-        out,
-        is_open,
-        "javaOuterClassname",
-        &options.java_outer_classname,
-    )?;
-    let is_open = put_option(out, is_open, "javaPackage", &options.java_package)?;
     let is_open = put_option(out, is_open, "objcClassPrefix", &options.objc_class_prefix)?;
     let is_open = put_option(out, is_open, "optimizeFor", &options.optimize_for)?;
     let is_open = put_option(out, is_open, "phpNamespace", &options.php_namespace)?;
+    let is_open = put_option(out, is_open, "rubyPackage", &options.ruby_package)?;
     close(out, is_open)
 }

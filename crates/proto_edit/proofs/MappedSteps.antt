@@ -1,5 +1,5 @@
 -- A rename that no case refuses is a mapped step.
-use Rattle.std.proofs.Common.{◌≢◌, ℕ, ◌<◌, List, [], length, slice_index_or, refl, subst, inl, AllPairs}
+use Rattle.std.proofs.Common.{◌≢◌, ℕ, ◌<◌, List, length, slice_index_or, refl, subst, inl, AllPairs}
 use Rattle.std.proofs.lemmas.List.Elements.{Contains-get_or}
 use Rattle.proto_files.proofs.Common.{FaultAt, ReadOf, AreRead, read_at, FileOf, file_at, IsText, IsBefore, never_before_itself}
 use Rattle.proto_desc.specs.Whole.{FileFaults, of_read, of_link, of_check}
@@ -16,6 +16,7 @@ use Rattle.proto_edit_rename_described.proofs.FilesTurn.{renames_are_mapped}
 use Rattle.proto_edit.specs.Common.{AreCompiled, IsAdmissible, IsMappedStep, rename}
 use Rattle.proto_edit.specs.MappedSteps.{AdmissibleRenamesStep, RenamesAreSteps}
 use Rattle.proto_edit.proofs.GivenAgain.{compiled_are_read}
+use Rattle.proto_files.specs.GivenFiles.{no_file}
 
 -- ---- the step
 
@@ -25,19 +26,19 @@ allowed_by files reads name to t compiled read named admissible = record {
   link = λ x h. compiled.clean x (of_link x h);
   checks = λ x h. compiled.clean x (of_check x h);
   named = named;
-  admissible = λ n c. admissible n (reads, read, c);
+  admissible = λ n c. admissible n (reads, read, inl c);
 }
 
 module _ (files : List FileOf) (reads : List ReadOf) (name to : List ℕ) (t : Target) (after : List FileOf) (seen : List ReadOf) (compiled : AreCompiled files) (read : AreRead files reads)
     (named : IsNamed files reads name t) (admissible : IsAdmissible files (rename name to)) (w : AreReworded (renamed_words files reads t to) files reads after seen) where
   no_case : (n : ℕ) → RenameCase files reads name to n → ⊥
-  no_case n c = admissible n (reads, read, c)
+  no_case n c = admissible n (reads, read, inl c)
 
   allowed : IsAllowedRename files reads name to t
   allowed = allowed_by files reads name to t compiled read named admissible
 
   texts : (k : ℕ) → k < length files → IsText (file_at files k).bytes
-  texts k l = file_is_text files (λ x h. compiled.clean x (of_read x h)) (file_at files k) (Contains-get_or files k (record { path = []; bytes = [] }) l)
+  texts k l = file_is_text files (λ x h. compiled.clean x (of_read x h)) (file_at files k) (Contains-get_or files k no_file l)
 
   put_in : IsPutIn files reads name to t after seen
   put_in = record { texts = texts; read = read; named = named; admissible = no_case; reworded = w }
@@ -83,7 +84,7 @@ words_are_put files reads name to t compiled read named admissible =
 
 -- there is a target, since cases 1 and 2 do not refuse
 pub target_of : (files : List FileOf) (reads : List ReadOf) (name to : List ℕ) → AreRead files reads → IsAdmissible files (rename name to) → (t : Target) × IsNamed files reads name t
-target_of files reads name to read admissible = targets_are_there files reads name to read (λ c. admissible 1 (reads, read, c)) (λ c. admissible 2 (reads, read, c))
+target_of files reads name to read admissible = targets_are_there files reads name to read (λ c. admissible 1 (reads, read, inl c)) (λ c. admissible 2 (reads, read, inl c))
 
 pub admissible_renames_step : AdmissibleRenamesStep
 admissible_renames_step files name to compiled admissible =

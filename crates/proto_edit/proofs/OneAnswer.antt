@@ -1,7 +1,10 @@
 -- Files that compile have one list of descriptors; an edit changes them in one way, or is refused by one case (for the crates above).
-use Rattle.std.proofs.Common.{◌≡◌, ℕ, Bool, List, inl, inr, sym, ap, subst, ◌∙◌, arith}
+use Rattle.std.proofs.Common.{◌≡◌, ℕ, Bool, List, Option, Some, None, inl, inr, sym, ap, ap₂, subst, ◌∙◌, arith}
 use Rattle.std.proofs.lemmas.Bool.{cases_lt}
-use Rattle.proto_files.proofs.Common.{ReadOf, AreRead, FileOf, read_once}
+use Rattle.proto_files.proofs.Common.{ReadOf, AreRead, FileOf, file_at, read_at, read_once}
+use Rattle.proto_text.proofs.Common.{offset_at}
+use Rattle.proto_ast.specs.CustomNames.{custom_name_in}
+use Rattle.proto_edit.specs.CustomOptions.{IsCustomAt, IsFirstCustom}
 use Rattle.proto_descriptors.specs.Descriptors.{FileDesc}
 use Rattle.proto_desc.specs.Whole.{of_link}
 use Rattle.proto_edit_entries.proofs.Common.{ChangeOf, IsPut, puts_are_once}
@@ -79,8 +82,34 @@ least_once w e m n x y = elim (cases_lt m n) [
   ]
 ]
 
+there_and_none : {P : Type 0} (o : Option ℕ) (token : ℕ) → o ≡ Some token → o ≡ None → P
+there_and_none o token some none = let e : Some token ≡ None = sym some ∙ none in cc
+
+one_token : (o : Option ℕ) (a b : ℕ) → o ≡ Some a → o ≡ Some b → a ≡ b
+one_token o a b p q = let e : Some a ≡ Some b = sym p ∙ q in cc
+
+-- there is one first custom option
+first_once : (reads : List ReadOf) (file other token same : ℕ) → IsFirstCustom reads file token → IsFirstCustom reads other same → (file ≡ other) × (token ≡ same)
+first_once reads file other token same x y = elim (cases_lt file other) [
+  | inl lt ↦ there_and_none (custom_name_in (read_at reads file).tree) token x.1 (y.2 file lt)
+  | inr ge ↦ elim (cases_lt other file) [
+    | inl gt ↦ there_and_none (custom_name_in (read_at reads other).tree) same y.1 (x.2 other gt)
+    | inr le ↦
+        let one : file ≡ other = omega (arith, ge, le) in
+        (one, one_token (custom_name_in (read_at reads other).tree) token same (subst (λ (k : ℕ). custom_name_in (read_at reads k).tree ≡ Some token) one x.1) y.1)
+  ]
+]
+
+custom_once : (w : List FileOf) (path file : List ℕ) (offset other : ℕ) → IsCustomAt w path offset → IsCustomAt w file other → (path ≡ file) × (offset ≡ other)
+custom_once w path file offset other x y =
+    let reads : x.0 ≡ y.0 = read_once w x.0 y.0 x.1 y.1 in
+    let one = first_once y.0 x.2 y.2 x.3 y.3 (subst (λ (rs : List ReadOf). IsFirstCustom rs x.2 x.3) reads x.4) y.4 in (
+      x.5 ∙ ap (λ (k : ℕ). (file_at w k).path) one.0 ∙ sym y.5,
+      x.6 ∙ ap (λ (rs : List ReadOf). offset_at (read_at rs x.2).tokens x.3) reads ∙ ap₂ (λ (k t : ℕ). offset_at (read_at y.0 k).tokens t) one.0 one.1 ∙ sym y.6,
+    )
+
 pub refused_once : StatementLaws → RefusedOnce
-refused_once laws w e has = (λ m n. least_once w e m n, λ path file offset other. place_once laws w e path file offset other has)
+refused_once laws w e has = (λ m n. least_once w e m n, (λ path file offset other. place_once laws w e path file offset other has, λ path file offset other. custom_once w path file offset other))
 
 -- ---- the descriptors under its map
 

@@ -12,6 +12,7 @@ use Rattle.proto_edit_entries.specs.EditsAsked.{IsNotable}
 use Rattle.proto_edit_entries.specs.Entries.{ChangeOf, IsEntry}
 use Rattle.proto_edit_entries.specs.Putting.{IsPut}
 use Rattle.proto_edit.specs.Compiled.{AreCompiled}
+use Rattle.proto_edit.specs.CustomOptions.{IsCustomAt}
 use Rattle.proto_edit.specs.Workspaces.{Asked, IsAdmissible, IsLeastCase, IsCaseAt, AreChanges, AreMapped, IsStep, IsMappedStep, IsUndo, Run, accepted, Undone}
 
 -- ---- workspaces
@@ -57,13 +58,16 @@ MappedOnce = (w : List FileOf) (e : Asked) (ds a b : List FileDesc)
     → AreMapped w e ds b
     → a ≡ b
 
--- An edit is refused by one case, and with one place where one is answered.
+-- An edit is refused by one case, and with one place where one is answered; the first custom option
+-- has one place.
 abbrev pub RefusedOnce : Type 0
 RefusedOnce = (w : List FileOf) (e : Asked)
     → AreCompiled w
     → ((m n : ℕ) → IsLeastCase w e m → IsLeastCase w e n → m ≡ n)
-    × ((path file : Path) (offset other : ℕ)
+    × (((path file : Path) (offset other : ℕ)
     → IsCaseAt w e path offset → IsCaseAt w e file other → (path ≡ file) × (offset ≡ other))
+    × ((path file : Path) (offset other : ℕ)
+    → IsCustomAt w path offset → IsCustomAt w file other → (path ≡ file) × (offset ≡ other)))
 
 -- Undoing what an edit answered leads back, and to no other files.
 abbrev pub StepsAreUndone : Type 0

@@ -1,7 +1,7 @@
 -- A workspace under edits: when an edit is refused, what it changes, what it leaves, and runs of
 -- edits. What is particular to an edit is said by cases on the edit, over the files and what is
 -- read of them; all else speaks of changes, and of no edit.
-use Rattle.std.specs.Prelude.{◌≡◌, ◌≢◌, ℕ, ◌<◌, List, [], ◌∷◌, Result, Ok, Err, string_bytes}
+use Rattle.std.specs.Prelude.{◌≡◌, ◌≢◌, ◌⊎◌, ℕ, ◌<◌, List, [], ◌∷◌, Result, Ok, Err, string_bytes}
 use Rattle.proto_base.specs.Texts.{Path}
 use Rattle.proto_files.specs.FilesRead.{ReadOf, AreRead}
 use Rattle.proto_files.specs.GivenFiles.{FileOf}
@@ -20,6 +20,7 @@ use Rattle.proto_edit_rules.specs.AddImport.{changes_of_addition, with_dependenc
 use Rattle.proto_edit_rules.specs.Statements.{tree_at, changed_at, IsPlaceOf as IsFileAt}
 use Rattle.proto_tree.specs.declared.tree.Import.{Import}
 use Rattle.proto_edit.specs.Compiled.{AreCompiled}
+use Rattle.proto_edit.specs.CustomOptions.{HasCustom, IsCustomAt}
 
 -- ---- the cases that refuse an edit
 
@@ -30,14 +31,19 @@ CaseOf files reads (delete_field name) n = RefusesDeletion files reads name n
 CaseOf files reads (add_import file path) n = RefusesAddition files reads file path n
 CaseOf files reads (drop_import file path) n = DropCase files reads file path n
 
--- case n holds
+-- case n holds: it is one of the edit's own, or 19, where a custom option stands in some file
 abbrev pub IsCase : List FileOf → Asked → ℕ → Type 0
-IsCase w e n = (reads : List ReadOf) × AreRead w reads × CaseOf w reads e n
+IsCase w e n = (reads : List ReadOf) × AreRead w reads
+    × (CaseOf w reads e n ⊎ ((n ≡ 19) × HasCustom reads))
 
 -- case n holds, and none before it
 pub record IsLeastCase (w : List FileOf) (e : Asked) (n : ℕ) : Type 0 where
   pub is : IsCase w e n
   pub least : (k : ℕ) → k < n → IsCase w e k → ⊥
+
+-- no case of the edit's own holds
+abbrev pub IsAllowed : List FileOf → Asked → Type 0
+IsAllowed w e = (n : ℕ) (reads : List ReadOf) → AreRead w reads → CaseOf w reads e n → ⊥
 
 -- no case holds
 abbrev pub IsAdmissible : List FileOf → Asked → Type 0
@@ -66,6 +72,8 @@ IsRefusal w e (refusal.Captured path offset) = IsLeastCase w e 7
     × IsCaseAt w e (string_bytes path) offset
 IsRefusal w e (refusal.Needed path offset) = IsLeastCase w e 15
     × IsCaseAt w e (string_bytes path) offset
+IsRefusal w e (refusal.OptionValue path offset) = IsLeastCase w e 19
+    × IsCustomAt w (string_bytes path) offset
 IsRefusal w e r = IsLeastCase w e (refusal_number r)
 
 -- ---- what an edit changes

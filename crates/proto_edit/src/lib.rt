@@ -2,6 +2,7 @@
 #![tactic(auto)]
 
 mod answering;
+mod custom;
 mod editing;
 pub mod laws;
 mod workspace;

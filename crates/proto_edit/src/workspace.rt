@@ -5,7 +5,7 @@ ghost use Rattle.proto_desc.specs.Checked.{AreDescribed};
 ghost use Rattle.proto_desc.specs.Edited.{AreDescriptorsOf};
 ghost use Rattle.proto_desc.specs.Views.{files_desc};
 ghost use Rattle.proto_files.specs.Faults.{HasNoFault};
-ghost use Rattle.proto_files.specs.GivenFiles.{files_of};
+ghost use Rattle.proto_files.specs.GivenFiles.{files_of, files_of_as};
 ghost use Rattle.proto_files.specs.FilesRead.{ReadOf, AreRead};
 ghost use Rattle.proto_desc.specs.Opening.{IsOpenError};
 ghost use Rattle.proto_desc.specs.Whole.{WorkspaceFaults, IsSortedOf};
@@ -15,7 +15,7 @@ ghost use Rattle.proto_edit_entries.specs.Putting.{IsPut};
 ghost use Rattle.proto_edit.specs.Answers.{IsPutRefusal};
 ghost use Rattle.proto_edit.specs.Compiled.{AreCompiled};
 
-use proto_base::{NoMemory, SchemaFault};
+use proto_base::{NoMemory, Profile, SchemaFault};
 use proto_desc::{Descriptors, Schema};
 use proto_edit_entries::{Change, ChangedTexts, Refusal, changed_texts};
 use proto_files::Files;
@@ -52,7 +52,22 @@ impl Workspace {
         ensures clean { IfOk result (λ _. HasNoFault (WorkspaceFaults (files_of files.items))) }
         ensures fault { IfErr result (λ e. IsOpenError (files_of files.items) e) }
     {
-        let schema = Schema::open(alloc, files)?;
+        Workspace::open_as(alloc, files, Profile::Core)
+    }
+
+    /// As `open`, for files of a language.
+    pub fn open_as(
+        alloc: Global,
+        files: Vec<(String, Vec<u8>)>,
+        profile: Profile,
+    ) -> Result<Workspace, SchemaFault>
+        ensures files { IfOk result (λ w. IsSortedOf (files_of_as profile files.items) w) }
+        ensures compiled { IfOk result (λ w. AreCompiled w) }
+        ensures clean { IfOk result (λ _. HasNoFault
+            (WorkspaceFaults (files_of_as profile files.items))) }
+        ensures fault { IfErr result (λ e. IsOpenError (files_of_as profile files.items) e) }
+    {
+        let schema = Schema::open_as(alloc, files, profile)?;
         // Its files are those of a workspace.
         schema.files().len();
         Ok(Workspace { schema })

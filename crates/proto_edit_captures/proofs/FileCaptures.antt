@@ -108,7 +108,7 @@ module _ (files : List FileOf) (reads : List ReadOf) (t : Target) (to : List ℕ
       scoped = has_scope T entry_name (link_skeleton files reads) (files_are_woven files reads r.read) (used_in file v) (there file within v c)
 
       word_plain : IsPlain p
-      word_plain = (uses_plain (file_at files file).bytes (read_at reads file).tokens (read_at reads file).tree (r.read.trees file within) v c).0.0
+      word_plain = (uses_plain (file_at files file).profile (file_at files file).bytes (read_at reads file).tokens (read_at reads file).tree (r.read.trees file within) v c).0.0
 
       has_meaning : (m : List (List ℕ)) × (meaning w q ≡ Some m)
       has_meaning = by (meaning w q) refl

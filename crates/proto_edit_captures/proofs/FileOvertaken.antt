@@ -70,7 +70,7 @@ module _ (files : List FileOf) (reads : List ReadOf) (are : AreRead files reads)
     scoped = has_scope T entry_name (link_skeleton files reads) (files_are_woven files reads are) (used_in file x) (there x c)
 
     word_plain : IsPlain p
-    word_plain = (uses_plain (file_at files file).bytes (read_at reads file).tokens (read_at reads file).tree (are.trees file within) x c).0.0
+    word_plain = (uses_plain (file_at files file).profile (file_at files file).bytes (read_at reads file).tokens (read_at reads file).tree (are.trees file within) x c).0.0
 
     has_meaning : (m : List (List ℕ)) × (meaning w q ≡ Some m)
     has_meaning = by (meaning w q) refl

@@ -138,7 +138,7 @@ module _ (files : List FileOf) (reads : List ReadOf) (are : AreRead files reads)
       (declared_there 0 (map names_in reads) k (names_in (read_at reads k)) p (omega (arith, m, n)) (index_map names_in reads (record { tokens = []; tree = End }) (names_in (read_at reads k)) k m) c))
 
   span : (k : ℕ) → k < length files → (low high : ℕ) × ItemsSpan low high (items k)
-  span k l = tree_span (file_at files k).bytes (read_at reads k).tokens (read_at reads k).tree (are.trees k l)
+  span k l = tree_span (file_at files k).profile (file_at files k).bytes (read_at reads k).tokens (read_at reads k).tree (are.trees k l)
 
   -- the words of a file's package
   words_plain : (k : ℕ) → k < length files → ArePlain (map (own k) (package_of (items k)))

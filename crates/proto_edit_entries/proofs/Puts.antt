@@ -5,9 +5,8 @@ use Rattle.proto_text.proofs.Common.{Edit, Puts, old_len, new_len, inverse_leads
 use Rattle.proto_files.specs.GivenFiles.{FileOf}
 use Rattle.proto_edit_entries.specs.Common.{ChangeOf, turned_round, inverted, IsChange, PutsFile, EachPuts, IsPut, PutsOnce, EntriesLeadBack}
 
-pub same_file : (f g : FileOf) → f.path ≡ g.path → f.bytes ≡ g.bytes → f ≡ g
-same_file f g p b =
-    ap (λ (z : List ℕ). let x : FileOf = record { path = z; bytes = f.bytes } in x) p ∙ ap (λ (z : List ℕ). let x : FileOf = record { path = g.path; bytes = z } in x) b
+pub same_file : (f g : FileOf) → f.path ≡ g.path → f.bytes ≡ g.bytes → f.profile ≡ g.profile → f ≡ g
+same_file f g p b l = λ i. record { path = p i; bytes = b i; profile = l i }
 
 pub contains_none : {X : Type 0} (x : X) → Contains [] x → ⊥
 contains_none x c = omega (arith, c.1)
@@ -32,7 +31,7 @@ find_change (c ∷ cs) path = elim (cases_Bool (bytes_eq c.path path)) [
 -- ---- once
 
 file_once : (cs : List ChangeOf) (f g h : FileOf) → PutsFile cs f g → PutsFile cs f h → g ≡ h
-file_once cs f g h x y = same_file g h (x.path ∙ sym y.path) bytes
+file_once cs f g h x y = same_file g h (x.path ∙ sym y.path) bytes (x.profile ∙ sym y.profile)
   where
     bytes : g.bytes ≡ h.bytes
     bytes = elim (find_change cs f.path) [
@@ -60,6 +59,7 @@ IsEven c = c.after + old_len c.splices ≡ c.before + new_len c.splices
 file_back : (cs : List ChangeOf) (f g : FileOf) → ((c : ChangeOf) → Contains cs c → IsEven c) → PutsFile cs f g → PutsFile (inverted cs) g f
 file_back cs f g even x = record {
   path = sym x.path;
+  profile = sym x.profile;
   changed = λ d k p. changed d k p;
   kept = λ ne. sym (x.kept (λ c k p. ne (turned_round c) (contains_map turned_round cs c k) (p ∙ sym x.path)));
 }

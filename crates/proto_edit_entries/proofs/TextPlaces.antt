@@ -8,6 +8,7 @@ use Rattle.proto_edit_entries.specs.Entries.{change_of}
 use Rattle.proto_edit_entries.specs.Common.{ChangeOf, AreRising, AreChangedTexts, ArePut, HasChange, HasNoChangedFile, IsChangedFile, IsNext, with_texts}
 use Rattle.proto_edit_entries.proofs.Puts.{contains_none}
 use Rattle.proto_edit_entries.proofs.Walks.{Ordered, ahead, behind, never, rises_from}
+use Rattle.proto_files.specs.GivenFiles.{no_file}
 
 -- ---- the files of some changes, in their order
 
@@ -60,7 +61,7 @@ module _ (files : List FileOf) (o : Ordered files) where
   place_before p q lp lq b = elim (cases_lt p q) [
     | inl lt ↦ lt
     | inr le ↦ elim (cases_lt q p) [
-      | inl lt ↦ absurd (never_before_itself (file_at files p).path (before_trans (file_at files p).path (file_at files q).path (file_at files p).path b (o q p (record { path = []; bytes = [] }) lt lp)))
+      | inl lt ↦ absurd (never_before_itself (file_at files p).path (before_trans (file_at files p).path (file_at files q).path (file_at files p).path b (o q p no_file lt lp)))
       | inr ge ↦ absurd (never_before_itself (file_at files q).path (subst (λ (k : ℕ). IsBefore (file_at files k).path (file_at files q).path) (omega (arith, le, ge)) b))
     ]
   ]
@@ -96,7 +97,7 @@ lower (suc p ∷ ps) above = (let rest = lower ps (λ k d lt. above (suc k) d (o
 texts_behind : (f : FileOf) (files : List FileOf) (qs : List ℕ) (ts : List Text) → with_texts (f ∷ files) (map suc qs) ts ≡ f ∷ with_texts files qs ts
 texts_behind f files [] ts = refl
 texts_behind f files (q ∷ qs) [] = refl
-texts_behind f files (q ∷ qs) (t ∷ ts) = texts_behind f (slice_set files q (record { path = (file_at files q).path; bytes = t })) qs ts
+texts_behind f files (q ∷ qs) (t ∷ ts) = texts_behind f (slice_set files q (record (file_at files q) { bytes = t })) qs ts
 
 files_behind : (f : FileOf) (files : List FileOf) (cs : List ChangeOf) (qs : List ℕ) (ts : List Text) → AreChangedFiles (f ∷ files) cs (map suc qs) ts → AreChangedFiles files cs qs ts
 files_behind f files [] [] [] h = tt
@@ -123,11 +124,11 @@ module _ (f : FileOf) (fs : List FileOf) (o : Ordered (f ∷ fs)) (again : (cs :
   -- or has the first change
   changes : (c : ChangeOf) (cs : List ChangeOf) (ps : List ℕ) (t : Text) (ts : List Text) → AreRising (c ∷ cs) → AreChangedFiles (f ∷ fs) (c ∷ cs) (zero ∷ ps) (t ∷ ts) → ArePut (f ∷ fs) (c ∷ cs) (with_texts (f ∷ fs) (zero ∷ ps) (t ∷ ts))
   changes c cs ps t ts r h =
-      let g : FileOf = record { path = f.path; bytes = t } in
+      let g : FileOf = record f { bytes = t } in
       let low = lower ps (places_above (f ∷ fs) o c 0 h.0.within h.0.path cs ps ts h.1 (rises_from c cs r)) in
       let moved = subst (λ (z : List ℕ). AreChangedFiles (f ∷ fs) cs z ts) low.1 h.1 in
       subst (ArePut (f ∷ fs) (c ∷ cs)) (sym (ap (λ (z : List ℕ). with_texts (g ∷ fs) z ts) low.1 ∙ texts_behind g fs low.0 ts))
-      (cs, inl (sym h.0.path, refl, h.0.changed, refl), again cs low.0 ts r.1 (files_behind f fs cs low.0 ts moved))
+      (cs, inl (sym h.0.path, refl, h.0.changed, refl, refl), again cs low.0 ts r.1 (files_behind f fs cs low.0 ts moved))
 
 pub texts_are_put : (files : List FileOf) (cs : List ChangeOf) (ps : List ℕ) (ts : List Text) → Ordered files → AreRising cs → AreChangedFiles files cs ps ts → ArePut files cs (with_texts files ps ts)
 texts_are_put [] [] [] [] o r h = (refl, refl)
@@ -137,7 +138,7 @@ texts_are_put (f ∷ fs) (c ∷ cs) (zero ∷ ps) (t ∷ ts) o r h = changes f f
 texts_are_put (f ∷ fs) (c ∷ cs) (suc p ∷ ps) (t ∷ ts) o r h = stays f fs o (λ ds qs us. texts_are_put fs ds qs us (behind f fs o)) (c ∷ cs) (suc p ∷ ps) (t ∷ ts) r h above (inr (apart, refl, refl))
   where
     apart : c.path ≢ f.path
-    apart e = never f.path (file_at fs p).path f.path (ahead f fs o (file_at fs p) (Contains-get_or fs p (record { path = []; bytes = [] }) (let within = h.0.within in omega (arith, within)))) refl (h.0.path ∙ e)
+    apart e = never f.path (file_at fs p).path f.path (ahead f fs o (file_at fs p) (Contains-get_or fs p no_file (let within = h.0.within in omega (arith, within)))) refl (h.0.path ∙ e)
 
     above : (k : ℕ) (d : ℕ) → k < length (suc p ∷ ps) → 0 < get_or (suc p ∷ ps) k d
     above zero d lt = omega arith
@@ -196,7 +197,7 @@ module _ (files : List FileOf) (path : List ℕ) where
       let p = position-Some (bytes_eq path) (paths_of files) place [] e in
       let count = length-map files (λ f. f.path) in
       let within : place < length files = omega (arith, count, p.0) in
-      (within, sym (word_from_same path (get_or (paths_of files) place []) p.1 ∙ get_or-map (λ f. f.path) files place (record { path = []; bytes = [] }) [] within))
+      (within, sym (word_from_same path (get_or (paths_of files) place []) p.1 ∙ get_or-map (λ f. f.path) files place no_file [] within))
 
   pub no_path : position (bytes_eq path) (paths_of files) ≡ None → (q : List ℕ) → Contains (paths_of files) q → path ≡ q → ⊥
   no_path e q k same = elim (cases_lt (position_or_len (bytes_eq path) (paths_of files)) (length (paths_of files))) [
@@ -227,7 +228,7 @@ one_file files place f o lt k same = elim (cases_lt k.0 place) [
 ]
   where
     here : get_or files place f ≡ file_at files place
-    here = get_or_default files place f (record { path = []; bytes = [] }) lt
+    here = get_or_default files place f no_file lt
 
 pub no_text_there : (files : List FileOf) (c : ChangeOf) (place : ℕ) (text : Text) → Ordered files → Some place ≡ position (bytes_eq c.path) (paths_of files) → text ≡ (file_at files place).bytes → ((new : Text) → HasChange text c new → ⊥) → HasNoChangedFile files c
 no_text_there files c place text o e same none f new k at h =

@@ -1,10 +1,13 @@
 -- Files and changes gone through together: what is put so is what is put by the paths. (Public for the crates above.)
-use Rattle.std.proofs.Common.{◌≡◌, ◌≢◌, ℕ, zero, suc, ◌+◌, ◌<◌, ◌≤◌, List, [], ◌∷◌, ◌++◌, ◌⊎◌, inl, inr, length, get_or, drop, refl, sym, ap, subst, ◌∙◌, append_assoc, arith, Bool, true, ◌==◌, AllPairs, String, Global, string_bytes, Contains}
+use Rattle.std.proofs.Common.{◌≡◌, ◌≢◌, ℕ, zero, suc, ◌+◌, ◌<◌, ◌≤◌, List, [], ◌∷◌, ◌++◌, ◌⊎◌, inl, inr, length, get_or, drop, refl, sym, ap, subst, ◌∙◌, append_assoc, arith, Bool, true, false, map, ◌==◌, AllPairs, String, Global, string_bytes, Contains}
 use Rattle.proto_base.proofs.Common.{Vec, nat_tests, drop_more, map_push, text_limit, contains_head, contains_later, contains_cases}
 use Rattle.proto_text.proofs.Common.{Puts, puts_once}
-use Rattle.proto_files.proofs.Common.{FileOf, file_at, file_of, files_of, AreWorkspaceFiles, IsBefore, IsWorkspacePath, never_before_itself, before_trans, sides}
+use Rattle.proto_files.proofs.Common.{FileOf, file_at, AreWorkspaceFiles, IsBefore, IsWorkspacePath, never_before_itself, before_trans, sides}
 use Rattle.proto_edit_entries.specs.Common.{ChangeOf, AreRising, inverted, HasChange, IsNext, ArePut, PutsFile, EachPuts, IsPut, AreShortFiles, WalksPut, PutsAreWalked, PutsKeepPaths}
 use Rattle.proto_edit_entries.proofs.Puts.{same_file, contains_none}
+use Rattle.proto_files.specs.GivenFiles.{no_file}
+use Rattle.proto_base.specs.declared.profile.Profile.{Profile}
+use Rattle.proto_files.specs.GivenFiles.{file_of_as, files_of_as}
 
 -- ---- the order of files and changes
 
@@ -47,6 +50,7 @@ module _ (c : ChangeOf) (cs : List ChangeOf) where
   file_more : (f g : FileOf) → c.path ≢ f.path → PutsFile cs f g → PutsFile (c ∷ cs) f g
   file_more f g ne p = record {
     path = p.path;
+    profile = p.profile;
     changed = λ d k q. (elim (contains_cases c d cs k) [
       | inl same ↦ absurd (ne (ap (λ (z : ChangeOf). z.path) same ∙ q))
       | inr k ↦ p.changed d k q
@@ -57,6 +61,7 @@ module _ (c : ChangeOf) (cs : List ChangeOf) where
   file_less : (f g : FileOf) → c.path ≢ f.path → PutsFile (c ∷ cs) f g → PutsFile cs f g
   file_less f g ne p = record {
     path = p.path;
+    profile = p.profile;
     changed = λ d k q. p.changed d (contains_later c d cs k) q;
     kept = λ none_is. p.kept (λ d k q. (elim (contains_cases c d cs k) [
       | inl same ↦ ne (ap (λ (z : ChangeOf). z.path) same ∙ q)
@@ -79,7 +84,7 @@ module _ (c : ChangeOf) (cs : List ChangeOf) where
 -- ---- from the walk to the paths
 
 unchanged : (f g : FileOf) → g ≡ f → PutsFile [] f g
-unchanged f g e = record { path = ap (λ (z : FileOf). z.path) e; changed = λ c k p. absurd (contains_none c k); kept = λ ne. ap (λ (z : FileOf). z.bytes) e }
+unchanged f g e = record { path = ap (λ (z : FileOf). z.path) e; profile = ap (λ (z : FileOf). z.profile) e; changed = λ c k p. absurd (contains_none c k); kept = λ ne. ap (λ (z : FileOf). z.bytes) e }
 
 nothing_put : IsPut [] [] []
 nothing_put = record { each = tt; there = λ c k. absurd (contains_none c k) }
@@ -89,11 +94,12 @@ module _ (f g : FileOf) (fs gs : List FileOf) (c : ChangeOf) (cs : List ChangeOf
   apart : (h : FileOf) → Contains fs h → c.path ≢ h.path
   apart h k e = never f.path h.path h.path (ahead f fs o h k) (sym at ∙ e) refl
 
-  taken : g.path ≡ f.path → HasChange f.bytes c g.bytes → IsPut fs cs gs → IsPut (f ∷ fs) (c ∷ cs) (g ∷ gs)
-  taken path put rest = record {
+  taken : g.path ≡ f.path → HasChange f.bytes c g.bytes → g.profile ≡ f.profile → IsPut fs cs gs → IsPut (f ∷ fs) (c ∷ cs) (g ∷ gs)
+  taken path put language rest = record {
     each = (
       record {
         path = path;
+        profile = language;
         changed = λ d k p. (elim (contains_cases c d cs k) [
           | inl same ↦ subst (λ (z : ChangeOf). (length f.bytes ≡ z.before) × Puts 0 f.bytes z.splices g.bytes) same (put.before, put.puts)
           | inr k ↦ absurd (never c.path d.path f.path (rises_from c cs r d k) at p)
@@ -126,6 +132,7 @@ module _ (f g : FileOf) (fs gs : List FileOf) (c : ChangeOf) (cs : List ChangeOf
     each = (
       record {
         path = ap (λ (z : FileOf). z.path) same;
+        profile = ap (λ (z : FileOf). z.profile) same;
         changed = λ d k p. absurd (let t = rest.there d k in never f.path t.0.path f.path (ahead f fs o t.0 t.1) refl (t.2 ∙ p));
         kept = λ ne. ap (λ (z : FileOf). z.bytes) same;
       },
@@ -150,7 +157,7 @@ module _ (f g : FileOf) (fs gs : List FileOf) (c : ChangeOf) (cs : List ChangeOf
     ]
 
     stays : g ≡ f
-    stays = same_file g f p.each.0.path (p.each.0.kept not_here)
+    stays = same_file g f p.each.0.path (p.each.0.kept not_here) p.each.0.profile
 
     all_behind : IsPut fs (c ∷ cs) gs
     all_behind = record {
@@ -170,7 +177,7 @@ put_by_paths (f ∷ fs) [] (g ∷ gs) o r h =
     let rest = put_by_paths fs [] gs (behind f fs o) tt (subst (λ (z : List ChangeOf). ArePut fs z gs) h.1.1 h.2) in
     record { each = (unchanged f g h.1.0, rest.each); there = λ c k. absurd (contains_none c k) }
 put_by_paths (f ∷ fs) (c ∷ cs) (g ∷ gs) o r h = elim h.1 [
-  | inl x ↦ taken f g fs gs c cs o r x.0 x.1 x.2 (put_by_paths fs cs gs (behind f fs o) r.1 (subst (λ (z : List ChangeOf). ArePut fs z gs) x.3 h.2))
+  | inl x ↦ taken f g fs gs c cs o r x.0 x.1 x.2 x.4 (put_by_paths fs cs gs (behind f fs o) r.1 (subst (λ (z : List ChangeOf). ArePut fs z gs) x.3 h.2))
   | inr x ↦ passed f g fs gs c cs o r x.1 (put_by_paths fs (c ∷ cs) gs (behind f fs o) r (subst (λ (z : List ChangeOf). ArePut fs z gs) x.2 h.2))
 ]
 
@@ -183,12 +190,12 @@ put_in_order [] cs (g ∷ gs) o r short p = absurd p.each
 put_in_order (f ∷ fs) cs [] o r short p = absurd p.each
 put_in_order (f ∷ fs) [] (g ∷ gs) o r short p =
     let rest : IsPut fs [] gs = record { each = p.each.1; there = λ c k. absurd (contains_none c k) } in
-    ([], (same_file g f p.each.0.path (p.each.0.kept (λ c k. absurd (contains_none c k))), refl), put_in_order fs [] gs (behind f fs o) tt (λ h k. short h (contains_later g h gs k)) rest)
+    ([], (same_file g f p.each.0.path (p.each.0.kept (λ c k. absurd (contains_none c k))) p.each.0.profile, refl), put_in_order fs [] gs (behind f fs o) tt (λ h k. short h (contains_later g h gs k)) rest)
 put_in_order (f ∷ fs) (c ∷ cs) (g ∷ gs) o r short p = elim (same_or_not c.path f.path) [
   | inl at ↦
       let put = p.each.0.changed c (contains_head c cs) at in (
         cs,
-        inl (at, p.each.0.path, record { before = put.0; puts = put.1; short = short g (contains_head g gs) }, refl),
+        inl (at, p.each.0.path, record { before = put.0; puts = put.1; short = short g (contains_head g gs) }, refl, p.each.0.profile),
         put_in_order fs cs gs (behind f fs o) r.1 (λ h k. short h (contains_later g h gs k)) (left_behind f g fs gs c cs o r at p),
       )
   | inr ne ↦ (
@@ -240,7 +247,7 @@ puts_keep_paths w after cs workspace put = still_files cs w after workspace put.
 
 pub next_once : (f : FileOf) (cs : List ChangeOf) (g h : FileOf) (rs ss : List ChangeOf) → IsNext f cs g rs → IsNext f cs h ss → (g ≡ h) × (rs ≡ ss)
 next_once f [] g h rs ss x y = (x.0 ∙ sym y.0, x.1 ∙ sym y.1)
-next_once f (c ∷ cs) g h rs ss (inl x) (inl y) = (same_file g h (x.1 ∙ sym y.1) (puts_once 0 f.bytes g.bytes h.bytes c.splices x.2.puts y.2.puts), x.3 ∙ sym y.3)
+next_once f (c ∷ cs) g h rs ss (inl x) (inl y) = (same_file g h (x.1 ∙ sym y.1) (puts_once 0 f.bytes g.bytes h.bytes c.splices x.2.puts y.2.puts) (x.4 ∙ sym y.4), x.3 ∙ sym y.3)
 next_once f (c ∷ cs) g h rs ss (inl x) (inr y) = absurd (y.0 x.0)
 next_once f (c ∷ cs) g h rs ss (inr x) (inl y) = absurd (x.0 y.0)
 next_once f (c ∷ cs) g h rs ss (inr x) (inr y) = (x.1 ∙ sym y.1, x.2 ∙ sym y.2)
@@ -256,7 +263,7 @@ split f fs left (g ∷ gs) h = (g, gs, h.0, refl, h.1, h.2)
 
 module _ (fs : List FileOf) (cs : List ChangeOf) (place : ℕ) (left : List ChangeOf) (given : List FileOf) (lt : place < length fs) (so_far : IsWalked fs cs place left given) where
   here : drop place fs ≡ file_at fs place ∷ drop (place + 1) fs
-  here = drop_more fs place (record { path = []; bytes = [] }) lt
+  here = drop_more fs place no_file lt
 
   -- a file more
   pub walked_more : (g : FileOf) (rest : List ChangeOf) → IsNext (file_at fs place) left g rest → IsWalked fs cs (place + 1) rest (given ++ g ∷ [])
@@ -283,6 +290,12 @@ append_nothing [] = refl
 append_nothing (f ∷ fs) = ap (λ (z : List FileOf). f ∷ z) (append_nothing fs)
 
 module _ (fs : List FileOf) (cs : List ChangeOf) (place : ℕ) (left : List ChangeOf) (given : List FileOf) (end : length fs ≤ place) (so_far : IsWalked fs cs place left given) where
+  -- changes that are left are of no file
+  pub walked_none : (left ≡ [] → ⊥) → (after : List FileOf) → ArePut fs cs after → ⊥
+  walked_none some after put =
+      let m = so_far.back after put in
+      some (subst (λ (z : List FileOf). ArePut z left m.0) (nothing_left fs place end) m.2).0
+
   pub walked_all : left ≡ [] → ArePut fs cs given
   walked_all e = subst (ArePut fs cs) (append_nothing given) (so_far.forth [] (subst (λ (z : List FileOf). ArePut z left []) (sym (nothing_left fs place end)) (e, refl)))
 
@@ -296,17 +309,35 @@ too_long text c big new h =
     let short = h.short in
     omega (arith, same, long, short)
 
+true_not_false : true ≡ false → ⊥
+true_not_false e = cc
+
+cons_not_nil : {X : Type 0} (x : X) (xs : List X) → x ∷ xs ≡ [] → ⊥
+cons_not_nil x xs e = cc
+
 pub nothing_in : {X : Type 0} (xs : List X) (t : Bool) → t ≡ (length xs == 0) → t ≡ true → xs ≡ []
 nothing_in [] t e h = refl
 nothing_in (x ∷ xs) t e h = (let none_there : length (x ∷ xs) ≡ 0 = grind (arith, nat_tests) in absurd (omega (arith, none_there)))
 
-pub walk_step : (files : List FileOf) (cs left rest : List ChangeOf) (place : ℕ) (items news : List (String Global × Vec ℕ)) (path text : List ℕ) (p : String Global) (b : Vec ℕ)
-    → place < length files → IsWalked files cs place left (files_of items) → path ≡ (file_at files place).path → text ≡ (file_at files place).bytes
-    → IsNext (record { path = path; bytes = text }) left (record { path = path; bytes = b.items }) rest → string_bytes p ≡ path → news ≡ items ++ (p, b) ∷ []
-    → IsWalked files cs (place + 1) rest (files_of news)
-walk_step files cs left rest place items news path text p b lt so_far path_is text_is next named is =
-    let g : FileOf = record { path = path; bytes = b.items } in
-    let here = subst (λ (z : FileOf). IsNext z left g rest) (same_file (record { path = path; bytes = text }) (file_at files place) path_is text_is) next in
-    let more = map_push file_of items (p, b) in
-    let added = ap files_of is ∙ more ∙ ap (λ (z : List ℕ). files_of items ++ record { path = z; bytes = b.items } ∷ []) named in
-    subst (IsWalked files cs (place + 1) rest) (sym added) (walked_more files cs place left (files_of items) lt so_far g rest here)
+pub something_in : {X Y : Type 0} (f : X → Y) (xs : List X) (t : Bool) → t ≡ (length xs == 0) → t ≡ false → map f xs ≡ [] → ⊥
+something_in f [] t e h m = true_not_false (sym e ∙ h)
+something_in f (x ∷ xs) t e h m = cons_not_nil (f x) (map f xs) m
+
+pub walk_step : (p : Profile) (files : List FileOf) (cs left rest : List ChangeOf) (place : ℕ) (items news : List (String Global × Vec ℕ)) (path text : List ℕ) (name : String Global) (b : Vec ℕ)
+    → place < length files → (file_at files place).profile ≡ p → IsWalked files cs place left (files_of_as p items) → path ≡ (file_at files place).path → text ≡ (file_at files place).bytes
+    → IsNext (record { path = path; bytes = text; profile = p }) left (record { path = path; bytes = b.items; profile = p }) rest → string_bytes name ≡ path → news ≡ items ++ (name, b) ∷ []
+    → IsWalked files cs (place + 1) rest (files_of_as p news)
+walk_step p files cs left rest place items news path text name b lt language so_far path_is text_is next named is =
+    let g : FileOf = record { path = path; bytes = b.items; profile = p } in
+    let here = subst (λ (z : FileOf). IsNext z left g rest) (same_file (record { path = path; bytes = text; profile = p }) (file_at files place) path_is text_is (sym language)) next in
+    let more = map_push (file_of_as p) items (name, b) in
+    let added = ap (files_of_as p) is ∙ more ∙ ap (λ (z : List ℕ). files_of_as p items ++ record { path = z; bytes = b.items; profile = p } ∷ []) named in
+    subst (IsWalked files cs (place + 1) rest) (sym added) (walked_more files cs place left (files_of_as p items) lt so_far g rest here)
+
+-- nothing is put, where the next file has no text with the first change
+pub walk_stuck : (p : Profile) (files : List FileOf) (cs left : List ChangeOf) (place : ℕ) (given : List FileOf) (path text : List ℕ) → place < length files → (file_at files place).profile ≡ p → IsWalked files cs place left given
+    → path ≡ (file_at files place).path → text ≡ (file_at files place).bytes → ((g : FileOf) (rest : List ChangeOf) → IsNext (record { path = path; bytes = text; profile = p }) left g rest → ⊥) → (after : List FileOf) → ArePut files cs after → ⊥
+walk_stuck p files cs left place given path text lt language so_far path_is text_is none after put =
+    let m = so_far.back after put in
+    let s = split (file_at files place) (drop (place + 1) files) left m.0 (subst (λ (z : List FileOf). ArePut z left m.0) (here files cs place left given lt so_far) m.2) in
+    none s.0 s.2 (subst (λ (z : FileOf). IsNext z left s.0 s.2) (sym (same_file (record { path = path; bytes = text; profile = p }) (file_at files place) path_is text_is (sym language))) s.4)

@@ -10,9 +10,10 @@ use Rattle.proto_edit_entries.specs.Entries.{ChangeOf}
 
 -- ---- by the paths
 
--- a file is changed by the splices of its path, and stays where there are none
+-- a file is changed by the splices of its path, and stays where there are none; its language stays
 pub record PutsFile (cs : List ChangeOf) (f g : FileOf) : Type 0 where
   pub path : g.path ≡ f.path
+  pub profile : g.profile ≡ f.profile
   pub changed : (c : ChangeOf) → Contains cs c → c.path ≡ f.path
       → (length f.bytes ≡ c.before) × Puts 0 f.bytes c.splices g.bytes
   pub kept : ((c : ChangeOf) → Contains cs c → c.path ≢ f.path) → g.bytes ≡ f.bytes
@@ -47,11 +48,12 @@ IsChangedText text c (Some new) = HasChange text c new.items
 IsChangedText text c None = (new : Text) → HasChange text c new → ⊥
 
 -- what becomes of a file, and which changes are left behind it: it has the first change, where that
--- is of its path, or stays
+-- is of its path, or stays; its language stays
 abbrev pub IsNext : FileOf → List ChangeOf → FileOf → List ChangeOf → Type 0
 IsNext f [] g rest = (g ≡ f) × (rest ≡ [])
 IsNext f (c ∷ cs) g rest =
-    ((c.path ≡ f.path) × (g.path ≡ f.path) × HasChange f.bytes c g.bytes × (rest ≡ cs))
+    ((c.path ≡ f.path) × (g.path ≡ f.path) × HasChange f.bytes c g.bytes × (rest ≡ cs)
+    × (g.profile ≡ f.profile))
     ⊎ ((c.path ≢ f.path) × (g ≡ f) × (rest ≡ c ∷ cs))
 
 -- the files after all the changes
@@ -62,12 +64,12 @@ ArePut (f ∷ fs) cs (g ∷ gs) = (rest : List ChangeOf) × IsNext f cs g rest �
 
 -- ---- at their places
 
--- the files with these texts at these places, at the paths that they have
+-- the files with these texts at these places, of the paths and the languages that they have
 abbrev pub with_texts : List FileOf → List ℕ → List Text → List FileOf
 with_texts files [] texts = files
 with_texts files (p ∷ ps) [] = files
 with_texts files (p ∷ ps) (t ∷ ts) =
-    with_texts (slice_set files p (record { path = (file_at files p).path; bytes = t })) ps ts
+    with_texts (slice_set files p (record (file_at files p) { bytes = t })) ps ts
 
 -- these are the places of the files that are changed, and their texts with the changes
 pub record AreChangedTexts

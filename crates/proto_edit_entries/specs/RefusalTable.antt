@@ -24,6 +24,7 @@ refusal_number (refusal.Needed path offset) = 15
 refusal_number refusal.TooLarge = 16
 refusal_number refusal.Stale = 17
 refusal_number refusal.NoMemory = 18
+refusal_number (refusal.OptionValue path offset) = 19
 
 -- the name of a refusal
 abbrev pub refusal_name : Refusal → Text
@@ -45,3 +46,4 @@ refusal_name (refusal.Needed path offset) = codes "Needed"
 refusal_name refusal.TooLarge = codes "TooLarge"
 refusal_name refusal.Stale = codes "Stale"
 refusal_name refusal.NoMemory = codes "NoMemory"
+refusal_name (refusal.OptionValue path offset) = codes "OptionValue"

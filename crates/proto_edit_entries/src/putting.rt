@@ -1,7 +1,9 @@
 //! Changes put into the files of a workspace.
 
 ghost use Rattle.std.specs.Prelude.{List, map, IfOk, MatchOption};
-ghost use Rattle.proto_files.specs.GivenFiles.{AreWorkspaceFiles, FileOf, files_of};
+ghost use Rattle.proto_base.specs.GivenFiles.{AreInLanguage};
+ghost use Rattle.proto_base.specs.declared.profile.Profile.{Profile};
+ghost use Rattle.proto_files.specs.GivenFiles.{AreWorkspaceFiles, FileOf, files_of_as};
 ghost use Rattle.proto_edit_entries.specs.Entries.{AreRising, ChangeOf, change_of};
 ghost use Rattle.proto_edit_entries.specs.Putting.{AreChangedTexts, HasNoChangedFile, IsChangedFile, IsChangedText, IsNext, ArePut};
 
@@ -40,11 +42,14 @@ fn next_bytes<'a>(
     text: &[u8],
     left: &'a [Change],
 ) -> Result<Option<(Vec<u8>, &'a [Change])>, NoMemory>
-    ensures { IfOk result (λ found. MatchOption found
+    // It says the same of a file of either language.
+    ensures { (p : Profile) → IfOk result (λ found. MatchOption found
         ((g : FileOf) (rest : List ChangeOf)
-        → IsNext (record { path = path.now; bytes = text.now }) (map change_of left.now) g rest → ⊥)
-        (λ next. IsNext (record { path = path.now; bytes = text.now }) (map change_of left.now)
-        (record { path = path.now; bytes = next.0.items }) (map change_of next.1.now))) }
+        → IsNext (record { path = path.now; bytes = text.now; profile = p })
+        (map change_of left.now) g rest → ⊥)
+        (λ next. IsNext (record { path = path.now; bytes = text.now; profile = p })
+        (map change_of left.now) (record { path = path.now; bytes = next.0.items; profile = p })
+        (map change_of next.1.now))) }
 {
     let Some((change, rest)) = left.split_first() else {
         return Ok(Some((Vec::from_slice(alloc, text)?, left)));
@@ -58,16 +63,17 @@ fn next_bytes<'a>(
     }
 }
 
-/// The files with changes, both in the order of their paths. None where a change is of a file that
-/// is not there or not as before it, or leaves a file that is too long.
+/// The paths and bytes of the files with changes, both in the order of their paths. None where a
+/// change is of a file that is not there or not as before it, or leaves a file that is too long.
 pub fn put_all(
     alloc: Global,
     files: &Files,
     changes: &[Change],
 ) -> Result<Option<Vec<(String, Vec<u8>)>>, NoMemory>
-    ensures { IfOk result (λ found. MatchOption found
+    // All of them are of one language.
+    ensures { (p : Profile) → AreInLanguage p files.now → IfOk result (λ found. MatchOption found
         ((after : List FileOf) → ArePut files.now (map change_of changes.now) after → ⊥)
-        (λ list. ArePut files.now (map change_of changes.now) (files_of list.items))) }
+        (λ list. ArePut files.now (map change_of changes.now) (files_of_as p list.items))) }
 {
     let mut list = Vec::new(alloc);
     let mut left = changes;

@@ -50,6 +50,9 @@ pub enum Refusal {
     Stale,
     /// There was no memory.
     NoMemory,
+    /// A custom option stands in a file; what its name means is not looked up. The file, and the
+    /// offset of the first token of the option's name in bytes from 0.
+    OptionValue { path: String, offset: u32 },
 }
 
 impl fmt::Display for Refusal {
@@ -84,21 +87,21 @@ impl Refusal {
             Refusal::TooLarge => "a changed file would have more than 1,048,576 bytes",
             Refusal::Stale => "the files are not as the entry left them",
             Refusal::NoMemory => "no memory",
+            Refusal::OptionValue { .. } => "a custom option stands in a file",
         }
     }
 
     // The file and the offset in it that the words for people name.
     fn place(&self) -> Option<(&str, u32)> {
         match self {
-            Refusal::Captured { path, offset } | Refusal::Needed { path, offset } => Some((
-                path.as_str(),
-                *offset,
-            )),
+            Refusal::Captured { path, offset }
+            | Refusal::Needed { path, offset }
+            | Refusal::OptionValue { path, offset } => Some((path.as_str(), *offset)),
             _ => None,
         }
     }
 
-    /// The number in the table of refusals, from 1 to 18.
+    /// The number in the table of refusals, from 1 to 19.
     pub fn number(&self) -> u32
         ensures { result ≡ refusal_number self.now }
     {
@@ -121,6 +124,7 @@ impl Refusal {
             Refusal::TooLarge => 16,
             Refusal::Stale => 17,
             Refusal::NoMemory => 18,
+            Refusal::OptionValue { .. } => 19,
         }
     }
 
@@ -147,6 +151,7 @@ impl Refusal {
             Refusal::TooLarge => "TooLarge",
             Refusal::Stale => "Stale",
             Refusal::NoMemory => "NoMemory",
+            Refusal::OptionValue { .. } => "OptionValue",
         }
     }
 }

@@ -135,7 +135,7 @@ module _ (files : List FileOf) (reads : List ReadOf) (are : AreRead files reads)
       by_meaning word enum old (type_meaning files reads file f.kind) (default_words word f)
       ∙ ap (λ b. if b then spelled word old (default_words word f) else []) (sym (same_type f.kind) ∙ no_type l file (joined enum) none f.kind)))
 
-  module _ (scene : Scene) (as_read : IsReadAs files reads file scene) (tree : Tree) (of_file : IsTreeOf (file_at files file).bytes tree) (old : List ℕ) where
+  module _ (scene : Scene) (as_read : IsReadAs files reads file scene) (tree : Tree) (of_file : IsTreeOf (file_at files file) tree) (old : List ℕ) where
     one_field : (f : FieldOf) → defaults_of (text scene) (type_means l file (joined enum)) old f ≡ renamed_default files reads (Some enum) old file f
     one_field f =
         ap (λ (ls : List Lexeme). if type_means l file (joined enum) f.kind then spelled (word_at ls) old (default_words (word_at ls) f) else []) as_read.lexemes

@@ -6,7 +6,7 @@ use Rattle.proto_text.proofs.Common.{lexeme_at, length_map}
 use Rattle.proto_tree.specs.declared.piece.Header.{Header}
 use Rattle.proto_tree.specs.declared.piece.Header.TheVariants as header
 use Rattle.proto_tree.specs.declared.tree.Value.{Value as ValueParts}
-use Rattle.proto_tree.proofs.Common.{Numbered, Tree, End, flat, trees_are_numbered}
+use Rattle.proto_tree.proofs.Common.{Numbered, Tree, End, flat, trees_are_numbered_in}
 use Rattle.proto_files.proofs.Common.{FileOf, file_at, AreRead, ReadOf, read_at, IsTreeOf, same_tree}
 use Rattle.proto_names_rules.specs.declared.kind.Kind.TheVariants.{Enum, Value}
 use Rattle.proto_names_rules.proofs.Common.{place_from, place_of, At, at, declared_of, joined, Token, name_of, shifted_declared, shifted_source, spell, Placed, file_placed, place, map_append}
@@ -47,7 +47,7 @@ enum_token : (n : ℕ) (h : Header) → is_enum_at n h ≡ true → name_token h
 enum_token n (header.Enum h) e = eqb-true h.name n e
 enum_token n whole e = absurd cc
 
-module _ (files : List FileOf) (reads : List ReadOf) (are : AreRead files reads) (a : Aim) (t : Target) (h : IsAimedAt files reads a t) (tree : Tree) (of_file : IsTreeOf (file_at files a.file).bytes tree) where
+module _ (files : List FileOf) (reads : List ReadOf) (are : AreRead files reads) (a : Aim) (t : Target) (h : IsAimedAt files reads a t) (tree : Tree) (of_file : IsTreeOf (file_at files a.file) tree) where
   inside : a.file < length files
   inside = aim_inside files reads are a t h
 
@@ -74,13 +74,13 @@ module _ (files : List FileOf) (reads : List ReadOf) (are : AreRead files reads)
       let vb = from_map (λ (v : ValueParts). v.name) (values_in y.b.within) a.token y.within in
       let vc = any_to (λ (v : ValueParts). v.name == a.token) (values_in c.within) (value_of_holder a.token c.header c.within fc.1) in
       let named : vc.0.name ≡ a.token = eqb-true vc.0.name a.token vc.2 in
-      let numbered : Numbered 0 (flat (read_at reads a.file).tree) = trees_are_numbered (read_at reads a.file).tree (map (lexeme_at (file_at files a.file).bytes) (read_at reads a.file).tokens) (are.trees a.file inside).spells in
+      let numbered : Numbered 0 (flat (read_at reads a.file).tree) = trees_are_numbered_in (file_at files a.file).profile (read_at reads a.file).tree (map (lexeme_at (file_at files a.file).bytes) (read_at reads a.file).tokens) (are.trees a.file inside).spells in
       let same : y.b ≡ c = one_block (read_at reads a.file).tree 0 y.b c vb.0 vc.0 numbered fb.0 there vb.1 vc.1 (vb.2 ∙ sym named) in
       let token : name_token c.header ≡ (place_of y.d).token = enum_token (place_of y.d).token c.header (subst (λ (z : BlockOf). is_enum_at (place_of y.d).token z.header ≡ true) same fb.1) in
       let pd = ends_with_token 0 reads y.d y.declared (ap is_written y.kind) in
       let id : place_of y.d ≡ at y.d.file pd.1 = ap (place_from (at y.d.file 0)) pd.2 ∙ place_last (at y.d.file 0) pd.0 (at y.d.file pd.1) in
       let last : at y.d.file pd.1 ≡ at a.file (name_token c.header) = ap₂ (λ (x z : ℕ). at x z) y.file_is (sym (ap (λ (z : At). z.token) id) ∙ sym token) in
-      let w = values_are_declared (read_at reads a.file).tree (map (lexeme_at (file_at files a.file).bytes) (read_at reads a.file).tokens) (are.trees a.file inside).spells c vc.0 there vc.1 in
+      let w = values_are_declared (file_at files a.file).profile (read_at reads a.file).tree (map (lexeme_at (file_at files a.file).bytes) (read_at reads a.file).tokens) (are.trees a.file inside).spells c vc.0 there vc.1 in
       let de = declared_here (place w.1 (Token w.0.name) Enum) w.3 in
       let dv = declared_here (place w.1 (Token vc.0.name) Value) w.4 in
       let pe = map_append (shifted_source (at a.file)) w.1 (Token w.0.name ∷ []) in

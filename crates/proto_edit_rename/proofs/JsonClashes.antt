@@ -7,15 +7,15 @@ use Rattle.proto_files.proofs.Common.{FileOf, file_at, AreRead, ReadOf, read_at,
 use Rattle.proto_names_rules.proofs.Common.{at, file_placed}
 use Rattle.proto_names_outline.specs.FromTree.{items_in}
 use Rattle.proto_ast.proofs.Common.{json_name_of, json_word, written_or, text_option, FieldOf, blocks_in, Scene, text, value, value_in}
-use Rattle.proto_edit_rename_laws.proofs.Common.{scene_of, JsonNameClashes}
-use Rattle.proto_edit_rename.proofs.Common.{holders_in, may_hold, IsReadAs, clash_in, fields_by, is_made, is_other, is_unwritten}
+use Rattle.proto_edit_rename_laws.proofs.Common.{has_json_names, scene_of, JsonNameClashes}
+use Rattle.proto_edit_rename.proofs.Common.{holders_in, may_hold, IsReadAs, clash_in, fields_by, fields_clash, is_made, is_other, is_unwritten}
 use Rattle.proto_edit_rename.proofs.MemberTests.{block_declared, field_from, field_to}
 
 none_is : (o : Option (List ℕ)) → is_none o ≡ true → o ≡ None
 none_is None e = refl
 none_is (Some x) e = absurd cc
 
-module _ (files : List FileOf) (reads : List ReadOf) (are : AreRead files reads) (file : ℕ) (within : file < length files) (scene : Scene) (as_read : IsReadAs files reads file scene) (tree : Tree) (of_file : IsTreeOf (file_at files file).bytes tree) (token : ℕ) (word name : List ℕ)
+module _ (files : List FileOf) (reads : List ReadOf) (are : AreRead files reads) (file : ℕ) (within : file < length files) (scene : Scene) (as_read : IsReadAs files reads file scene) (tree : Tree) (of_file : IsTreeOf (file_at files file) tree) (token : ℕ) (word name : List ℕ)
     (named : name ≡ json_word word) where
   abbrev plain : Scene
   plain = scene_of None files reads file
@@ -34,7 +34,8 @@ module _ (files : List FileOf) (reads : List ReadOf) (are : AreRead files reads)
       let x = any_to (clash_in scene token name) (holders_in tree) e in
       let fs = fields_by x.0.header x.0.within in
       let c = (from_filter (λ b. may_hold b.header) (blocks_in tree) x.0 x.1).0 in
-      let p = and_parts (list_any (is_made scene token) fs) (list_any (is_other scene token name) fs) x.2 in
+      let h = and_parts (has_json_names x.0.header) (fields_clash scene token name fs) x.2 in
+      let p = and_parts (list_any (is_made scene token) fs) (list_any (is_other scene token name) fs) h.1 in
       let f = any_to (is_made scene token) fs p.0 in
       let o = any_to (is_other scene token name) fs p.1 in
       let fp = and_parts (f.0.name == token) (is_unwritten scene f.0) f.2 in
@@ -45,6 +46,7 @@ module _ (files : List FileOf) (reads : List ReadOf) (are : AreRead files reads)
         f = f.0;
         other = o.0;
         field = record { block = subst (λ t. Contains (blocks_in t) x.0) (sym tree_is) c; field = field_to x.0.header x.0.within f.0 f.1; name = is };
+        has_names = h.0;
         beside = field_to x.0.header x.0.within o.0 o.1;
         differs = λ q. true≢false (sym op.0 ∙ not_from_true (o.0.name == token) (eq-eqb o.0.name token (q ∙ is)));
         proto3 = sym as_read.version ∙ version;
@@ -67,4 +69,5 @@ module _ (files : List FileOf) (reads : List ReadOf) (are : AreRead files reads)
       and_from (not (r.other.name == token)) (bytes_eq (json_name_of scene r.other) name) (not_from_false (r.other.name == token) (false_from_ne_true (r.other.name == token) apart))
       (same_from_word (json_name_of scene r.other) name (same_name r.other ∙ sym r.same ∙ sym named)) in
       any_from (clash_in scene token name) (holders_in tree) r.b (contains_filter (λ b. may_hold b.header) (blocks_in tree) r.b (subst (λ t. Contains (blocks_in t) r.b) tree_is r.field.block) f.1)
-      (and_from (list_any (is_made scene token) fs) (list_any (is_other scene token name) fs) (any_from (is_made scene token) fs r.f f.0 made) (any_from (is_other scene token name) fs r.other o.0 other))
+      (and_from (has_json_names r.b.header) (fields_clash scene token name fs) r.has_names
+      (and_from (list_any (is_made scene token) fs) (list_any (is_other scene token name) fs) (any_from (is_made scene token) fs r.f f.0 made) (any_from (is_other scene token name) fs r.other o.0 other)))

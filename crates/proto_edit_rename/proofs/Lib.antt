@@ -15,6 +15,7 @@ mod NameTexts
 mod NoTargets
 mod OneAim
 mod OneScene
+mod OneofItems
 mod OuterKinds
 mod Placed
 mod PlacedWords

@@ -80,4 +80,4 @@ field_from ps whole within f d c = absurd (none_here (fields_in within) f d.2 c)
 
 pub block_declared : (files : List FileOf) (reads : List ReadOf) → AreRead files reads → (file : ℕ) → file < length files → (b : BlockOf) → Contains (blocks_in (read_at reads file).tree) b → IsDeclared (file_placed (items_in (read_at reads file).tree)) b.header b.within
 block_declared files reads are file within b c =
-    blocks_are_declared (read_at reads file).tree (map (lexeme_at (file_at files file).bytes) (read_at reads file).tokens) (are.trees file within).spells b c
+    blocks_are_declared (file_at files file).profile (read_at reads file).tree (map (lexeme_at (file_at files file).bytes) (read_at reads file).tokens) (are.trees file within).spells b c

@@ -9,7 +9,7 @@ use Rattle.proto_edit_captures.specs.SceneOf.{lexemes_of}
 use Rattle.proto_edit_rename.specs.Members.{IsReadAs}
 
 pub is_read_as : (files : List FileOf) (file : ℕ) → file < length files → (words : List Lexeme) → ((tokens : List Token) → AreTokensOf files file tokens → words ≡ map (lexeme_at (file_at files file).bytes) tokens)
-    → (tree : Tree) → IsTreeOf (file_at files file).bytes tree → (reads : List ReadOf) → AreRead files reads
+    → (tree : Tree) → IsTreeOf (file_at files file) tree → (reads : List ReadOf) → AreRead files reads
     → (proto3 : Bool) → proto3 ≡ is_proto3 (value_in words) tree → (scene : Scene) → scene.lexemes ≡ words → scene.is_proto3 ≡ proto3 → IsReadAs files reads file scene
 is_read_as files file within words spelled tree of_file reads are proto3 p scene l v =
     let words_are : words ≡ lexemes_of files reads file = spelled (read_at reads file).tokens (are.tokens file within) in

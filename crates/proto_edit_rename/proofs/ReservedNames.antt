@@ -11,7 +11,7 @@ use Rattle.proto_edit_captures.proofs.Common.{scene_of, ReservesWord}
 use Rattle.proto_edit_rename.specs.MembersCommon.{holders_in, may_hold, IsReadAs, has_member, reserves, says_word}
 use Rattle.proto_edit_rename.proofs.MemberTests.{block_declared, member_from, member_to}
 
-module _ (files : List FileOf) (reads : List ReadOf) (are : AreRead files reads) (file : ℕ) (within : file < length files) (scene : Scene) (as_read : IsReadAs files reads file scene) (tree : Tree) (of_file : IsTreeOf (file_at files file).bytes tree) (token : ℕ) (word : List ℕ) where
+module _ (files : List FileOf) (reads : List ReadOf) (are : AreRead files reads) (file : ℕ) (within : file < length files) (scene : Scene) (as_read : IsReadAs files reads file scene) (tree : Tree) (of_file : IsTreeOf (file_at files file) tree) (token : ℕ) (word : List ℕ) where
   same_value : (t : ℕ) → value scene t ≡ value (scene_of None files reads file) t
   same_value t = ap (λ (ls : List Lexeme). value_in ls t) as_read.lexemes
 

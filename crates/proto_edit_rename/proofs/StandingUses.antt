@@ -2,7 +2,7 @@
 use Rattle.std.proofs.Common.{◌≡◌, ◌≢◌, ◌↔◌, ℕ, ◌+◌, ◌<◌, true, false, is_some, List, [], ◌∷◌, ◌++◌, length, get_or, map, option_map, flat_map, Option, Some, None, refl, sym, ap, subst, ◌∙◌, inl, inr, arith, append_assoc, length-append, if◌then◌else◌, option_to_list, Contains, option_and_then, append-nil}
 use Rattle.proto_base.proofs.Common.{any_from, both_ways, from_map, list_any, length-map, Contains-append_left, Contains-append_right, Contains-append_cases, contains_cases, contains_head, contains_later, contains_map}
 use Rattle.proto_case.specs.Camel.{entry_name}
-use Rattle.proto_tree.proofs.Common.{dotted, Reads, Tree}
+use Rattle.proto_tree.proofs.Common.{dotted, ReadsIn, Tree}
 use Rattle.proto_files.proofs.Common.{HasNoFault, FileOf, file_at, ReadOf, AreRead, read_at, one_reading}
 use Rattle.proto_names_outline.proofs.Common.{file_names, used_by}
 use Rattle.proto_names_outline.specs.declared.listing.Use.{Use}
@@ -198,10 +198,10 @@ module _ (files : List FileOf) (reads : List ReadOf) (are : AreRead files reads)
         )
 
 -- the references of a listing are those of the file as it is read
-pub uses_are : (files : List FileOf) (reads : List ReadOf) → AreRead files reads → (file : ℕ) → file < length files → (tree : Tree) → Reads (file_at files file).bytes (read_at reads file).tokens tree → (file_names tree).used ≡ uses_of reads file
+pub uses_are : (files : List FileOf) (reads : List ReadOf) → AreRead files reads → (file : ℕ) → file < length files → (tree : Tree) → ReadsIn (file_at files file).profile (file_at files file).bytes (read_at reads file).tokens tree → (file_names tree).used ≡ uses_of reads file
 uses_are files reads are file within tree r =
     let own : ReadOf = record { tokens = (read_at reads file).tokens; tree = tree } in
-    ap (λ (z : ReadOf). (names_in z).used) (one_reading (file_at files file).bytes own (read_at reads file) r (are.trees file within))
+    ap (λ (z : ReadOf). (names_in z).used) (one_reading (file_at files file).profile (file_at files file).bytes own (read_at reads file) r (are.trees file within))
 
 pub meant_are_as_many : (files : List FileOf) (reads : List ReadOf) (l : LinkOf) → IsLinkRead files reads l → (file : ℕ) → file < length files → length (get_or l.meant file []) ≡ length (uses_of reads file)
 meant_are_as_many files reads l link file within =

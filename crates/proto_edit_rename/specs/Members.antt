@@ -14,6 +14,7 @@ use Rattle.proto_ast.specs.Options.{text_option}
 use Rattle.proto_ast.specs.Parts.{BlockOf, FieldOf, fields_in, reserved_names_in, values_in}
 use Rattle.proto_ast.specs.Scenes.{Scene, text, value}
 use Rattle.proto_edit_captures.specs.SceneOf.{is_proto3_file, lexemes_of}
+use Rattle.proto_edit_rules.specs.Rename.{has_json_names}
 
 -- the texts, the strings and the version of a file, as it is read
 pub record IsReadAs
@@ -98,6 +99,7 @@ abbrev pub fields_clash : Scene → ℕ → Text → List FieldOf → Bool
 fields_clash scene token name fs =
     list_any (is_made scene token) fs && list_any (is_other scene token name) fs
 
--- the same of the fields of a block
+-- the same of the fields of a block that have JSON names
 abbrev pub clash_in : Scene → ℕ → Text → BlockOf → Bool
-clash_in scene token name b = fields_clash scene token name (fields_by b.header b.within)
+clash_in scene token name b =
+    has_json_names b.header && fields_clash scene token name (fields_by b.header b.within)

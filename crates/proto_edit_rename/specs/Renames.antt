@@ -36,6 +36,7 @@ IsRenameRefusal files name to refusal.NoMemory = Unit {0}
 IsRenameRefusal files name to (refusal.Captured path offset) = IsLeastRenameCase files name to 7
     × IsCapturedAt files name to (string_bytes path) offset
 IsRenameRefusal files name to (refusal.Needed path offset) = ⊥
+IsRenameRefusal files name to (refusal.OptionValue path offset) = ⊥
 IsRenameRefusal files name to r = IsLeastRenameCase files name to (refusal_number r)
 
 -- no case refuses it, and these are the changes of its new words

@@ -12,9 +12,7 @@ ghost use Rattle.proto_edit_rename.specs.Members.{clash_in, fields_clash, is_mad
 use crate::members::oneof_fields;
 use crate::scenes::scene;
 use crate::{BlockAt, blocks_of};
-use proto_ast::{
-    FieldAt, Scene, extension_fields, fields_of, json_name, options_between, text_option,
-};
+use proto_ast::{FieldAt, Scene, fields_of, json_name, options_between, text_option};
 use proto_base::NoMemory;
 use proto_case::camel_from;
 use proto_edit_captures::Aim;
@@ -108,7 +106,7 @@ fn clash_in(
     let fields = match block {
         BlockAt::Message(message) => fields_of(alloc, &message.members)?,
         BlockAt::Oneof(oneof) => oneof_fields(alloc, &oneof.members)?,
-        BlockAt::Extend(extend) => extension_fields(alloc, &extend.fields)?,
+        BlockAt::Extend(_) => return Ok(false),
         BlockAt::Enum(_) => return Ok(false),
     };
     fields_clash(alloc, scene, &fields, token, name)

@@ -8,8 +8,8 @@ use proto_ast::{Scene, is_proto3};
 use proto_files::{Files, Words};
 use std::alloc::Global;
 
-/// The texts, strings and version of the file at a place, from 0; nothing of what its references
-/// mean.
+/// The texts, strings, language and version of the file at a place, from 0; nothing of what its
+/// references mean.
 pub fn scene<'a>(alloc: Global, files: &'a Files, file: u32) -> Scene<'a>
     requires { file < length files.now }
     ensures { (reads : List ReadOf) → AreRead files.entry.now reads
@@ -17,5 +17,5 @@ pub fn scene<'a>(alloc: Global, files: &'a Files, file: u32) -> Scene<'a>
 {
     let words = Words::new(files, file);
     let is_proto3 = is_proto3(&words, files.tree(file));
-    Scene::new(words, is_proto3, Vec::new(alloc))
+    Scene::new(words, files.profile(file), is_proto3, Vec::new(alloc))
 }

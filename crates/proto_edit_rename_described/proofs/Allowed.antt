@@ -16,7 +16,7 @@ use Rattle.proto_desc_checks.proofs.Common.{default_flaws, file_flaws, json_clas
 use Rattle.proto_desc_extensions.specs.Common.{workspace_flaws}
 use Rattle.proto_desc_checks_laws.proofs.Common.{asked_tokens, flaws_of_block, is_of_names, flaws_of_names, no_flaw_comes_in}
 use Rattle.proto_desc_checks_laws.proofs.RenamedFlaws.{names_decide_three_kinds}
-use Rattle.proto_edit_rename_laws.proofs.Common.{scene_of, collision, captured, name_reserved, json_clash, keyword_name, not_an_identifier, fields_of_block, AreReworded, SuitFiles, Names, Uses, TokensHaveRenameRoles, IsRename, Target, may_rename, name_map, renamed_words, places_are_suited, tokens_are_inside, files_are_linked, files_are_woven, no_link_fault, other_texts_stay, texts_are_changed, places_respelled, find_agree, scenes_are_apart, trees_at, values_stay, version_stays}
+use Rattle.proto_edit_rename_laws.proofs.Common.{has_json_names, scene_of, collision, captured, name_reserved, json_clash, keyword_name, not_an_identifier, fields_of_block, AreReworded, SuitFiles, Names, Uses, TokensHaveRenameRoles, IsRename, Target, may_rename, name_map, renamed_words, places_are_suited, tokens_are_inside, files_are_linked, files_are_woven, no_link_fault, other_texts_stay, texts_are_changed, places_respelled, find_agree, scenes_are_apart, trees_at, values_stay, version_stays}
 use Rattle.proto_desc.specs.Checked.{CheckFaults, of_flaw, fault_of_flaw, flaws_of}
 use Rattle.proto_edit_rename_laws.proofs.TokenRoles.{tokens_have_roles}
 use Rattle.proto_edit_rename_described.specs.Allowed.{DefaultsFit, IsAllowedRename}
@@ -165,14 +165,15 @@ module _ (files : List FileOf) (reads : List ReadOf) (name to : List ℕ) (t : T
           a.admissible 8 (name_reserved t a.named (b, subst (λ z. Contains (blocks_in (read_at reads z).tree) b) e block, there, subst (λ z. Contains (map (value (scene_of None files reads z)) (reserved_names_in b.within)) to) e word))
 
       -- case 9
-      clash_at : (f : ℕ) → f ≡ t.token.file → Contains (blocks_in (read_at reads f).tree) b → (x other : FieldOf) → Contains (fields_in b.within) x → x.name ≡ t.token.token → Contains (fields_in b.within) other → other.name ≢ x.name
+      clash_at : has_json_names b.header ≡ true → (f : ℕ) → f ≡ t.token.file → Contains (blocks_in (read_at reads f).tree) b → (x other : FieldOf) → Contains (fields_in b.within) x → x.name ≡ t.token.token → Contains (fields_in b.within) other → other.name ≢ x.name
           → (scene_of None files reads f).is_proto3 ≡ true → written (scene_of None files reads f) x ≡ None → json_word to ≡ json_name_of (scene_of None files reads f) other → ⊥
-      clash_at f e block x other cx n co ne p3 none same =
+      clash_at json f e block x other cx n co ne p3 none same =
           a.admissible 9 (json_clash t a.named (record {
             b = b;
             f = x;
             other = other;
             field = record { block = subst (λ z. Contains (blocks_in (read_at reads z).tree) b) e block; field = cx; name = n };
+            has_names = json;
             beside = co;
             differs = ne;
             proto3 = subst (λ z. (scene_of None files reads z).is_proto3 ≡ true) e p3;
@@ -187,10 +188,10 @@ module _ (files : List FileOf) (reads : List ReadOf) (name to : List ℕ) (t : T
           ap (λ v. bytes_eq v (codes "json_name")) (sym (other_texts_stay c files reads after seen a.read w (at file o.name) l ((allowed_roles files reads name to t a).tokens.option_names file b f o cb cf co))))) in
           ap (option_and_then (text_value (value old))) same ∙ option_agrees (value old) (value new) strings (value_named (text new) (codes "json_name") f.options)
 
-      message_clean : ((f : FieldOf) → Contains (fields_in b.within) f → default_flaws new f ≡ [])
+      message_clean : has_json_names b.header ≡ true → ((f : FieldOf) → Contains (fields_in b.within) f → default_flaws new f ≡ [])
           → flat_map (default_flaws old) (fields_in b.within) ++ (name_flaws old (reserved_names_in b.within) (map (λ (f : FieldOf). f.name) (fields_in b.within)) ++ json_clashes old (fields_in b.within)) ≡ []
           → flat_map (default_flaws new) (fields_in b.within) ++ (name_flaws new (reserved_names_in b.within) (map (λ (f : FieldOf). f.name) (fields_in b.within)) ++ json_clashes new (fields_in b.within)) ≡ []
-      message_clean defaults e =
+      message_clean json defaults e =
           let p = empty_parts (flat_map (default_flaws old) (fields_in b.within)) (name_flaws old (reserved_names_in b.within) (map (λ (f : FieldOf). f.name) (fields_in b.within)) ++ json_clashes old (fields_in b.within)) e in
           let q = empty_parts (name_flaws old (reserved_names_in b.within) (map (λ (f : FieldOf). f.name) (fields_in b.within))) (json_clashes old (fields_in b.within)) p.1 in
           let ks = kept (map (λ (f : FieldOf). f.name) (fields_in b.within)) field_roles in
@@ -202,18 +203,18 @@ module _ (files : List FileOf) (reads : List ReadOf) (name to : List ℕ) (t : T
           (λ f other cf n co ne p3 none same. (
           let role = subst (λ z. Names (link_skeleton files reads) (at file z)) n ((allowed_roles files reads name to t a).tokens.field_names file b f l cb cf) in
           let o = own role in
-          clash_at file o.0 cb f other cf (n ∙ o.1) co ne p3 none same)) q.1))
+          clash_at json file o.0 cb f other cf (n ∙ o.1) co ne p3 none same)) q.1))
 
       enum_clean : name_flaws old (reserved_names_in b.within) (map (λ v. v.name) (values_in b.within)) ≡ [] → name_flaws new (reserved_names_in b.within) (map (λ v. v.name) (values_in b.within)) ≡ []
       enum_clean e =
           reserved_names_stay old new here to (reserved_names_in b.within) (map (λ v. v.name) (values_in b.within)) strings (kept (map (λ v. v.name) (values_in b.within)) ((allowed_roles files reads name to t a).tokens.value_names file b l cb))
           (λ is word. let o = own ((allowed_roles files reads name to t a).tokens.value_names file b l cb here is) in reserved_at file o.0 cb (inr (subst (λ z. Contains (map (λ v. v.name) (values_in b.within)) z) o.1 is)) word) e
 
-      block_clean : (h : Header) → ((f : FieldOf) → Contains (fields_of_block h b.within) f → default_flaws new f ≡ []) → flaws_of_block old h b.within ≡ [] → flaws_of_block new h b.within ≡ []
-      block_clean (header.Message h) defaults e = message_clean defaults e
-      block_clean (header.Enum h) defaults e = enum_clean e
-      block_clean (header.Extend x) defaults e = all_empty (default_flaws new) (fields_in b.within) defaults
-      block_clean whole defaults e = refl
+      block_clean : (h : Header) → b.header ≡ h → ((f : FieldOf) → Contains (fields_of_block h b.within) f → default_flaws new f ≡ []) → flaws_of_block old h b.within ≡ [] → flaws_of_block new h b.within ≡ []
+      block_clean (header.Message h) is defaults e = message_clean (ap has_json_names is) defaults e
+      block_clean (header.Enum h) is defaults e = enum_clean e
+      block_clean (header.Extend x) is defaults e = all_empty (default_flaws new) (fields_in b.within) defaults
+      block_clean whole is defaults e = refl
 
     file_clean : DefaultsFit after seen → file_flaws new tree ≡ []
     file_clean fit =
@@ -221,7 +222,7 @@ module _ (files : List FileOf) (reads : List ReadOf) (name to : List ℕ) (t : T
         let same = names_decide_three_kinds (λ i. is_some (c (at file i))) old new tree differ ((allowed_roles files reads name to t a).tokens.asked file l) in
         let none : flat_map (λ (x : BlockOf). flaws_of_block old x.header x.within) (blocks_in tree) ≡ [] = sym (flaws_of_names old tree) ∙ ap (filter (λ (f : Flaw). is_of_names f.kind)) clean in
         no_flaw_comes_in old new tree clean same (λ x cx.
-        block_clean x cx x.header (λ f cf. fit file x f (omega (arith, l, same_length)) (subst (λ z. Contains (blocks_in z) x) (sym (trees_at files reads c after seen t.token t.above t.aim t.is_map to is_rename file)) cx) cf)
+        block_clean x cx x.header refl (λ f cf. fit file x f (omega (arith, l, same_length)) (subst (λ z. Contains (blocks_in z) x) (sym (trees_at files reads c after seen t.token t.above t.aim t.is_map to is_rename file)) cx) cf)
         (empty_each (λ (x : BlockOf). flaws_of_block old x.header x.within) (blocks_in tree) none x cx))
 
   -- no number of an extension is wrong

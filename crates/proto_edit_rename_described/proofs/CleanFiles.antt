@@ -11,7 +11,7 @@ use Rattle.proto_text.specs.declared.kind.PieceKind.TheVariants.{Blank, LineComm
 use Rattle.proto_text.specs.declared.kind.TokenKind.TheVariants.{Word, Number, Text, Punctuation}
 use Rattle.proto_text.specs.declared.lexer.Token.{Token}
 use Rattle.proto_text.specs.First.{BeginsWith}
-use Rattle.proto_text.proofs.Common.{IsFault, IsAllowed, AreTokens, IsFaultAt, token_at, meaning_behind, meaning_again, meaning_sound}
+use Rattle.proto_text.proofs.Common.{IsFault, IsAllowed, AreTokens, AreTokensIn, IsFaultIn, may_begin, token_at, meaning_behind, meaning_again, meaning_sound}
 use Rattle.proto_text.specs.Scan.{PieceFound, piece_at}
 use Rattle.proto_text.proofs.Begins.{accept_other, accept_string, fault_sound, found_some, between_quotes, refuse_string}
 use Rattle.proto_text.proofs.Sequence.{IsLexedUpTo, lexed_all, lexed_fault, lexed_more, lexed_none}
@@ -23,11 +23,13 @@ use Rattle.proto_tree.specs.declared.context.Context.TheVariants as context
 use Rattle.proto_tree.specs.declared.context.Kind.TheVariants as piece_kind
 use Rattle.proto_tree.specs.declared.piece.Piece.{Piece}
 use Rattle.proto_tree.specs.declared.piece.Piece.TheVariants as piece
-use Rattle.proto_tree.proofs.Common.{Fit, flat_piece, IsShallow, IsTooDeep, open_after, open_in, Reads, classed, place_at, Tree, Spells, allows, kind_of, last_of, Fit-join, same_pieces, stuck_no_tree, stuck_place, tree_of_walk, walk_of, laws, nested_walk, walk_append, flats, flats-append, last_outer, pieces}
+use Rattle.proto_tree.proofs.Common.{Fit, flat_piece, IsShallow, IsTooDeep, open_after, open_in, ReadsIn, classed_in, place_at, Tree, Spells, allows, kind_of, last_of, Fit-join, same_pieces, stuck_no_tree, stuck_place, tree_of_walk, walk_of, laws, nested_walk, walk_append, flats, flats-append, last_outer, pieces}
 use Rattle.proto_tree.specs.Walk.{IsStuck, Walk, moved_contexts, piece_in}
 use Rattle.proto_tree.proofs.Depth.{before_more, now_more}
 use Rattle.proto_files.proofs.Common.{HasNoFault, ReadOf, read_at, FileOf, file_at, IsGrammarFault, IsText, IsTextFault, ReadFaults}
 use Rattle.proto_edit_rename_described.specs.CleanFiles.{CleanFilesAreRead}
+use Rattle.proto_files.specs.ReadFaults.{AreFileTokens}
+use Rattle.proto_base.specs.declared.profile.Profile.{Profile}
 
 -- ---- a text has tokens, or a fault
 
@@ -70,9 +72,9 @@ first_or_fault bytes some = by (piece_at bytes) refl
       | inr other ↦ inl (record { kind = found.0; n = found.1; some = found_some bytes (Ok found) (sym q); begins = accept_other found.0 bytes found.1 other q })
     ]
 
-module _ (text : List ℕ) where
+module _ (profile : Profile) (text : List ℕ) where
   abbrev Lexed : Type 0
-  Lexed = ((ts : List Token) × AreTokens text ts) ⊎ ((offset : ℕ) × (f : LexFault) × IsFaultAt text offset f)
+  Lexed = ((ts : List Token) × AreTokensIn profile text ts) ⊎ ((offset : ℕ) × (f : LexFault) × IsFaultIn profile text offset f)
 
   shorter : (n : ℕ) (rest : List ℕ) (p : IsFirst rest) → length rest < suc n → length (drop p.n rest) < n
   shorter n rest p l =
@@ -81,16 +83,19 @@ module _ (text : List ℕ) where
       let behind : drop p.n rest ≡ b.rest = ap (drop p.n) b.parts ∙ drop_at b.piece b.rest p.n (sym b.len) in
       omega (arith, l, some, b.len, ap length b.parts, length-append b.piece b.rest, ap length behind)
 
-  lexed_on : (n : ℕ) (rest : List ℕ) (at : ℕ) (tokens : List Token) → length rest < n → IsLexedUpTo text rest at tokens → Lexed
+  lexed_on : (n : ℕ) (rest : List ℕ) (at : ℕ) (tokens : List Token) → length rest < n → IsLexedUpTo profile text rest at tokens → Lexed
   lexed_on zero rest at tokens l so_far = absurd (omega (arith, l))
-  lexed_on (suc n) [] at tokens l so_far = inl (tokens, lexed_all text [] at tokens so_far refl)
-  lexed_on (suc n) (b ∷ rest) at tokens l so_far = elim (first_or_fault (b ∷ rest) (omega arith)) [
-    | inl p ↦ lexed_on n (drop p.n (b ∷ rest)) (at + p.n) (tokens ++ token_at p.kind at p.n) (shorter n (b ∷ rest) p l) (lexed_more text (b ∷ rest) at tokens p.kind p.n so_far p.begins)
-    | inr f ↦ inr (at, f.0, lexed_fault text (b ∷ rest) at tokens f.0 so_far f.1)
+  lexed_on (suc n) [] at tokens l so_far = inl (tokens, lexed_all profile text [] at tokens so_far refl)
+  lexed_on (suc n) (b ∷ rest) at tokens l so_far = elim (cases_Bool (may_begin profile (b ∷ rest))) [
+    | inl has ↦ elim (first_or_fault (b ∷ rest) (omega arith)) [
+      | inl p ↦ lexed_on n (drop p.n (b ∷ rest)) (at + p.n) (tokens ++ token_at p.kind at p.n) (shorter n (b ∷ rest) p l) (lexed_more profile text (b ∷ rest) at tokens p.kind p.n so_far has p.begins)
+      | inr f ↦ inr (at, f.0, lexed_fault profile text (b ∷ rest) at tokens f.0 so_far (inl f.1))
+    ]
+    | inr out ↦ inr (at, lex.BadChar, lexed_fault profile text (b ∷ rest) at tokens lex.BadChar so_far (inr (refl, out)))
   ]
 
   lexed : length text ≤ text_limit → Lexed
-  lexed short = lexed_on (suc (length text)) text 0 [] (omega arith) (lexed_none text short)
+  lexed short = lexed_on (suc (length text)) text 0 [] (omega arith) (lexed_none profile text short)
 
 -- ---- tokens have a tree, or no tree, or too many open braces
 
@@ -220,50 +225,53 @@ module _ (files : List FileOf) (clean : HasNoFault (ReadFaults files)) (f : File
   pub file_is_text : IsText f.bytes
   file_is_text = record { short = short; utf8 = utf8 }
 
-  no_text_fault : (offset : ℕ) (k : FaultKind) → IsTextFault f.bytes offset k → ⊥
+  no_text_fault : (offset : ℕ) (k : FaultKind) → IsTextFault f offset k → ⊥
   no_text_fault offset k h = clean (record { path = f.path; offset = offset; kind = k }) (inl (f, c, refl, h))
 
-  no_grammar_fault : (offset : ℕ) (k : FaultKind) → IsGrammarFault f.bytes offset k → ⊥
+  no_grammar_fault : (offset : ℕ) (k : FaultKind) → IsGrammarFault f offset k → ⊥
   no_grammar_fault offset k h = clean (record { path = f.path; offset = offset; kind = k }) (inr (f, c, refl, h))
 
-  no_lex_fault : (offset : ℕ) (fault : LexFault) → IsFaultAt f.bytes offset fault → ⊥
+  no_lex_fault : (offset : ℕ) (fault : LexFault) → IsFaultIn f.profile f.bytes offset fault → ⊥
   no_lex_fault offset lex.BadChar h = no_text_fault offset kind.BadChar (file_is_text, h)
   no_lex_fault offset lex.OpenComment h = no_text_fault offset kind.OpenComment (file_is_text, h)
   no_lex_fault offset lex.OpenString h = no_text_fault offset kind.OpenString (file_is_text, h)
   no_lex_fault offset lex.BadEscape h = no_text_fault offset kind.BadEscape (file_is_text, h)
   no_lex_fault offset lex.BadNumber h = no_text_fault offset kind.BadNumber (file_is_text, h)
 
-  tree_read : (tokens : List Token) → AreTokens f.bytes tokens → IsShallow (classed f.bytes tokens) → (tree : Tree) × Reads f.bytes tokens tree
-  tree_read tokens are shallow = elim (tree_or_stuck (classed f.bytes tokens)) [
-    | inl t ↦ (t.0, record { tokens_are = are; spells = t.1; shallow = shallow })
+  of_text : (tokens : List Token) → AreFileTokens f tokens → AreTokens f.bytes tokens
+  of_text tokens are = (are.0, are.1.0, are.2)
+
+  tree_read : (tokens : List Token) → AreFileTokens f tokens → IsShallow (classed_in f.profile f.bytes tokens) → (tree : Tree) × ReadsIn f.profile f.bytes tokens tree
+  tree_read tokens are shallow = elim (tree_or_stuck (classed_in f.profile f.bytes tokens)) [
+    | inl t ↦ (t.0, record { tokens_are = of_text tokens are; spells = t.1; shallow = shallow })
     | inr k ↦ (
-        let ls = classed f.bytes tokens in
+        let ls = classed_in f.profile f.bytes tokens in
         absurd (no_grammar_fault (place_at f.bytes tokens (length ls - k.0)) kind.Syntax
         (tokens, are, record { shallow = shallow; no_tree = stuck_no_tree ls k.0 k.1; at = length ls - k.0; place = stuck_place ls k.0 k.1; offset_is = refl })))
   ]
 
-  tokens_read : (tokens : List Token) → AreTokens f.bytes tokens → (tree : Tree) × Reads f.bytes tokens tree
-  tokens_read tokens are = elim (shallow_or_deep (classed f.bytes tokens)) [
+  tokens_read : (tokens : List Token) → AreFileTokens f tokens → (tree : Tree) × ReadsIn f.profile f.bytes tokens tree
+  tokens_read tokens are = elim (shallow_or_deep (classed_in f.profile f.bytes tokens)) [
     | inl shallow ↦ tree_read tokens are shallow
     | inr k ↦ absurd (no_grammar_fault (place_at f.bytes tokens k.0) kind.TooDeep (tokens, are, record { at = k.0; place = k.1; offset_is = refl }))
   ]
 
-  file_read : (r : ReadOf) × Reads f.bytes r.tokens r.tree
-  file_read = elim (lexed f.bytes short) [
+  file_read : (r : ReadOf) × ReadsIn f.profile f.bytes r.tokens r.tree
+  file_read = elim (lexed f.profile f.bytes short) [
     | inl ts ↦ (let t = tokens_read ts.0 ts.1 in (record { tokens = ts.0; tree = t.0 }, t.1))
     | inr at ↦ absurd (no_lex_fault at.0 at.1 at.2)
   ]
 
-all_read : (fs : List FileOf) → ((f : FileOf) → Contains fs f → (r : ReadOf) × Reads f.bytes r.tokens r.tree)
-    → (rs : List ReadOf) × (length rs ≡ length fs) × ((k : ℕ) → k < length fs → Reads (file_at fs k).bytes (read_at rs k).tokens (read_at rs k).tree)
+all_read : (fs : List FileOf) → ((f : FileOf) → Contains fs f → (r : ReadOf) × ReadsIn f.profile f.bytes r.tokens r.tree)
+    → (rs : List ReadOf) × (length rs ≡ length fs) × ((k : ℕ) → k < length fs → ReadsIn (file_at fs k).profile (file_at fs k).bytes (read_at rs k).tokens (read_at rs k).tree)
 all_read [] h = ([], refl, λ k l. absurd (omega (arith, l)))
 all_read (f ∷ fs) h =
     let first = h f (contains_head f fs) in
     let more = all_read fs (λ g c. h g (contains_later f g fs c)) in
     (first.0 ∷ more.0, ap suc more.1, each first.0 first.1 more.0 more.2)
   where
-    each : (r : ReadOf) → Reads f.bytes r.tokens r.tree → (rs : List ReadOf) → ((k : ℕ) → k < length fs → Reads (file_at fs k).bytes (read_at rs k).tokens (read_at rs k).tree)
-        → (k : ℕ) → k < length (f ∷ fs) → Reads (file_at (f ∷ fs) k).bytes (read_at (r ∷ rs) k).tokens (read_at (r ∷ rs) k).tree
+    each : (r : ReadOf) → ReadsIn f.profile f.bytes r.tokens r.tree → (rs : List ReadOf) → ((k : ℕ) → k < length fs → ReadsIn (file_at fs k).profile (file_at fs k).bytes (read_at rs k).tokens (read_at rs k).tree)
+        → (k : ℕ) → k < length (f ∷ fs) → ReadsIn (file_at (f ∷ fs) k).profile (file_at (f ∷ fs) k).bytes (read_at (r ∷ rs) k).tokens (read_at (r ∷ rs) k).tree
     each r first rs more zero l = first
     each r first rs more (suc k) l = more k (omega (arith, l))
 

@@ -7,6 +7,7 @@ use Rattle.proto_tree.specs.declared.piece.Header.TheVariants as header
 use Rattle.proto_tree.specs.declared.tree.Reference.{Reference}
 use Rattle.proto_tree.proofs.Common.{Tree, End, first_of}
 use Rattle.proto_files.proofs.Common.{FileOf, ReadOf, read_at}
+use Rattle.proto_files.specs.GivenFiles.{no_file}
 use Rattle.proto_names_rules.proofs.Common.{Renaming, ren, place_of, At, at, Workspace, Symbol, same_name, Declared, Source, Used, reference_of, renaming_of, name_from_same, same_from_name, aim_renaming, has_meaning, map_agree, map_map, meant, ren_apart}
 use Rattle.proto_names_imports.proofs.Common.{link_skeleton, names_of_files, text_of, used_named, uses_of}
 use Rattle.proto_ast.proofs.Common.{BlockOf, FieldOf, blocks_in, closed_ranges, extension_ranges, fields_in, options_in, reserved_ranges, statements, Scene, value}
@@ -18,7 +19,7 @@ use Rattle.proto_desc_extensions.specs.Common.{ExtensionOf, block_extensions, ex
 use Rattle.proto_desc_extensions.proofs.MovedExtensions.{AreMoved, moved_extension, moved_flaw, workspace_moved}
 use Rattle.proto_edit_rules.specs.Rename.{NewWords}
 use Rattle.proto_edit_rename_laws.specs.Scenes.{IsRename}
-use Rattle.proto_edit_rename_laws.proofs.Common.{declared_as, meaning_of, scene_of, declared_stays, find_there, from_flat_map, meaning_after, scenes_are_apart, to_flat_map, trees_at, used_here, uses_stay, values_stay}
+use Rattle.proto_edit_rename_laws.proofs.Common.{at_same, declared_as, meaning_of, scene_of, declared_stays, find_there, from_flat_map, meaning_after, scenes_are_apart, to_flat_map, trees_at, used_here, uses_stay, values_stay}
 use Rattle.proto_edit_rename_laws.proofs.Scenes.{index_past}
 use Rattle.proto_edit_rename_described.specs.Common.{Taken}
 use Rattle.proto_edit_rename_described.proofs.FileStays.{closed_stays, number_stays}
@@ -208,6 +209,7 @@ module _ (files : List FileOf) (reads : List ReadOf) (c : NewWords) (after : Lis
 
   are_turned : AreMoved files reads after seen (λ k i. i) (ren e)
   are_turned = record {
+    profiles = λ k l. at_same (λ (g : FileOf). g.profile) after files no_file k r.reworded.profiles;
     extensions = λ k l. extensions_turned k l;
     ranges = λ x p. (
         let s = extended p.file p.within x p.there in

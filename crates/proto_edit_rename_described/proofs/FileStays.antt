@@ -19,7 +19,7 @@ use Rattle.proto_desc_numbers.specs.NumberFlaws.{bound_of, end_of, enum_range_of
 use Rattle.proto_desc_checks_laws.specs.Renamed.{DifferInNames, SameButValues, constant_tokens, end_tokens, enum_tokens, field_tokens, message_tokens, option_tokens, range_tokens, scalar_tokens, up_to_tokens, value_tokens}
 use Rattle.proto_descriptors.specs.declared.field.FieldType.TheVariants as field_type
 use Rattle.proto_descriptors.specs.declared.field.Label.TheVariants as label
-use Rattle.proto_desc_build.specs.Described.{enum_options, field_number, file_options, is_map, level_named, message_options, method_options, mode_named, number_range, scalar_type, type_of, value_described, value_number, value_range}
+use Rattle.proto_desc_build.specs.Described.{c_type_named, enum_options, field_number, file_options, is_map, level_named, message_options, method_options, mode_named, number_range, scalar_type, type_of, value_described, value_number, value_range}
 use Rattle.proto_edit_rename_laws.proofs.Common.{from_flat_map, to_flat_map, find_agree, find_there}
 use Rattle.proto_edit_rename_described.specs.Common.{Taken, FieldStays, service_options}
 
@@ -123,6 +123,9 @@ module _ (e : Renaming) (taken : Taken) (named : ℕ → Bool) (a b : Scene) (di
     objc_class_prefix = texts_same (codes "objc_class_prefix") os k i;
     csharp_namespace = texts_same (codes "csharp_namespace") os k i;
     php_namespace = texts_same (codes "php_namespace") os k i;
+    java_generate_equals_and_hash = truth_same (codes "java_generate_equals_and_hash") refl os k i;
+    java_generic_services = truth_same (codes "java_generic_services") refl os k i;
+    ruby_package = texts_same (codes "ruby_package") os k i;
   }
 
   -- ---- numbers
@@ -190,7 +193,11 @@ module _ (e : Renaming) (taken : Taken) (named : ℕ → Bool) (a b : Scene) (di
           ap₂ (λ x y. if is_map f || x then label.Repeated else (if y then label.Required else label.Optional)) (label_stays (codes "repeated") f.label label_kept) (label_stays (codes "required") f.label label_kept);
       kind = ap (λ z. if is_map f then field_type.Message else z) (type_stays f.kind kind_kept);
       optional = ap₂ (λ x y. x && y) (sym differ.version) (label_stays (codes "optional") f.label label_kept);
-      options = λ i. record { packed = truth_same (codes "packed") refl f.options options_kept i; deprecated = truth_same (codes "deprecated") refl f.options options_kept i };
+      options = λ i. record {
+        ctype = option_map c_type_named (words_same (codes "ctype") refl f.options options_kept i);
+        packed = truth_same (codes "packed") refl f.options options_kept i;
+        deprecated = truth_same (codes "deprecated") refl f.options options_kept i;
+      };
       json = texts_same (codes "json_name") f.options options_kept;
       default = value_same (codes "default") f.options options_kept;
     }

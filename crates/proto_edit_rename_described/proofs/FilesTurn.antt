@@ -23,7 +23,7 @@ use Rattle.proto_ast.proofs.Common.{is_named, text_option, value_named, BlockOf,
 use Rattle.proto_ast.specs.declared.options.Element.{Element}
 use Rattle.proto_ast.specs.declared.options.Element.TheVariants as element
 use Rattle.proto_desc_numbers.proofs.Common.{flaw_if, is_field_number, number_of_field, outside}
-use Rattle.proto_desc_checks.proofs.Common.{default_flaws, field_flaws, flaws_of_extension, is_default_of, is_value_of, may_default, option_flaws, packed_flaws, proto3_defaults, required_extensions, type_flaws, wrong_default, block_flaws, flaws_in_blocks}
+use Rattle.proto_desc_checks.proofs.Common.{bars_extend, default_flaws, field_flaws, flaws_of_extension, is_default_of, is_value_of, may_default, option_flaws, packed_flaws, proto3_defaults, required_extensions, type_flaws, wrong_default, block_flaws, flaws_in_blocks}
 use Rattle.proto_desc_checks_laws.proofs.Common.{names_are_of_one_field, DifferInNames, asked_tokens, block_tokens, option_tokens}
 use Rattle.proto_desc_build.specs.Described.{absolute, default_number, default_text, field_type_name, file_described, is_map, type_name_of}
 use Rattle.proto_edit_rename_laws.proofs.Common.{meaning_of, meant_as, scene_of, fields_of_block, meaning_from, means_value, HasDefaultRoles, AreReworded, IsRename, Target, may_rename, name_map, renamed_words, other_texts_stay, at_same, find_agree, find_there, scenes_are_apart, used_here, values_stay}
@@ -40,6 +40,7 @@ use Rattle.proto_edit_rename_described.proofs.NamesKept.{empty_parts, none_flawe
 use Rattle.proto_edit_rename_described.proofs.ScenesTurn.{meanings_are_turned, named_some, names_are_turned, some_path, there}
 use Rattle.proto_edit_rename_described.proofs.TreeTurns.{FieldNames, block_with, tree_turns}
 use Rattle.proto_edit_rename_described.proofs.WrittenJson.{writes_json}
+use Rattle.proto_files.specs.GivenFiles.{no_file}
 
 -- ---- lists, tests and tokens
 
@@ -236,7 +237,7 @@ module _ (files : List FileOf) (reads : List ReadOf) (name to : List ℕ) (t : T
       json_is v (of_field d g i) q =
           let same_file : file ≡ t.token.file = ap (λ (x : At). x.file) q in
           let same_name : f.name ≡ g.name = ap (λ (x : At). x.token) q ∙ sym i.name in
-          let options : f.options ≡ g.options = (names_are_of_one_field tree (map (lexeme_at (file_at files file).bytes) (read_at reads file).tokens) (al.read.trees file l).spells (block_with h within) d f g cb (subst (λ n. Contains (blocks_in (read_at reads n).tree) d) (sym same_file) i.block) (of_block h within f cf) i.field same_name).options in
+          let options : f.options ≡ g.options = (names_are_of_one_field (file_at files file).profile tree (map (lexeme_at (file_at files file).bytes) (read_at reads file).tokens) (al.read.trees file l).spells (block_with h within) d f g cb (subst (λ n. Contains (blocks_in (read_at reads n).tree) d) (sym same_file) i.block) (of_block h within f cf) i.field same_name).options in
           ap₂ json_at same_file options
       json_is v (of_another none) q =
           let same_file : file ≡ t.token.file = ap (λ (x : At). x.file) q in
@@ -256,7 +257,7 @@ module _ (files : List FileOf) (reads : List ReadOf) (name to : List ℕ) (t : T
           by (header.Message x) cg c = (element.Field, empty_each (field_flaws a element.Field) (fields_in within) (empty_parts (flat_map (field_flaws a element.Field) (fields_in within)) _ (block_clean (header.Message x) cg)).0 f c)
           by (header.Extend x) cg c =
               let numbers = outside is_field_number (map (number_of_field a) (fields_in within)) in
-              let behind = (empty_parts (flaw_if a.is_proto3 fault.NotInProto3 x.keyword) (numbers ++ flat_map (flaws_of_extension a) (fields_in within)) (block_clean (header.Extend x) cg)).1 in
+              let behind = (empty_parts (flaw_if (bars_extend a.profile a.is_proto3) fault.NotInProto3 x.keyword) (numbers ++ flat_map (flaws_of_extension a) (fields_in within)) (block_clean (header.Extend x) cg)).1 in
               let each = (empty_parts numbers (flat_map (flaws_of_extension a) (fields_in within)) behind).1 in
               (element.Extension, (empty_parts (required_extensions a f.label) (field_flaws a element.Extension f) (empty_each (flaws_of_extension a) (fields_in within) each f c)).1)
           by whole cg c = absurd (omega (arith, c.1))
@@ -360,7 +361,7 @@ files_turn files reads name to t after seen al w written writes file l = file_tu
 -- ---- the descriptors of all files
 
 file_paths : (after files : List FileOf) (k : ℕ) → map (λ (f : FileOf). f.path) after ≡ map (λ (f : FileOf). f.path) files → (file_at after k).path ≡ (file_at files k).path
-file_paths after files k h = at_same (λ (f : FileOf). f.path) after files (record { path = []; bytes = [] }) k h
+file_paths after files k h = at_same (λ (f : FileOf). f.path) after files no_file k h
 
 each_described : (e : Renaming) (taken : Taken) (files after : List FileOf) (reads seen : List ReadOf) (n : ℕ) (rs ss : List ReadOf) → map (λ (r : ReadOf). r.tree) ss ≡ map (λ (r : ReadOf). r.tree) rs
     → ((k : ℕ) → k < length rs → file_described (scene_of None after seen (n + k)) (file_at after (n + k)).path (read_at rs k).tree ≡ mapped_file e taken (file_described (scene_of None files reads (n + k)) (file_at files (n + k)).path (read_at rs k).tree))

@@ -8,6 +8,7 @@ use Rattle.proto_edit_rename_laws.specs.SceneOf.{lexemes_of, scene_of}
 use Rattle.proto_edit_rename_laws.proofs.TokenRoles.{block_inside, spelled}
 use Rattle.proto_edit_rules.specs.Rename.{of_another, of_field}
 use Rattle.proto_edit_rename_described.specs.WrittenJson.{JsonIsWrittenOnce, JsonIsWrittenOrNot}
+use Rattle.proto_files.specs.GivenFiles.{file_at}
 
 search_fields : (token : ℕ) (fs : List FieldOf) → ((f : FieldOf) × Contains fs f × (f.name ≡ token)) ⊎ ((f : FieldOf) → Contains fs f → f.name ≡ token → ⊥)
 search_fields token [] = inr (λ f c q. absurd (omega (arith, c.1)))
@@ -38,7 +39,7 @@ writes_json files reads t = elim (search_blocks t.token.token (blocks_in (read_a
 pub written_once : JsonIsWrittenOnce
 written_once files reads t r a b (of_field x f i) (of_field y g j) =
     let l = block_inside files reads r t.token.file x i.block in
-    let same = names_are_of_one_field (read_at reads t.token.file).tree (lexemes_of files reads t.token.file) (spelled files reads r t.token.file l) x y f g i.block j.block i.field j.field (i.name ∙ sym j.name) in
+    let same = names_are_of_one_field (file_at files t.token.file).profile (read_at reads t.token.file).tree (lexemes_of files reads t.token.file) (spelled files reads r t.token.file l) x y f g i.block j.block i.field j.field (i.name ∙ sym j.name) in
     ap (λ (os : List OptionOf). is_some (text_option (text (scene_of None files reads t.token.file)) (value (scene_of None files reads t.token.file)) (codes "json_name") os)) same.options
 written_once files reads t r a b (of_field x f i) (of_another none) = absurd (none x f i)
 written_once files reads t r a b (of_another none) (of_field x f i) = absurd (none x f i)

@@ -8,6 +8,7 @@ use Rattle.proto_edit_entries.proofs.Common.{ChangeOf, EachPuts, PutsFile}
 use Rattle.proto_edit_rename_laws.specs.ChangesPut.{ChangesArePut}
 use Rattle.proto_edit_rename_laws.specs.Common.{words_of_file, NewWords, change_by, changes_from, spliced_length}
 use Rattle.proto_edit_rename_laws.proofs.Rewording.{at_same}
+use Rattle.proto_files.specs.GivenFiles.{no_file}
 
 abbrev pub edits_at : (At → Option (List ℕ)) → ℕ → List FileOf → List ReadOf → ℕ → List Edit
 edits_at c n fs rs k = token_edits (file_at fs k).bytes (words_of_file c (n + k)) 0 (read_at rs k).tokens
@@ -92,7 +93,8 @@ changes_are_put c files reads after seen r w apart = record {
 
     puts : (k : ℕ) → k < length files → PutsFile (changes_from c 0 files reads) (file_at files k) (file_at after k)
     puts k l = record {
-      path = at_same (λ (g : FileOf). g.path) after files (record { path = []; bytes = [] }) k w.paths;
+      path = at_same (λ (g : FileOf). g.path) after files no_file k w.paths;
+      profile = at_same (λ (g : FileOf). g.profile) after files no_file k w.profiles;
       changed = λ ch h p. (
           let j = from_changes c 0 files reads ch h in
           let by = is_by (file_at files j.0) (edits_at c 0 files reads j.0) ch j.2 in

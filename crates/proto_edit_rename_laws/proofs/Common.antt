@@ -9,7 +9,7 @@ pub use Rattle.proto_edit_rename_laws.proofs.Rewording.{at_same, files_are_rewor
 pub use Rattle.proto_edit_rename_laws.proofs.Scenes.{declared_stays, find_agree, find_there, index_map, meaning_after, scenes_are_apart, trees_at, used_here, uses_stay, values_stay, version_stays}
 pub use Rattle.proto_edit_rename_laws.proofs.TargetThere.{targets_are_there}
 pub use Rattle.proto_edit_rename_laws.specs.Captures.{HasScope, IsNewWord}
-pub use Rattle.proto_edit_rules.specs.Rename.{Captures, JsonNameClashes, IsFirstPlace, IsUnknown, RenameCase, ReservesWord, StandsBefore, captured, collision, is_keyword_of, is_value_keyword, json_clash, keyword_name, kind_not_allowed, name_reserved, not_an_identifier, same_name, too_large, unknown_target, IsRewordedTooLong, change_by, changes_from, changes_of_words, splices_in, default_words, defaults_from, fields_of_block, fields_of_file, meaning_from, means_value, renamed_default, renamed_defaults, type_meaning, front_of, renamed_places, same_at, standing, stands, NewWords, words_of_file, HasEnum, IsEnumOf, IsNamed, Target, may_rename, name_map, renamed_words}
+pub use Rattle.proto_edit_rules.specs.Rename.{Captures, JsonNameClashes, IsFirstPlace, IsUnknown, RenameCase, ReservesWord, StandsBefore, captured, collision, has_json_names, is_keyword_of, is_value_keyword, json_clash, keyword_name, kind_not_allowed, name_reserved, not_an_identifier, same_name, too_large, unknown_target, IsRewordedTooLong, change_by, changes_from, changes_of_words, splices_in, default_words, defaults_from, fields_of_block, fields_of_file, meaning_from, means_value, renamed_default, renamed_defaults, type_meaning, front_of, renamed_places, same_at, standing, stands, NewWords, words_of_file, HasEnum, IsEnumOf, IsNamed, Target, may_rename, name_map, renamed_words}
 pub use Rattle.proto_edit_rename_laws.specs.Inside.{IsInside}
 pub use Rattle.proto_edit_rename_laws.specs.Places.{Names, Uses}
 pub use Rattle.proto_edit_rename_laws.specs.Rewording.{AreReworded, SuitFiles}

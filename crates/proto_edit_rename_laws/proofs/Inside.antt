@@ -120,11 +120,11 @@ pub tokens_are_inside : TokensAreInside
 tokens_are_inside files reads r i (inl n) =
     let o = name_of_file files reads i n in
     let l : i.file < length files = (let k = o.inside in let same = r.same in omega (arith, k, same)) in
-    (l, plain_inside (file_at files i.file).bytes (read_at reads i.file).tokens i.token (placed_plain (file_at files i.file).bytes (read_at reads i.file).tokens (read_at reads i.file).tree (r.trees i.file l) o.p o.within i.token o.last))
+    (l, plain_inside (file_at files i.file).bytes (read_at reads i.file).tokens i.token (placed_plain (file_at files i.file).profile (file_at files i.file).bytes (read_at reads i.file).tokens (read_at reads i.file).tree (r.trees i.file l) o.p o.within i.token o.last))
 tokens_are_inside files reads r i (inr u) =
     let o = word_of_file files reads i u in
     let l : i.file < length files = (let k = o.inside in let same = r.same in omega (arith, k, same)) in
-    let plain = uses_plain (file_at files i.file).bytes (read_at reads i.file).tokens (read_at reads i.file).tree (r.trees i.file l) o.v o.within in
+    let plain = uses_plain (file_at files i.file).profile (file_at files i.file).bytes (read_at reads i.file).tokens (read_at reads i.file).tree (r.trees i.file l) o.v o.within in
     (l, plain_inside (file_at files i.file).bytes (read_at reads i.file).tokens i.token (each_plain (words (file_at files i.file).bytes (read_at reads i.file).tokens) o.v.tokens plain.0 i.token o.word))
 
 pub targets_are_inside : TargetsAreInside

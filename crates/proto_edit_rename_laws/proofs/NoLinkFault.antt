@@ -5,15 +5,17 @@ use Rattle.proto_base.specs.FaultTable.{kind_number}
 use Rattle.proto_base.specs.declared.fault.FaultKind.TheVariants as kind
 use Rattle.proto_case.proofs.Common.{entry_name, entry_differs}
 use Rattle.proto_text.specs.declared.lexer.Token.{Token}
-use Rattle.proto_text.proofs.Common.{offset_at, lexeme_at, no_fault_with_tokens, one_token_list}
+use Rattle.proto_text.proofs.Common.{offset_at, lexeme_at, no_fault_with_tokens_in, one_token_list}
 use Rattle.proto_text.specs.declared.fault.LexFault.TheVariants as lex
-use Rattle.proto_tree.specs.Reads.{Reads}
+use Rattle.proto_tree.specs.Reads.{ReadsIn}
 use Rattle.proto_files.proofs.Common.{FaultAt, HasNoFault, FileOf, file_at, paths_of, IsText, IsTextFault, IsGrammarFault, ReadOf, AreRead, read_at, read_once}
 use Rattle.proto_names_rules.proofs.Common.{AskedImport, Fault, ImportFault, unknown, double, cycle, NameFault, earlier, of_package, ReferenceFault, unresolved, wrong_kind, of_entry, At, FileNames, IsGrown, Skeleton, linked_after, files_nested, files_woven, linked_from, names_sound, references_sound}
 use Rattle.proto_names_outline.proofs.FromTree.{tree_grown}
 use Rattle.proto_names_imports.specs.Links.{LinkFaults, FaultStandsAt, of_import, of_name, of_reference, all_wanted, link_skeleton, link_imports, names_in, text_of}
 use Rattle.proto_edit_rename_laws.specs.NoLinkFault.{FilesAreWoven, FilesAreLinked, ReadFilesAreClean, NoLinkFaultComesIn}
 use Rattle.proto_edit_rename_laws.proofs.Rewording.{asked_stay, skeletons_stay}
+use Rattle.proto_files.specs.ReadFaults.{AreFileTokens}
+use Rattle.proto_tree.proofs.Common.{trees_have_tokens}
 
 -- ---- what was read
 
@@ -32,7 +34,7 @@ pub files_are_woven : FilesAreWoven
 files_are_woven files reads r =
     files_woven (link_imports files reads) (map names_in reads) (each_grown reads (λ k l.
     let t = r.trees k (omega (arith, l, r.same)) in
-    tree_grown (read_at reads k).tree
+    tree_grown (file_at files k).profile (read_at reads k).tree
     (map (lexeme_at (file_at files k).bytes) (read_at reads k).tokens) t.spells))
 
 -- ---- faults as they stand
@@ -90,23 +92,26 @@ no_link_fault files reads c after seen token above aim is_map to r clean x (of_r
 
 -- ---- texts and the grammar
 
-module _ (bytes : List ℕ) (tokens : List Token) (tree : _) (r : Reads bytes tokens tree) (is : IsText bytes) where
-  no_text_fault : (offset : ℕ) (k : FaultKind) → IsTextFault bytes offset k → ⊥
+module _ (f : FileOf) (tokens : List Token) (tree : _) (r : ReadsIn f.profile f.bytes tokens tree) (is : IsText f.bytes) where
+  are : AreFileTokens f tokens
+  are = trees_have_tokens f.profile f.bytes tokens tree r
+
+  no_text_fault : (offset : ℕ) (k : FaultKind) → IsTextFault f offset k → ⊥
   no_text_fault offset kind.TooLarge h = let s = is.short in absurd (omega (arith, h.1, s))
   no_text_fault offset kind.NotUtf8 h = h.2 is.utf8
-  no_text_fault offset kind.BadChar h = no_fault_with_tokens bytes tokens offset lex.BadChar r.tokens_are h.1
-  no_text_fault offset kind.OpenComment h = no_fault_with_tokens bytes tokens offset lex.OpenComment r.tokens_are h.1
-  no_text_fault offset kind.OpenString h = no_fault_with_tokens bytes tokens offset lex.OpenString r.tokens_are h.1
-  no_text_fault offset kind.BadEscape h = no_fault_with_tokens bytes tokens offset lex.BadEscape r.tokens_are h.1
-  no_text_fault offset kind.BadNumber h = no_fault_with_tokens bytes tokens offset lex.BadNumber r.tokens_are h.1
+  no_text_fault offset kind.BadChar h = no_fault_with_tokens_in f.profile f.bytes tokens offset lex.BadChar are h.1
+  no_text_fault offset kind.OpenComment h = no_fault_with_tokens_in f.profile f.bytes tokens offset lex.OpenComment are h.1
+  no_text_fault offset kind.OpenString h = no_fault_with_tokens_in f.profile f.bytes tokens offset lex.OpenString are h.1
+  no_text_fault offset kind.BadEscape h = no_fault_with_tokens_in f.profile f.bytes tokens offset lex.BadEscape are h.1
+  no_text_fault offset kind.BadNumber h = no_fault_with_tokens_in f.profile f.bytes tokens offset lex.BadNumber are h.1
   no_text_fault offset _ h = h
 
-  no_grammar_fault : (offset : ℕ) (k : FaultKind) → IsGrammarFault bytes offset k → ⊥
+  no_grammar_fault : (offset : ℕ) (k : FaultKind) → IsGrammarFault f offset k → ⊥
   no_grammar_fault offset kind.Syntax h =
-      let reads = subst (λ (ts : List Token). Reads bytes ts tree) (one_token_list bytes tokens h.0 r.tokens_are h.1) r in
+      let reads = subst (λ (ts : List Token). ReadsIn f.profile f.bytes ts tree) (one_token_list f.bytes tokens h.0 r.tokens_are (h.1.0, h.1.1.0, h.1.2)) r in
       h.2.no_tree tree reads.spells
   no_grammar_fault offset kind.TooDeep h =
-      let reads = subst (λ (ts : List Token). Reads bytes ts tree) (one_token_list bytes tokens h.0 r.tokens_are h.1) r in
+      let reads = subst (λ (ts : List Token). ReadsIn f.profile f.bytes ts tree) (one_token_list f.bytes tokens h.0 r.tokens_are (h.1.0, h.1.1.0, h.1.2)) r in
       let within = h.2.place.within in
       let deep = h.2.place.deep in
       let shallow = reads.shallow (h.2.at + 1) (omega (arith, within)) in
@@ -125,9 +130,9 @@ place_of_file files f c = (c.0, c.1, by files c.0 c.1 c.2)
 pub read_files_are_clean : ReadFilesAreClean
 read_files_are_clean files reads r text x (inl (f, c, path, says)) =
     let p = place_of_file files f c in
-    let h = subst (λ (g : FileOf). IsTextFault g.bytes x.offset x.kind) (sym p.2) says in
-    no_text_fault (file_at files p.0).bytes (read_at reads p.0).tokens (read_at reads p.0).tree (r.trees p.0 p.1) (text p.0 p.1) x.offset x.kind h
+    let h = subst (λ (g : FileOf). IsTextFault g x.offset x.kind) (sym p.2) says in
+    no_text_fault (file_at files p.0) (read_at reads p.0).tokens (read_at reads p.0).tree (r.trees p.0 p.1) (text p.0 p.1) x.offset x.kind h
 read_files_are_clean files reads r text x (inr (f, c, path, says)) =
     let p = place_of_file files f c in
-    let h = subst (λ (g : FileOf). IsGrammarFault g.bytes x.offset x.kind) (sym p.2) says in
-    no_grammar_fault (file_at files p.0).bytes (read_at reads p.0).tokens (read_at reads p.0).tree (r.trees p.0 p.1) (text p.0 p.1) x.offset x.kind h
+    let h = subst (λ (g : FileOf). IsGrammarFault g x.offset x.kind) (sym p.2) says in
+    no_grammar_fault (file_at files p.0) (read_at reads p.0).tokens (read_at reads p.0).tree (r.trees p.0 p.1) (text p.0 p.1) x.offset x.kind h

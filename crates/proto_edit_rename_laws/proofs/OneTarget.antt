@@ -5,7 +5,7 @@ use Rattle.proto_case.specs.Camel.{entry_name}
 use Rattle.proto_text.specs.Tokens.{lexeme_at}
 use Rattle.proto_tree.specs.declared.piece.Header.{Header}
 use Rattle.proto_tree.specs.declared.tree.Value.{Value as ValueParts}
-use Rattle.proto_tree.proofs.Common.{Numbered, flat, trees_are_numbered}
+use Rattle.proto_tree.proofs.Common.{Numbered, flat, trees_are_numbered_in}
 use Rattle.proto_tree.specs.declared.piece.Header.TheVariants as header
 use Rattle.proto_files.proofs.Common.{FileOf, file_at, ReadOf, AreRead, read_at}
 use Rattle.proto_names_rules.proofs.Common.{place_from, place_of, At, at, IsLinked, Source, Token, EntryOf, Given, Declared, IsAimEntry, name_of, symbol_of, snoc_parts, joined_apart}
@@ -62,7 +62,7 @@ module _ (files : List FileOf) (reads : List ReadOf) (r : AreRead files reads) (
       let vb = from_map (λ (x : ValueParts). x.name) (values_in b.within) v h.4 in
       let vc = from_map (λ (x : ValueParts). x.name) (values_in c.within) v k.4 in
       let l : file < length files = (let m = inside reads file b fb.0 in let n = r.same in omega (arith, m, n)) in
-      let numbered : Numbered 0 (flat (read_at reads file).tree) = trees_are_numbered (read_at reads file).tree (map (lexeme_at (file_at files file).bytes) (read_at reads file).tokens) (r.trees file l).spells in
+      let numbered : Numbered 0 (flat (read_at reads file).tree) = trees_are_numbered_in (file_at files file).profile (read_at reads file).tree (map (lexeme_at (file_at files file).bytes) (read_at reads file).tokens) (r.trees file l).spells in
       let same : b ≡ c = one_block (read_at reads file).tree 0 b c vb.0 vc.0 numbered fb.0 fc.0 vb.1 vc.1 (vb.2 ∙ sym vc.2) in
       let n = enum_name (place_of d).token b.header fb.1 in
       let tokens : (place_of d).token ≡ (place_of e).token = sym n.1 ∙ n.2 (place_of e).token (subst (λ (z : BlockOf). is_enum_at (place_of e).token z.header ≡ true) (sym same) fc.1) in

@@ -4,13 +4,14 @@ use Rattle.proto_base.specs.Texts.{or_nothing}
 use Rattle.proto_text.specs.declared.class.Class.TheVariants.{Letter, Quote}
 use Rattle.proto_text.proofs.Common.{IsRun, IsString, or_word, words, IsReworded, length_map, words_are_changed, other_words_stay, value_of}
 use Rattle.proto_text.specs.declared.lexer.Token.{Token}
-use Rattle.proto_tree.proofs.Common.{Suits, PutsWords, Tree, End, flat, Reads, edits_keep_trees}
+use Rattle.proto_tree.proofs.Common.{Suits, PutsWords, Tree, End, flat, ReadsIn, edits_keep_trees_in}
 use Rattle.proto_files.proofs.Common.{FileOf, file_at, paths_of, ReadOf, AreRead, read_at}
 use Rattle.proto_names_rules.proofs.Common.{AskedImport, imports_of, At, at, FileNames, skeleton_of_files, Import, map_agree, map_map}
 use Rattle.proto_names_outline.proofs.Common.{import_here, imports_are_strings, Wanted, imports_in, file_names}
 use Rattle.proto_names_imports.specs.Links.{text_of, asked_as, all_wanted, names_in, link_imports}
 use Rattle.proto_edit_rename_laws.specs.Rewording.{SuitFiles, AreReworded, FilesAreReworded, TextsAreChanged, OtherTextsStay, SkeletonsStay}
 use Rattle.proto_edit_rules.specs.Rename.{words_of_file, NewWords}
+use Rattle.proto_base.specs.declared.profile.Profile.{Profile}
 
 pub at_same : {A B : Type 0} (f : A → B) (xs ys : List A) (d : A) (k : ℕ) → map f xs ≡ map f ys → f (slice_index_or xs k d) ≡ f (slice_index_or ys k d)
 at_same f [] [] d k e = refl
@@ -30,30 +31,32 @@ record Made (c : ℕ → ℕ → Option (List ℕ)) (files : List FileOf) (reads
   seen : List ReadOf
   counts : length seen ≡ length after
   paths : paths_of after ≡ paths_of files
+  profiles : map (λ f. f.profile) after ≡ map (λ f. f.profile) files
   trees : map (λ r. r.tree) seen ≡ map (λ r. r.tree) reads
   words : (k : ℕ) → k < length files → IsReworded (file_at files k).bytes (read_at reads k).tokens (c k) (file_at after k).bytes (read_at seen k).tokens
-  read : (k : ℕ) → k < length files → Reads (file_at after k).bytes (read_at seen k).tokens (read_at seen k).tree
+  read : (k : ℕ) → k < length files → ReadsIn (file_at after k).profile (file_at after k).bytes (read_at seen k).tokens (read_at seen k).tree
 
 abbrev AllSuit : (ℕ → ℕ → Option (List ℕ)) → List ReadOf → Type 0
 AllSuit c reads = (k : ℕ) → k < length reads → Suits (c k) (flat (read_at reads k).tree) × PutsWords (c k)
 
 abbrev AllRead : List FileOf → List ReadOf → Type 0
-AllRead files reads = (k : ℕ) → k < length files → Reads (file_at files k).bytes (read_at reads k).tokens (read_at reads k).tree
+AllRead files reads = (k : ℕ) → k < length files → ReadsIn (file_at files k).profile (file_at files k).bytes (read_at reads k).tokens (read_at reads k).tree
 
 make : (c : ℕ → ℕ → Option (List ℕ)) (files : List FileOf) (reads : List ReadOf) → length reads ≡ length files → AllRead files reads → AllSuit c reads → Made c files reads
-make c [] [] e r s = record { after = []; seen = []; counts = refl; paths = refl; trees = refl; words = λ k l. absurd (omega (arith, l)); read = λ k l. absurd (omega (arith, l)) }
+make c [] [] e r s = record { after = []; seen = []; counts = refl; paths = refl; profiles = refl; trees = refl; words = λ k l. absurd (omega (arith, l)); read = λ k l. absurd (omega (arith, l)) }
 make c [] (x ∷ reads) e r s = absurd (omega (arith, e))
 make c (f ∷ files) [] e r s = absurd (omega (arith, e))
 make c (f ∷ files) (x ∷ reads) e r s =
-    let one = edits_keep_trees (c 0) f.bytes x.tokens x.tree (s 0 (omega arith)).0 (s 0 (omega arith)).1 (r 0 (omega arith)) in
+    let one = edits_keep_trees_in f.profile (c 0) f.bytes x.tokens x.tree (s 0 (omega arith)).0 (s 0 (omega arith)).1 (r 0 (omega arith)) in
     let m = make (λ k. c (suc k)) files reads (omega (arith, e)) (λ k l. r (suc k) (omega (arith, l))) (λ k l. s (suc k) (omega (arith, l))) in
-    let g : FileOf = record { path = f.path; bytes = one.0 } in
+    let g : FileOf = record f { bytes = one.0 } in
     let y : ReadOf = record { tokens = one.1; tree = x.tree } in
     record {
       after = g ∷ m.after;
       seen = y ∷ m.seen;
       counts = ap suc m.counts;
       paths = ap (λ ps. f.path ∷ ps) m.paths;
+      profiles = ap (λ ps. f.profile ∷ ps) m.profiles;
       trees = ap (λ ts. x.tree ∷ ts) m.trees;
       words = words g y m.after m.seen one.2 m.words;
       read = reads_each g y m.after m.seen one.3 m.read;
@@ -65,9 +68,9 @@ make c (f ∷ files) (x ∷ reads) e r s =
     words g y gs ys h more zero l = h
     words g y gs ys h more (suc k) l = more k (omega (arith, l))
 
-    reads_each : (g : FileOf) (y : ReadOf) (gs : List FileOf) (ys : List ReadOf) → Reads g.bytes y.tokens y.tree
-        → ((k : ℕ) → k < length files → Reads (file_at gs k).bytes (read_at ys k).tokens (read_at ys k).tree)
-        → (k : ℕ) → k < length (f ∷ files) → Reads (file_at (g ∷ gs) k).bytes (read_at (y ∷ ys) k).tokens (read_at (y ∷ ys) k).tree
+    reads_each : (g : FileOf) (y : ReadOf) (gs : List FileOf) (ys : List ReadOf) → ReadsIn g.profile g.bytes y.tokens y.tree
+        → ((k : ℕ) → k < length files → ReadsIn (file_at gs k).profile (file_at gs k).bytes (read_at ys k).tokens (read_at ys k).tree)
+        → (k : ℕ) → k < length (f ∷ files) → ReadsIn (file_at (g ∷ gs) k).profile (file_at (g ∷ gs) k).bytes (read_at (y ∷ ys) k).tokens (read_at (y ∷ ys) k).tree
     reads_each g y gs ys h more zero l = h
     reads_each g y gs ys h more (suc k) l = more k (omega (arith, l))
 
@@ -82,6 +85,7 @@ files_are_reworded c files reads r s =
       m.seen,
       record {
         paths = m.paths;
+        profiles = m.profiles;
         trees = m.trees;
         words = m.words;
         read = record { same = m.counts; tokens = λ k l. (m.read k (omega (arith, l, n))).tokens_are; trees = λ k l. m.read k (omega (arith, l, n)) };
@@ -112,12 +116,12 @@ none_or None h = refl
 none_or (Some x) h = absurd (h x refl)
 
 -- The path of an import is a string before and after, and a new word is none: so it is not changed.
-imports_stay : (c : ℕ → Option (List ℕ)) (bytes : List ℕ) (tokens : List Token) (t : Tree) (after : List ℕ) (seen : List Token) → Reads bytes tokens t → Reads after seen t → PutsWords c → IsReworded bytes tokens c after seen
+imports_stay : (p q : Profile) (c : ℕ → Option (List ℕ)) (bytes : List ℕ) (tokens : List Token) (t : Tree) (after : List ℕ) (seen : List Token) → ReadsIn p bytes tokens t → ReadsIn q after seen t → PutsWords c → IsReworded bytes tokens c after seen
     → (w : Wanted) → Contains (imports_in t) w → c w.path ≡ None
-imports_stay c bytes tokens t after seen r s p is w h = none_or (c w.path) (λ word e.
-    let here : w.path < length tokens = import_here bytes tokens t r w h in
+imports_stay p q c bytes tokens t after seen r s puts is w h = none_or (c w.path) (λ word e.
+    let here : w.path < length tokens = import_here p bytes tokens t r w h in
     let now : words after seen w.path ≡ word = words_are_changed bytes tokens c after seen is w.path here ∙ ap (λ o. or_word o (words bytes tokens w.path)) e in
-    string_is_no_word word (subst IsString now (imports_are_strings after seen t s w h)) (p w.path word e))
+    string_is_no_word word (subst IsString now (imports_are_strings q after seen t s w h)) (puts w.path word e))
 
 -- the paths asked for by the texts of two readings
 wanted_same : (text now : At → List ℕ) (n : ℕ) (xs ys : List ReadOf) → map (λ r. r.tree) ys ≡ map (λ r. r.tree) xs
@@ -144,8 +148,8 @@ asked_stay c files reads after seen r s w =
     let lf : k < length files = omega (arith, l, r.same) in
     let la : k < length after = (let n = same_paths after files w.paths in omega (arith, lf, n)) in
     let tree : (read_at seen k).tree ≡ (read_at reads k).tree = at_same (λ (z : ReadOf). z.tree) seen reads no_read k w.trees in
-    let again = subst (λ (z : Tree). Reads (file_at after k).bytes (read_at seen k).tokens z) tree (w.read.trees k la) in
-    let none = imports_stay (words_of_file c k) (file_at files k).bytes (read_at reads k).tokens (read_at reads k).tree (file_at after k).bytes (read_at seen k).tokens (r.trees k lf) again (s k l).1 (w.words k lf) x h in
+    let again = subst (λ (z : Tree). ReadsIn (file_at after k).profile (file_at after k).bytes (read_at seen k).tokens z) tree (w.read.trees k la) in
+    let none = imports_stay (file_at files k).profile (file_at after k).profile (words_of_file c k) (file_at files k).bytes (read_at reads k).tokens (read_at reads k).tree (file_at after k).bytes (read_at seen k).tokens (r.trees k lf) again (s k l).1 (w.words k lf) x h in
     let same = other_texts_stay c files reads after seen r w (at k x.path) lf none in
     subst (λ (m : ℕ). text_of after seen (at m x.path) ≡ text_of files reads (at m x.path)) (omega arith) same)
 

@@ -7,9 +7,10 @@ use Rattle.proto_text.specs.declared.kind.TokenKind.TheVariants.{Word, Number, T
 use Rattle.proto_text.proofs.Common.{changed, or_word, word_at, AreWords, Lexeme, value_of}
 use Rattle.proto_tree.specs.declared.tree.Value.{Value}
 use Rattle.proto_tree.specs.declared.piece.Statement.{Statement}
-use Rattle.proto_tree.proofs.Common.{Tree, End, words_come_for_words, first_of}
+use Rattle.proto_tree.proofs.Common.{Tree, End, words_come_for_words_in, first_of}
 use Rattle.proto_tree.specs.declared.piece.Statement.TheVariants as statement
-use Rattle.proto_files.proofs.Common.{FileOf, ReadOf, read_at}
+use Rattle.proto_files.proofs.Common.{FileOf, ReadOf, read_at, file_at}
+use Rattle.proto_files.specs.GivenFiles.{no_file}
 use Rattle.proto_names_rules.proofs.Common.{Renaming, ren, renamed, place_of, At, at, used_in, IsRenaming, Workspace, Symbol, same_name, meaning, Source, Declared, Used, Skeleton, name_of, symbol_of, reference_of, workspace_of, renaming_of, name_from_same, same_from_name, workspace_after, reference_after, name_after, aim_renaming, each_means, has_meaning, meant, ren_apart}
 use Rattle.proto_names_outline.specs.FromTree.{file_names}
 use Rattle.proto_names_imports.proofs.Common.{text_of, link_skeleton, names_of_files, used_named, uses_of, use_in}
@@ -123,7 +124,7 @@ module _ (files : List FileOf) (reads : List ReadOf) (c : NewWords) (after : Lis
   words_are : (f : ℕ) → f < length files → AreWords (words_of_file c f) 0 (lexemes_of files reads f)
   words_are f l =
       let suit = r.suits f (omega (arith, l, r.read.same)) in
-      words_come_for_words (words_of_file c f) (read_at reads f).tree (lexemes_of files reads f) suit.0 suit.1 (r.read.trees f l).spells
+      words_come_for_words_in (file_at files f).profile (words_of_file c f) (read_at reads f).tree (lexemes_of files reads f) suit.0 suit.1 (r.read.trees f l).spells
 
   pub values_stay : (f : ℕ) → f < length files → (t : ℕ) → string_of (slice_get (lexemes_of files reads f) t) ≡ string_of (slice_get (lexemes_of after seen f) t)
   values_stay f l t = sym (ap (λ ls. string_of (slice_get ls t)) (lexemes_are f l) ∙ strings_stay (words_of_file c f) 0 (lexemes_of files reads f) t (words_are f l))
@@ -233,6 +234,7 @@ module _ (files : List FileOf) (reads : List ReadOf) (c : NewWords) (after : Lis
 
   scenes_differ : (f : ℕ) → f < length files → DifferInNames (λ t. is_some (c (at f t))) (scene_of None files reads f) (scene_of None after seen f)
   scenes_differ f l = record {
+    profile = sym (at_same (λ (g : FileOf). g.profile) after files no_file f r.reworded.profiles);
     version = version_stays f l;
     caps = refl;
     texts = λ t h. sym (other_texts_stay c files reads after seen r.read r.reworded (at f t) l (none_of (c (at f t)) h));

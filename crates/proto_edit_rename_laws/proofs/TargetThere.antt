@@ -4,7 +4,7 @@ use Rattle.proto_base.proofs.Common.{list_any, cases_Bool, cond-false, cond-true
 use Rattle.proto_case.specs.Camel.{entry_name}
 use Rattle.proto_text.proofs.Common.{length_map, lexeme_at}
 use Rattle.proto_tree.specs.declared.tree.Value.{Value as ValueParts}
-use Rattle.proto_tree.proofs.Common.{Numbered, End, flat, trees_are_numbered}
+use Rattle.proto_tree.proofs.Common.{Numbered, End, flat, trees_are_numbered_in}
 use Rattle.proto_files.proofs.Common.{FileOf, file_at, ReadOf, AreRead, read_at}
 use Rattle.proto_names_rules.specs.declared.kind.Kind.{Kind}
 use Rattle.proto_names_rules.specs.declared.kind.Kind.TheVariants.{Package, Message, Entry, Enum, Service, Field, EntryField, Oneof, Value, Method, Extension}
@@ -119,7 +119,7 @@ module _ (files : List FileOf) (reads : List ReadOf) (r : AreRead files reads) w
       let found = find_some (λ x. is_enum_at e.n x.header) (blocks_in (read_at reads o.k).tree) e.b e.block e.is in
       let first = find_there (λ (x : BlockOf). is_enum_at e.n x.header) (blocks_in (read_at reads o.k).tree) found.0 found.1 in
       let in_files : o.k < length files = (let m = r.same in omega (arith, l, m)) in
-      let numbered : Numbered 0 (flat (read_at reads o.k).tree) = trees_are_numbered (read_at reads o.k).tree (map (lexeme_at (file_at files o.k).bytes) (read_at reads o.k).tokens) (r.trees o.k in_files).spells in
+      let numbered : Numbered 0 (flat (read_at reads o.k).tree) = trees_are_numbered_in (file_at files o.k).profile (read_at reads o.k).tree (map (lexeme_at (file_at files o.k).bytes) (read_at reads o.k).tokens) (r.trees o.k in_files).spells in
       let one : e.b ≡ found.0 = one_named (read_at reads o.k).tree 0 e.n e.b found.0 numbered e.block first.0 e.is first.1 in
       let has : Contains (map (λ (x : ValueParts). x.name) (values_in found.0.within)) i = subst (λ j. Contains (map (λ (x : ValueParts). x.name) (values_in found.0.within)) j) v_is (subst (λ (z : BlockOf). Contains (map (λ (x : ValueParts). x.name) (values_in z.within)) e.v) one e.has) in
       let looked : find (λ (x : BlockOf). is_enum_at (place_of q).token x.header) (blocks_in (read_at reads d.file).tree) ≡ Some found.0 =

@@ -12,8 +12,8 @@ use Rattle.proto_tree.specs.declared.piece.Header.TheVariants as header
 use Rattle.proto_tree.specs.declared.tree.Constant.TheVariants as constant
 use Rattle.proto_tree.specs.declared.tree.FieldType.{FieldType}
 use Rattle.proto_tree.specs.declared.tree.Value.{Value as ValueParts}
-use Rattle.proto_tree.proofs.Common.{Mark, HasRole, Role, is_number, is_value, names, names_option, refers, role_of, Tree, End, Spells, flat, classes, one_mark, roles_are_one}
-use Rattle.proto_files.proofs.Common.{ReadOf, AreRead, read_at, FileOf}
+use Rattle.proto_tree.proofs.Common.{Mark, HasRole, Role, is_number, is_value, names, names_option, refers, role_of, Tree, End, Spells, flat, classes_in, one_mark_in, roles_are_one_in}
+use Rattle.proto_files.proofs.Common.{ReadOf, AreRead, read_at, FileOf, file_at}
 use Rattle.proto_names_rules.specs.declared.kind.Kind.{Kind}
 use Rattle.proto_names_rules.specs.declared.kind.Kind.TheVariants as kind
 use Rattle.proto_names_rules.proofs.Common.{place_from, place_of, At, at, declared_of, used_in, IsLinked, Source, Token, EntryOf, Given, Declared, Used, name_of, shifted_declared, shifted_source, spell, Placed, file_placed, place, map_append, snoc_parts}
@@ -149,7 +149,7 @@ module _ (files : List FileOf) (reads : List ReadOf) (r : AreRead files reads) w
   abbrev RoleAt : Role → At → Type 0
   RoleAt role i = HasRole (read_at reads i.file).tree role i.token
 
-  pub spelled : (k : ℕ) → k < length reads → Spells (read_at reads k).tree (classes 0 (lexemes_of files reads k))
+  pub spelled : (k : ℕ) → k < length reads → Spells (read_at reads k).tree (classes_in (file_at files k).profile 0 (lexemes_of files reads k))
   spelled k l = (r.trees k (omega (arith, l, r.same))).spells
 
   pub block_inside : (k : ℕ) (b : BlockOf) → Contains (blocks_in (read_at reads k).tree) b → k < length reads
@@ -159,17 +159,17 @@ module _ (files : List FileOf) (reads : List ReadOf) (r : AreRead files reads) w
   mark_inside k m c = there flat refl reads k m c
 
   one_role : (i : At) (a b : Role) → RoleAt a i → RoleAt b i → a ≡ b
-  one_role i a b x y = roles_are_one (read_at reads i.file).tree (lexemes_of files reads i.file) a b i.token (spelled i.file (mark_inside i.file x.0 x.1)) x y
+  one_role i a b x y = roles_are_one_in (file_at files i.file).profile (read_at reads i.file).tree (lexemes_of files reads i.file) a b i.token (spelled i.file (mark_inside i.file x.0 x.1)) x y
 
   name_role : (i : At) → Names (link_skeleton files reads) i → RoleAt names i
   name_role i n =
       let o = name_of_file files reads i n in
-      declared_tokens_are_names (read_at reads i.file).tree (lexemes_of files reads i.file) (spelled i.file o.inside) o.p o.within i.token o.last
+      declared_tokens_are_names (file_at files i.file).profile (read_at reads i.file).tree (lexemes_of files reads i.file) (spelled i.file o.inside) o.p o.within i.token o.last
 
   use_role : (i : At) → Uses (link_skeleton files reads) i → RoleAt refers i
   use_role i u =
       let o = word_of_file files reads i u in
-      used_tokens_refer (read_at reads i.file).tree (lexemes_of files reads i.file) (spelled i.file o.inside) o.v o.within i.token o.word
+      used_tokens_refer (file_at files i.file).profile (read_at reads i.file).tree (lexemes_of files reads i.file) (spelled i.file o.inside) o.v o.within i.token o.word
 
   module _ (enum : Option (List (List ℕ))) (old : List ℕ) where
     default_here : (i : At) → Contains (renamed_defaults files reads enum old) i → IsDefaultOf files reads enum old (read_at reads i.file).tree i
@@ -179,7 +179,7 @@ module _ (files : List FileOf) (reads : List ReadOf) (r : AreRead files reads) w
         subst (λ k. IsDefaultOf files reads enum old (read_at reads k).tree i) (e ∙ d.2) d.3
 
     value_has : (k : ℕ) → k < length reads → (b : BlockOf) (f : FieldOf) (o : OptionOf) (w : ℕ) → Contains (blocks_in (read_at reads k).tree) b → Contains (fields_in b.within) f → Contains f.options o → o.value ≡ constant.Word w → HasRole (read_at reads k).tree is_value w × (o.name + 2 ≡ w)
-    value_has k l b f o w cb cf co q = subst (λ v. ValueHasRole (read_at reads k).tree o.name v) q (field_options_have_roles (read_at reads k).tree (lexemes_of files reads k) (spelled k l) b f o cb cf co).1
+    value_has k l b f o w cb cf co q = subst (λ v. ValueHasRole (read_at reads k).tree o.name v) q (field_options_have_roles (file_at files k).profile (read_at reads k).tree (lexemes_of files reads k) (spelled k l) b f o cb cf co).1
 
     default_role : (i : At) → Contains (renamed_defaults files reads enum old) i → RoleAt is_value i
     default_role i c = let d = default_here i c in (value_has i.file (block_inside i.file d.b d.block) d.b d.f d.o i.token d.block d.field d.option d.value).0
@@ -197,7 +197,7 @@ module _ (files : List FileOf) (reads : List ReadOf) (r : AreRead files reads) w
         let file : a.k ≡ b.k = omega (arith, shifted) in
         let token : x.1 ≡ y.1 = ap (λ (z : At). z.token) same in
         let cb : Contains (file_names (read_at reads a.k).tree).used b.v = subst (λ m. Contains (file_names (read_at reads m).tree).used b.v) (sym file) b.within in
-        let one = tokens_are_used_once (read_at reads a.k).tree (lexemes_of files reads a.k) (spelled a.k a.inside) a.v b.v a.within cb x.0 x.2 y.0 y.2 x.1 x.3 (y.3 ∙ ap (λ n. y.0 ++ n ∷ y.2) (sym token)) in
+        let one = tokens_are_used_once (file_at files a.k).profile (read_at reads a.k).tree (lexemes_of files reads a.k) (spelled a.k a.inside) a.v b.v a.within cb x.0 x.2 y.0 y.2 x.1 x.3 (y.3 ∙ ap (λ n. y.0 ++ n ∷ y.2) (sym token)) in
         (sym a.is ∙ ap₂ (λ (m : ℕ) (z : Used ℕ). used_in m z) shifted one.0 ∙ b.is, sym x.4 ∙ ap₂ (λ (m : ℕ) (z : List ℕ). map (at m) z) shifted one.1 ∙ y.4)
 
     tokens_apart : RolesAreApart (link_skeleton files reads) (renamed_defaults files reads enum old)
@@ -227,7 +227,7 @@ module _ (files : List FileOf) (reads : List ReadOf) (r : AreRead files reads) w
   field_is_named : (k : ℕ) (b : BlockOf) (f : FieldOf) → Contains (blocks_in (read_at reads k).tree) b → Contains (fields_in b.within) f → Names (link_skeleton files reads) (at k f.name)
   field_is_named k b f cb cf =
       let l = block_inside k b cb in
-      let d = fields_are_declared (read_at reads k).tree (lexemes_of files reads k) (spelled k l) b f cb cf in
+      let d = fields_are_declared (file_at files k).profile (read_at reads k).tree (lexemes_of files reads k) (spelled k l) b f cb cf in
       elim d.1 [
         | inl x ↦ placed_names k l d.0 f.name kind.Field x.0
         | inr x ↦ placed_names k l d.0 f.name kind.Extension x.2
@@ -237,7 +237,7 @@ module _ (files : List FileOf) (reads : List ReadOf) (r : AreRead files reads) w
   value_is_named k b i cb ci =
       let l = block_inside k b cb in
       let v = from_map (λ (x : ValueParts). x.name) (values_in b.within) i ci in
-      let d = values_are_declared (read_at reads k).tree (lexemes_of files reads k) (spelled k l) b v.0 cb v.1 in
+      let d = values_are_declared (file_at files k).profile (read_at reads k).tree (lexemes_of files reads k) (spelled k l) b v.0 cb v.1 in
       subst (λ z. Names (link_skeleton files reads) (at k z)) v.2 (placed_names k l d.1 v.0.name kind.Value d.4)
 
   -- ---- linked files
@@ -262,7 +262,7 @@ module _ (files : List FileOf) (reads : List ReadOf) (r : AreRead files reads) w
     value_kind : (k : ℕ) (b : BlockOf) (v : ValueParts) → Contains (blocks_in (read_at reads k).tree) b → Contains (values_in b.within) v → (s : Declared At) → Contains (link_skeleton files reads).declared s → (a : List (Source At)) → s.path ≡ a ++ Token (at k v.name) ∷ [] → s.kind ≡ kind.Value
     value_kind k b v cb cv s cs a ps =
         let l = block_inside k b cb in
-        let d = values_are_declared (read_at reads k).tree (lexemes_of files reads k) (spelled k l) b v cb cv in
+        let d = values_are_declared (file_at files k).profile (read_at reads k).tree (lexemes_of files reads k) (spelled k l) b v cb cv in
         ap (λ (z : Declared At). z.kind) (kind_at k l d.1 v.name kind.Value (λ e. cc) d.4 s cs a ps)
 
     -- ---- the declaration of an enum's block
@@ -338,15 +338,15 @@ module _ (files : List FileOf) (reads : List ReadOf) (r : AreRead files reads) w
           let scene = scene_of None files reads k in
           let tree = (read_at reads k).tree in
           let spells = spelled k l in
-          unchanged (at k i) (λ n. names_are_not_asked scene tree (lexemes_of files reads k) spells names i refl (name_role (at k i) n) c) (λ u. names_are_not_asked scene tree (lexemes_of files reads k) spells refers i refl (use_role (at k i) u) c)
+          unchanged (at k i) (λ n. names_are_not_asked (file_at files k).profile scene tree (lexemes_of files reads k) spells names i refl (name_role (at k i) n) c) (λ u. names_are_not_asked (file_at files k).profile scene tree (lexemes_of files reads k) spells refers i refl (use_role (at k i) u) c)
           (λ x.
           let d = default_here t.enum (text_of files reads t.token) (at k i) x in
-          defaults_are_not_asked scene tree (lexemes_of files reads k) spells d.b d.f d.o d.block d.field d.option d.named i d.value c)
+          defaults_are_not_asked (file_at files k).profile scene tree (lexemes_of files reads k) spells d.b d.f d.o d.block d.field d.option d.named i d.value c)
 
       -- ---- wants
 
       mark_at : (k : ℕ) (m : Mark) → Contains (flat (read_at reads k).tree) m → (role : Role) → HasRole (read_at reads k).tree role m.at → role_of m.want ≡ role
-      mark_at k m c role has = ap (λ (x : Mark). role_of x.want) (one_mark (read_at reads k).tree (lexemes_of files reads k) m has.0 (spelled k (mark_inside k m c)) c has.1 (sym has.2)) ∙ has.3
+      mark_at k m c role has = ap (λ (x : Mark). role_of x.want) (one_mark_in (file_at files k).profile (read_at reads k).tree (lexemes_of files reads k) m has.0 (spelled k (mark_inside k m c)) c has.1 (sym has.2)) ∙ has.3
 
       name_wants : (k : ℕ) (m : Mark) → Contains (flat (read_at reads k).tree) m → at k m.at ≡ t.token → (m.want ≡ want.Name) ⊎ ((m.want ≡ want.ValueName) × (t.aim.kind ≡ kind.Value))
       name_wants k m c e = elim (named_wants m.want (mark_at k m c names (subst (RoleAt names) (sym e) (name_role t.token target_named)))) [
@@ -371,16 +371,16 @@ module _ (files : List FileOf) (reads : List ReadOf) (r : AreRead files reads) w
       token_roles = record {
         apart = tokens_apart t.enum (text_of files reads t.token);
         wants = token_wants;
-        numbers = λ file b v cb cv. other_stays file v.number.number is_number number_is_other (value_numbers_are_numbers (read_at reads file).tree (lexemes_of files reads file) (spelled file (block_inside file b cb)) b v cb cv);
+        numbers = λ file b v cb cv. other_stays file v.number.number is_number number_is_other (value_numbers_are_numbers (file_at files file).profile (read_at reads file).tree (lexemes_of files reads file) (spelled file (block_inside file b cb)) b v cb cv);
         asked = λ file l k d lt.
             let i = get_or (asked_tokens (scene_of None files reads file) (read_at reads file).tree) k d in
             ap is_some (asked_stays file i (Contains-get_or (asked_tokens (scene_of None files reads file) (read_at reads file).tree) k d lt) (omega (arith, l, r.same)));
         fields = λ file b cb i j d below inside same.
-            let rises = field_names_rise (read_at reads file).tree (lexemes_of files reads file) (spelled file (block_inside file b cb)) b cb i j d below inside in
+            let rises = field_names_rise (file_at files file).profile (read_at reads file).tree (lexemes_of files reads file) (spelled file (block_inside file b cb)) b cb i j d below inside in
             absurd (omega (arith, same, rises));
         field_names = λ file b f l cb cf. field_is_named file b f cb cf;
         value_names = λ file b l cb i ci. value_is_named file b i cb ci;
-        option_names = λ file b f o cb cf co. other_stays file o.name names_option option_is_other (field_options_have_roles (read_at reads file).tree (lexemes_of files reads file) (spelled file (block_inside file b cb)) b f o cb cf co).0;
+        option_names = λ file b f o cb cf co. other_stays file o.name names_option option_is_other (field_options_have_roles (file_at files file).profile (read_at reads file).tree (lexemes_of files reads file) (spelled file (block_inside file b cb)) b f o cb cf co).0;
       }
 
       -- ---- enums
@@ -399,7 +399,7 @@ module _ (files : List FileOf) (reads : List ReadOf) (r : AreRead files reads) w
           let found = found_block d v has in
           let l = block_inside (place_of d).file has.b found.0 in
           let x = from_map (λ (x : ValueParts). x.name) (values_in has.b.within) v has.within in
-          let p = values_are_declared (read_at reads (place_of d).file).tree (lexemes_of files reads (place_of d).file) (spelled (place_of d).file l) has.b x.0 found.0 x.1 in
+          let p = values_are_declared (file_at files (place_of d).file).profile (read_at reads (place_of d).file).tree (lexemes_of files reads (place_of d).file) (spelled (place_of d).file l) has.b x.0 found.0 x.1 in
           let n = enum_name (place_of d).token has.b.header found.1 in
           let its : n.0 ≡ p.0.name = n.2 p.0.name (subst (λ h. is_enum_at p.0.name h ≡ true) (sym p.2) (eq-eqb p.0.name p.0.name refl)) in
           let token : (place_of d).token ≡ p.0.name = sym n.1 ∙ its in
@@ -430,7 +430,7 @@ module _ (files : List FileOf) (reads : List ReadOf) (r : AreRead files reads) w
 
       -- values of one block of one text are one
       values_one : (k : ℕ) (b : BlockOf) (v u : ValueParts) → Contains (blocks_in (read_at reads k).tree) b → Contains (values_in b.within) v → Contains (values_in b.within) u → text_of files reads (at k v.name) ≡ text_of files reads (at k u.name) → v.name ≡ u.name
-      values_one k b v u cb cv cu same = by b.header (blocks_are_declared (read_at reads k).tree (lexemes_of files reads k) (spelled k (block_inside k b cb)) b cb)
+      values_one k b v u cb cv cu same = by b.header (blocks_are_declared (file_at files k).profile (read_at reads k).tree (lexemes_of files reads k) (spelled k (block_inside k b cb)) b cb)
         where
           l : k < length reads
           l = block_inside k b cb
@@ -517,7 +517,7 @@ module _ (files : List FileOf) (reads : List ReadOf) (r : AreRead files reads) w
           l = block_inside k b cb
 
           option_roles : (o : OptionOf) → Contains f.options o → HasRole (read_at reads k).tree names_option o.name × ValueHasRole (read_at reads k).tree o.name o.value
-          option_roles o co = field_options_have_roles (read_at reads k).tree (lexemes_of files reads k) (spelled k l) b f o cb cf co
+          option_roles o co = field_options_have_roles (file_at files k).profile (read_at reads k).tree (lexemes_of files reads k) (spelled k l) b f o cb cf co
 
           word_role : (o : OptionOf) (w : ℕ) → Contains f.options o → o.value ≡ constant.Word w → HasRole (read_at reads k).tree is_value w × (o.name + 2 ≡ w)
           word_role o w co q = subst (λ v. ValueHasRole (read_at reads k).tree o.name v) q (option_roles o co).1
@@ -528,7 +528,7 @@ module _ (files : List FileOf) (reads : List ReadOf) (r : AreRead files reads) w
               let mine = (word_role o w co q).1 in
               let its = (value_has t.enum (text_of files reads t.token) k l d.b d.f d.o w d.block d.field d.option d.value).1 in
               let one : o.name ≡ d.o.name = omega (arith, mine, its) in
-              let same = options_are_of_one_field (read_at reads k).tree (lexemes_of files reads k) (spelled k l) b d.b f d.f o d.o cb d.block cf d.field co d.option one in
+              let same = options_are_of_one_field (file_at files k).profile (read_at reads k).tree (lexemes_of files reads k) (spelled k l) b d.b f d.f o d.o cb d.block cf d.field co d.option one in
               subst (λ (z : FieldType). means_value t.enum (text_of files reads t.token) (type_meaning files reads k z) (text_of files reads (at k w)) ≡ true) (sym same.kind) d.means
 
 pub tokens_have_roles : AllTokensHaveRoles

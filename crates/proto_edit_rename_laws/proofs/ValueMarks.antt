@@ -1,5 +1,5 @@
 -- A place that wants a value's name is that of an enum's value, in a block of the tree.
-use Rattle.std.proofs.Common.{◌≡◌, ℕ, Bool, true, false, List, [], ◌∷◌, ◌++◌, ◌⊎◌, Option, Some, None, refl, sym, ap, ◌∙◌, inl, inr, arith, Contains}
+use Rattle.std.proofs.Common.{◌≡◌, ℕ, zero, suc, Bool, true, false, List, [], ◌∷◌, ◌++◌, ◌⊎◌, Option, Some, None, refl, sym, ap, ◌∙◌, inl, inr, arith, Contains}
 use Rattle.proto_base.proofs.Common.{Contains-append_left, Contains-append_right, Contains-append_cases, contains_cases, contains_head, contains_later}
 use Rattle.proto_tree.specs.declared.class.Class.{Class}
 use Rattle.proto_tree.specs.declared.class.Class.TheVariants as class
@@ -27,14 +27,21 @@ use Rattle.proto_tree.specs.declared.tree.ReservedList.{ReservedList}
 use Rattle.proto_tree.specs.declared.tree.ReservedList.TheVariants as reserved_list
 use Rattle.proto_tree.specs.declared.tree.Separated.{Separated}
 use Rattle.proto_tree.specs.declared.tree.Setting.{Setting}
+use Rattle.proto_tree.specs.declared.tree.Setting.TheVariants as setting
+use Rattle.proto_tree.specs.declared.tree.Atom.{Atom}
+use Rattle.proto_tree.specs.declared.tree.Atom.TheVariants as atom
+use Rattle.proto_tree.specs.declared.tree.Custom.{Custom}
+use Rattle.proto_tree.specs.declared.tree.CustomValue.{CustomValue}
+use Rattle.proto_tree.specs.declared.tree.CustomValue.TheVariants as custom_value
 use Rattle.proto_tree.specs.declared.tree.Settings.{Settings}
 use Rattle.proto_tree.specs.declared.tree.Signature.{Signature}
 use Rattle.proto_tree.specs.declared.tree.Signed.{Signed}
 use Rattle.proto_tree.specs.declared.tree.UpTo.{UpTo}
 use Rattle.proto_tree.specs.declared.tree.Value.{Value}
-use Rattle.proto_tree.proofs.Common.{IsOuter, Mark, mark, name, one as one_mark, only, text_mark, word, flat_all, flat_behind, flat_constant, flat_field, flat_from, flat_header, flat_map_field, flat_method_type, flat_number, flat_option, flat_range, flat_range_end, flat_reference, flat_reserved, flat_reserved_list, flat_separated, flat_setting, flat_settings, flat_signature, flat_signed, flat_statement, flat_type, flat_up_to, flat_words, Tree, End, Leaf, Block, IsWellFormed, after, allows, flat, header_kind, statement_kind, last_outer}
+use Rattle.proto_tree.proofs.Common.{IsOuter, Mark, mark, name, one as one_mark, only, text_mark, word, flat_all, flat_behind, flat_constant, flat_dotted, flat_field, flat_from, flat_header, flat_map_field, flat_method_type, flat_number, flat_option, flat_range, flat_range_end, flat_reference, flat_reserved, flat_reserved_list, flat_separated, flat_setting, flat_settings, flat_signature, flat_signed, flat_statement, flat_type, flat_up_to, flat_words, Tree, End, Leaf, Block, IsWellFormed, after, allows, flat, header_kind, statement_kind, last_outer}
 use Rattle.proto_ast.specs.Parts.{BlockOf, blocks_in, statement_values, values_in}
 use Rattle.proto_desc_checks_laws.proofs.Outermost.{no_value}
+use Rattle.proto_tree.specs.Flat.{flat_custom, flat_custom_value, flat_extension_name, flat_within, fewer, inner_expected, last_expected, other_expected}
 
 -- ---- marks that want something else
 
@@ -96,8 +103,44 @@ constant_no (constant.Word i) = (refl, tt)
 constant_no (constant.Number n) = signed_no n
 constant_no (constant.Text t) = (refl, all_no text_mark (λ i. (refl, tt)) t.rest)
 
+-- a custom option
+inner_no : (n i : ℕ) → No (only (inner_expected n) i)
+inner_no zero i = (refl, tt)
+inner_no (suc n) i = (refl, tt)
+
+last_no : (n i : ℕ) → No (only (last_expected n) i)
+last_no zero i = (refl, tt)
+last_no (suc n) i = (refl, tt)
+
+other_no : (colon : Bool) (i : ℕ) → No (only (other_expected colon) i)
+other_no true i = (refl, tt)
+other_no false i = (refl, tt)
+
+within_no : (colon : Bool) (n : ℕ) (atoms : List Atom) (j : ℕ) → No (flat_within colon n atoms j)
+within_no colon n [] j = last_no n j
+within_no colon n (atom.Open i ∷ rest) j = (refl, within_no false (suc n) rest j)
+within_no colon n (atom.Close i ∷ rest) j = both (only (inner_expected n) i) (flat_within false (fewer n) rest j) (inner_no n i) (within_no false (fewer n) rest j)
+within_no colon n (atom.Colon i ∷ rest) j = (refl, within_no true n rest j)
+within_no colon n (atom.Word i ∷ rest) j = (refl, within_no false n rest j)
+within_no colon n (atom.Other i ∷ rest) j = both (only (other_expected colon) i) (flat_within false n rest j) (other_no colon i) (within_no false n rest j)
+
+custom_value_no : (v : CustomValue) → No (flat_custom_value v)
+custom_value_no (custom_value.Constant c) = constant_no c
+custom_value_no (custom_value.Aggregate a) = (refl, within_no false 0 a.atoms a.close)
+
+custom_no : (c : Custom) → No (flat_custom c)
+custom_no c =
+    let path : List Mark = flat_all (flat_behind class.Dot (only want.OptionName)) c.path in
+    let value : List Mark = one_mark class.Equals c.equals ++ flat_custom_value c.value in (
+      refl,
+      both (flat_extension_name c.name) (one_mark class.RightParenthesis c.close ++ (path ++ value))
+          (both (flat_option (one_mark class.Dot) c.name.dot) (flat_dotted c.name.words) (option_no (one_mark class.Dot) (one_no class.Dot) c.name.dot) (separated_no class.Dot word (λ i. (refl, tt)) c.name.words))
+          (refl, both path value (all_no (flat_behind class.Dot (only want.OptionName)) (λ b. (refl, (refl, tt))) c.path) (refl, custom_value_no c.value)),
+    )
+
 setting_no : (s : Setting) → No (flat_setting s)
-setting_no s = (refl, (refl, constant_no s.value))
+setting_no (setting.Plain p) = (refl, (refl, constant_no p.value))
+setting_no (setting.Custom c) = custom_no c
 
 settings_no : (s : Settings) → No (flat_settings s)
 settings_no s = (refl, both (flat_separated class.Comma flat_setting s.list) (one_mark class.RightBracket s.close) (separated_no class.Comma flat_setting setting_no s.list) (refl, tt))
@@ -172,7 +215,7 @@ in_statement (statement.Import i) m c e =
 in_statement (statement.Package p) m c e =
     absurd (none_of (flat_statement (statement.Package p)) (refl, both (flat_separated class.Dot name p.name) (one_mark class.Semicolon p.semicolon) (separated_no class.Dot name (λ i. (refl, tt)) p.name) (refl, tt)) m c e)
 in_statement (statement.Option o) m c e =
-    absurd (none_of (flat_statement (statement.Option o)) (refl, (refl, (refl, both (flat_constant o.value) (one_mark class.Semicolon o.semicolon) (constant_no o.value) (refl, tt)))) m c e)
+    absurd (none_of (flat_statement (statement.Option o)) (refl, both (flat_setting o.setting) (one_mark class.Semicolon o.semicolon) (setting_no o.setting) (refl, tt)) m c e)
 in_statement (statement.Field f) m c e = absurd (none_of (flat_statement (statement.Field f)) (field_no f) m c e)
 in_statement (statement.MapField f) m c e = absurd (none_of (flat_statement (statement.MapField f)) (map_field_no f) m c e)
 in_statement (statement.Reserved r) m c e = absurd (none_of (flat_statement (statement.Reserved r)) (reserved_no flat_number (one_no class.Number) r) m c e)

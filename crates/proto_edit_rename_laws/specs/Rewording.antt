@@ -15,11 +15,13 @@ SuitFiles c reads = (k : ℕ)
     → k < length reads
     → Suits (words_of_file c k) (flat (read_at reads k).tree) × PutsWords (words_of_file c k)
 
--- the files with the new words: each has its path, the words changed, and the very same tree
+-- the files with the new words: each has its path and its language, the words changed, and the very
+-- same tree
 pub record AreReworded
     (c : NewWords) (files : List FileOf) (reads : List ReadOf) (after : List FileOf)
     (seen : List ReadOf) : Type 0 where
   pub paths : paths_of after ≡ paths_of files
+  pub profiles : map (λ f. f.profile) after ≡ map (λ f. f.profile) files
   pub trees : map (λ r. r.tree) seen ≡ map (λ r. r.tree) reads
   pub words : (k : ℕ)
       → k < length files

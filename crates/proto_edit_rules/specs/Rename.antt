@@ -289,14 +289,25 @@ ReservesWord files reads a word = (b : BlockOf) × Contains (blocks_in (read_at 
     × HasMember b.within a.token
     × Contains (map (value (scene_of_token files reads a)) (reserved_names_in b.within)) word
 
+-- whether the fields of a block have JSON names: those of a message and of a oneof have, extensions
+-- have none, and no other block has fields
+abbrev pub has_json_names : Header → Bool
+has_json_names (header.Message h) = true
+has_json_names (header.Oneof h) = true
+has_json_names (header.Enum h) = false
+has_json_names (header.Service h) = false
+has_json_names (header.Method s) = false
+has_json_names (header.Extend e) = false
+
 -- a field of a proto3 file without a written JSON name would get that of another field of its
--- message (a file that has no fault has no extension in proto3, so this holds of none)
+-- message
 pub record JsonNameClashes
     (files : List FileOf) (reads : List ReadOf) (a : At) (word : Text) : Type 0 where
   pub b : BlockOf
   pub f : FieldOf
   pub other : FieldOf
   pub field : IsFieldIn files reads a b f
+  pub has_names : has_json_names b.header ≡ true
   pub beside : Contains (fields_in b.within) other
   pub differs : other.name ≢ f.name
   pub proto3 : (scene_of_token files reads a).is_proto3 ≡ true

@@ -4,7 +4,7 @@ use Rattle.proto_text.specs.declared.kind.TokenKind.TheVariants.{Text}
 use Rattle.proto_text.proofs.Common.{QuotedStandsForItself, moved, quoted, Lexeme, lexeme_at, value_of, value_again}
 use Rattle.proto_tree.specs.declared.tree.Import.{Import}
 use Rattle.proto_tree.specs.Tree.{Tree}
-use Rattle.proto_files.proofs.Common.{ReadOf, FileOf, paths_of, IsWorkspacePath}
+use Rattle.proto_files.proofs.Common.{ReadOf, FileOf, paths_of, IsWorkspacePath, file_at}
 use Rattle.proto_names_rules.specs.Faults.{file_with_path}
 use Rattle.proto_names_outline.proofs.Common.{imports_in, move_wanted}
 use Rattle.proto_ast.specs.Scenes.{string_of, value, value_or_none as value_by_kind}
@@ -49,8 +49,8 @@ module _ (laws : Laws) (files : List FileOf) (reads : List ReadOf) (after : List
   string_there : slice_get (lexemes_of after seen place) (p + 1) ≡ Some (token_of_text Text (quoted path))
   string_there =
       let ls = lexemes_of files reads place in
-      let fits = is.within in
-      ap (λ (z : List Lexeme). slice_get z (p + 1)) is.tokens ∙ got_behind (take p ls) (import_tokens path ++ drop p ls) (p + 1) 1 (omega (arith, length-take p ls, fits))
+      let fits = is.1.within in
+      ap (λ (z : List Lexeme). slice_get z (p + 1)) is.1.tokens ∙ got_behind (take p ls) (import_tokens path ++ drop p ls) (p + 1) 1 (omega (arith, length-take p ls, fits))
 
   value_is : value_of (quoted path) ≡ Some path
   value_is = let plain = paths_are_plain path (workspace_path_of files reads file path place may) in value_again (quoted path) path (laws.quoted path plain.0 plain.1).1
@@ -115,6 +115,7 @@ pub additions_are_made : Laws → AdditionsAreMade
 additions_are_made laws files reads file path place may =
     let within = place_within files file place may.at in
     let same = may.faultless.are.read.same in
+    let language = (file_at files place).profile in
     let p = import_place (tree_at reads place) in
     let w = workspace_path_of files reads file path place may in
     let v = laws.changes files reads place path may.faultless.are within w may.short in
@@ -123,9 +124,11 @@ additions_are_made laws files reads file path place may =
     let here : tree_at seen place ≡ v.2 = tree_here files reads place v.0 v.1 v.2 within same in
     let ls : lexemes_of after seen place ≡ map (lexeme_at v.0) v.1 = lexemes_here files reads place v.0 v.1 v.2 within same in
     let c = is_change files reads place v.0 v.1 v.2 within same in
-    let is : IsInserted files reads after seen place p (statement_at p) (import_tokens path) =
-    subst (λ (z : List Lexeme). IsInsertion p (import_tree p) (import_tokens path) (tree_at reads place) (lexemes_of files reads place) (tree_at seen place) z) (sym ls)
-    (subst (λ (u : Tree). IsInsertion p (import_tree p) (import_tokens path) (tree_at reads place) (lexemes_of files reads place) u (map (lexeme_at v.0) v.1)) (sym here) v.3.added.tree) in
+    let is : IsInserted files reads after seen place p (statement_at p) (import_tokens path) = (
+      language,
+      subst (λ (z : List Lexeme). IsInsertion language p (import_tree p) (import_tokens path) (tree_at reads place) (lexemes_of files reads place) (tree_at seen place) z) (sym ls)
+          (subst (λ (u : Tree). IsInsertion language p (import_tree p) (import_tokens path) (tree_at reads place) (lexemes_of files reads place) u (map (lexeme_at v.0) v.1)) (sym here) v.3.added.tree),
+    ) in
     let last : imports_in (tree_at seen place) ≡ map (move_wanted (moved p p 3)) (imports_in (tree_at reads place)) ++ wanted_by (statement_at p) ∷ [] = ap imports_in here ∙ v.3.added.last in (
       after,
       seen,

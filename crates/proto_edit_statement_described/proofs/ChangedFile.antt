@@ -9,6 +9,7 @@ use Rattle.proto_files.proofs.Common.{ReadOf, read_at, FileOf, file_at, paths_of
 use Rattle.proto_edit_statement_described.proofs.Common.{lexemes_of, tree_at}
 use Rattle.proto_edit_statement_laws.specs.OneFile.{with_read, with_text}
 use Rattle.proto_edit_statement_laws.specs.Files.{IsOneFile}
+use Rattle.proto_files.specs.GivenFiles.{no_file}
 
 -- ---- one element of a list
 
@@ -38,6 +39,7 @@ pub record IsChange (files : List FileOf) (reads : List ReadOf) (after : List Fi
   pub files_many : length after ≡ length files
   pub reads_many : length seen ≡ length reads
   pub path : (k : ℕ) → (file_at after k).path ≡ (file_at files k).path
+  pub profile : (k : ℕ) → (file_at after k).profile ≡ (file_at files k).profile
   pub lexemes : (k : ℕ) → k ≢ place → lexemes_of after seen k ≡ lexemes_of files reads k
   pub trees : (k : ℕ) → k ≢ place → tree_at seen k ≡ tree_at reads k
 
@@ -51,16 +53,17 @@ change_back c = record {
   files_many = sym c.files_many;
   reads_many = sym c.reads_many;
   path = λ k. sym (c.path k);
+  profile = λ k. sym (c.profile k);
   lexemes = λ k n. sym (c.lexemes k n);
   trees = λ k n. sym (c.trees k n);
 }
 
 module _ (files : List FileOf) (reads : List ReadOf) (place : ℕ) (result : List ℕ) (after : List Token) (tree : Tree) (within : place < length files) (same : length reads ≡ length files) where
-  file_here : file_at (with_text files place result) place ≡ record { path = (file_at files place).path; bytes = result }
-  file_here = get_or-set_same files place (record { path = (file_at files place).path; bytes = result }) (record { path = []; bytes = [] }) within
+  file_here : file_at (with_text files place result) place ≡ record (file_at files place) { bytes = result }
+  file_here = get_or-set_same files place (record (file_at files place) { bytes = result }) no_file within
 
   file_there : (k : ℕ) → k ≢ place → file_at (with_text files place result) k ≡ file_at files k
-  file_there k n = get_or-set_other files place k (record { path = (file_at files place).path; bytes = result }) (record { path = []; bytes = [] }) n
+  file_there k n = get_or-set_other files place k (record (file_at files place) { bytes = result }) no_file n
 
   read_here : read_at (with_read reads place after tree) place ≡ record { tokens = after; tree = tree }
   read_here = get_or-set_same reads place (record { tokens = after; tree = tree }) (record { tokens = []; tree = End }) (subst (λ (n : ℕ). place < n) (sym same) within)
@@ -86,11 +89,17 @@ module _ (files : List FileOf) (reads : List ReadOf) (place : ℕ) (result : Lis
     | inr n ↦ ap (λ (f : FileOf). f.path) (file_there k n)
   ]
 
+  profile_is : (k : ℕ) → (file_at (with_text files place result) k).profile ≡ (file_at files k).profile
+  profile_is k = elim (cases_eq k place) [
+    | inl e ↦ subst (λ j. (file_at (with_text files place result) j).profile ≡ (file_at files j).profile) (sym e) (ap (λ (f : FileOf). f.profile) file_here)
+    | inr n ↦ ap (λ (f : FileOf). f.profile) (file_there k n)
+  ]
+
   paths_are : paths_of (with_text files place result) ≡ paths_of files
-  paths_are = map-set_same (λ (f : FileOf). f.path) files place (record { path = (file_at files place).path; bytes = result }) (record { path = []; bytes = [] }) refl
+  paths_are = map-set_same (λ (f : FileOf). f.path) files place (record (file_at files place) { bytes = result }) no_file refl
 
   file_count : length (with_text files place result) ≡ length files
-  file_count = length-set files place (record { path = (file_at files place).path; bytes = result })
+  file_count = length-set files place (record (file_at files place) { bytes = result })
 
   read_count : length (with_read reads place after tree) ≡ length reads
   read_count = length-set reads place (record { tokens = after; tree = tree })
@@ -107,6 +116,7 @@ module _ (files : List FileOf) (reads : List ReadOf) (place : ℕ) (result : Lis
         files_many = file_count;
         reads_many = read_count;
         path = path_is;
+        profile = profile_is;
         lexemes = lexemes_there;
         trees = tree_there;
       }

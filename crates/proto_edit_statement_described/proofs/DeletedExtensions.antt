@@ -199,7 +199,7 @@ module _ (files : List FileOf) (reads : List ReadOf) (after : List FileOf) (seen
       (type_stays files reads after seen place g k w r x without is linked (left_at files reads n) (left_at after seen n) (other_left n) (own_left n) s.0 s.1 keeps))
 
   extensions_stay : ExtensionsStay files reads after seen
-  extensions_stay = record { said = said; extendable = extendable }
+  extensions_stay = record { profiles = is.profiles; said = said; extendable = extendable }
 
 pub other_scenes_stay : OtherScenesStay
 other_scenes_stay files reads after seen place g k w r x without is linked same = record {

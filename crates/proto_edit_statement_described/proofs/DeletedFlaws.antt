@@ -8,16 +8,16 @@ use Rattle.proto_tree.specs.declared.piece.Header.TheVariants as header
 use Rattle.proto_tree.specs.declared.piece.Statement.{Statement}
 use Rattle.proto_tree.specs.declared.tree.Range.{Range}
 use Rattle.proto_tree.specs.declared.tree.Field.{Field}
-use Rattle.proto_tree.proofs.Common.{Move, move_header, move_range, move_statement, move_tree, Tree, Block, joined_trees}
+use Rattle.proto_tree.proofs.Common.{Move, move_header, move_range, move_tree, Tree, Block, joined_trees}
 use Rattle.proto_ast.proofs.Common.{is_one_of, BlockOf, FieldOf, blocks_in, closed_ranges, enum_ranges, extension_words, fields_in, options_in, reserved_names, reserved_names_in, statement_options, statement_values, statements, Scene, number_at, text, value}
 use Rattle.proto_ast.specs.declared.options.Element.TheVariants as element
 use Rattle.proto_desc_numbers.specs.declared.flaw.Flaw.{Flaw}
 use Rattle.proto_desc_numbers.specs.declared.numbers.NumberAt.{NumberAt}
 use Rattle.proto_ast.specs.declared.ranges.RangeAt.{RangeAt}
 use Rattle.proto_desc_checks_laws.specs.Deleted.{range_of_one}
-use Rattle.proto_desc_checks.proofs.Common.{field_flaws, option_flaws, allows_alias, block_flaws, first_value_flaws, enum_flaws, extension_flaws, flaws_in_blocks, flaws_of_extension, is_empty, json_clashes, message_flaws, name_flaws, value_option_flaws, with_reserved_name, reserved_again}
+use Rattle.proto_desc_checks.proofs.Common.{bars_extend, field_flaws, option_flaws, allows_alias, block_flaws, first_value_flaws, enum_flaws, extension_flaws, flaws_in_blocks, flaws_of_extension, is_empty, json_clashes, message_flaws, name_flaws, value_option_flaws, with_reserved_name, reserved_again}
 use Rattle.proto_desc_numbers.proofs.Common.{flaw_if, marked, field_number_flaws, broken_ranges, enum_range_of, is_field_number, is_value_number, least_value, most_value, number_of_field, number_of_value, outside, overlaps, range_of, repeated_numbers, reserved_numbers}
-use Rattle.proto_desc_checks_laws.proofs.Common.{IsMoved, reindexed_flaw, statement_ranges_moved, statement_words_moved, maps_kept, maps_moved, move_block_of, move_field_of, move_option_of, statement_names_moved, statement_options_moved, blocks_moved, statements_moved, options_moved, empty_kept, Moves, block_moved, clashes_moved, each, field_moved, field_number_moved, field_numbers_moved, if_moved, move_number_at, move_range_at, names_moved, option_flaws_moved, range_moved}
+use Rattle.proto_desc_checks_laws.proofs.Common.{IsMoved, reindexed_flaw, statement_ranges_moved, statement_words_moved, maps_kept, maps_moved, move_block_of, move_field_of, move_option_of, statement_names_moved, statement_options_moved, blocks_moved, fields_moved, options_moved, empty_kept, Moves, block_moved, clashes_moved, each, field_moved, field_number_moved, field_numbers_moved, if_moved, move_number_at, move_range_at, names_moved, option_flaws_moved, range_moved}
 use Rattle.proto_desc_checks_laws.proofs.DeletedFlaws.{nil_joined, nil_parts, deletions_keep_json_names, deletions_keep_names, deletions_keep_numbers}
 use Rattle.proto_edit_statement_described.specs.Deletions.{Deeper, AtField, AtOneof, BehindBlock, BehindLeaf, Found, FurtherOn, InMessage, IsAmong, IsDeletedIn, IsDeletedRight, PastBlock, PastLeaf, FieldNamesDiffer, DeletionsBringNoFlaw, Reservation, Reserves, WrittenField, written_field, written_name, reserved}
 use Rattle.proto_edit_statement_described.proofs.Parts.{IsWith, named_one, new_fields, no_ranges, no_words, nothing_with, numbered_one, new_read, old_fields, old_read, outer_fields, outer_statements}
@@ -80,11 +80,11 @@ same_enum scene name t v e = ap (λ (ss : List Statement).
 
 same_block : (scene : Scene) (h : Header) (t v : Tree) → statements t ≡ statements v → fields_in t ≡ fields_in v → block_flaws scene h t ≡ block_flaws scene h v
 same_block scene (header.Message h) t v e f = same_message scene t v e f
-same_block scene (header.Oneof h) t v e f = ap (λ (ss : List Statement). flaw_if (is_empty ss) kind.EmptyOneof h.name) e
+same_block scene (header.Oneof h) t v e f = ap (λ (fs : List FieldOf). flaw_if (is_empty fs) kind.EmptyOneof h.name) f
 same_block scene (header.Enum h) t v e f = same_enum scene h.name t v e
 same_block scene (header.Service h) t v e f = ap (λ (ss : List Statement). option_flaws scene element.Service (flat_map statement_options ss)) e
 same_block scene (header.Method h) t v e f = ap (λ (ss : List Statement). option_flaws scene element.Method (flat_map statement_options ss)) e
-same_block scene (header.Extend x) t v e f = ap (λ (fs : List FieldOf). flaw_if scene.is_proto3 kind.NotInProto3 x.keyword ++ (outside is_field_number (map (number_of_field scene) fs) ++ flat_map (flaws_of_extension scene) fs)) f
+same_block scene (header.Extend x) t v e f = ap (λ (fs : List FieldOf). flaw_if (bars_extend scene.profile scene.is_proto3) kind.NotInProto3 x.keyword ++ (outside is_field_number (map (number_of_field scene) fs) ++ flat_map (flaws_of_extension scene) fs)) f
 
 -- ---- names of fields
 
@@ -313,7 +313,7 @@ module _ (g k : Move) (middle old new : Scene) (is_old : IsMoved g middle old) (
   swapped_blocks _ _ _ (AtOneof h fd i x t j rest same some at) e =
       let p = block_parts old (move_header g (header.Oneof h)) (g i) t (g j) (move_tree g rest) e in
       block_whole new (move_header k (header.Oneof h)) (k i) (move_tree k x) (k j) (joined_trees (reserved res) (move_tree k rest))
-      (ap (λ b. flaw_if b kind.EmptyOneof (k h.name)) (ap is_empty (statements_moved k x) ∙ empty_kept (move_statement k) (statements x) ∙ some))
+      (ap (λ b. flaw_if b kind.EmptyOneof (k h.name)) (ap is_empty (fields_moved k 0 x) ∙ empty_kept (move_field_of k) (fields_in x) ∙ some))
       (blocks_over x (ap (flat_map (λ b. block_flaws old b.header b.within)) (sym (among_blocks fd x t at)) ∙ p.1))
       (blocks_over rest p.2)
   swapped_blocks _ _ _ (PastLeaf a x t u sw) e = swapped_blocks x t u sw e

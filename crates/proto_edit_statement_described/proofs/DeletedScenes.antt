@@ -4,7 +4,7 @@ use Rattle.proto_base.proofs.Common.{cases_lt, contains_map, from_map}
 use Rattle.proto_case.specs.Camel.{entry_name}
 use Rattle.proto_text.proofs.Common.{word_at, Lexeme}
 use Rattle.proto_tree.proofs.Common.{Move, Tree, End}
-use Rattle.proto_files.proofs.Common.{ReadOf, FileOf}
+use Rattle.proto_files.proofs.Common.{ReadOf, FileOf, file_at}
 use Rattle.proto_names_rules.proofs.Common.{used_in, joined, IsLinked, Reference, meaning, Used, reference_of, shifted_used, map_agree, map_append, map_map, has_meaning, meant}
 use Rattle.proto_names_outline.specs.FromTree.{file_names}
 use Rattle.proto_names_imports.proofs.Common.{link_skeleton, names_of_files, text_of, used_named, uses_of, use_in}
@@ -81,7 +81,7 @@ module _ (files : List FileOf) (reads : List ReadOf) (after : List FileOf) (seen
   }
 
   abbrev middle : Scene
-  middle = record { lexemes = without; cap = None; is_proto3 = is_proto3_file files reads place; means = map mid_meant (file_names x).used }
+  middle = record { lexemes = without; cap = None; profile = (file_at files place).profile; is_proto3 = is_proto3_file files reads place; means = map mid_meant (file_names x).used }
 
   abbrev meant_in : List FileOf → List ReadOf → ℕ → Used ℕ → MeantOf
   meant_in fs rs file u = meant_as fs rs u.first (meaning_of fs rs file u)
@@ -98,6 +98,7 @@ module _ (files : List FileOf) (reads : List ReadOf) (after : List FileOf) (seen
       let c = cut_map (shifted_used g) (file_names x).used m.front m.back m.was in
       let f : Used ℕ → MeantOf = meant_in files reads place in
       record {
+        profile = refl;
         version = refl;
         caps = refl;
         apart = is.old_apart;
@@ -138,6 +139,7 @@ module _ (files : List FileOf) (reads : List ReadOf) (after : List FileOf) (seen
       let f : Used ℕ → MeantOf = meant_in after seen place in
       let us : List (Used ℕ) = (file_names x).used in
       record {
+        profile = sym (is.profiles place);
         version = sym (same_version files reads after seen place g k w r x without is linked);
         caps = refl;
         apart = is.new_apart;
@@ -173,6 +175,7 @@ module _ (files : List FileOf) (reads : List ReadOf) (after : List FileOf) (seen
       λ i. record {
         lexemes = other_lexemes files reads after seen place g k w r x without is linked j n i;
         cap = None;
+        profile = is.profiles j i;
         is_proto3 = other_version files reads after seen place g k w r x without is linked j n i;
         means = other_means j n i;
       }

@@ -5,7 +5,7 @@ use Rattle.proto_text.proofs.Common.{moved, Lexeme, lexeme_at, value_of, value_a
 use Rattle.proto_tree.specs.declared.piece.Statement.TheVariants as statement
 use Rattle.proto_tree.specs.declared.tree.Import.{Import}
 use Rattle.proto_tree.proofs.Common.{Move, Tree, End, Leaf}
-use Rattle.proto_files.proofs.Common.{ReadOf, FileOf, paths_of}
+use Rattle.proto_files.proofs.Common.{ReadOf, FileOf, paths_of, file_at}
 use Rattle.proto_names_rules.proofs.Common.{file_with_path, at, Reference, Workspace, Follows, follows_first}
 use Rattle.proto_names_outline.proofs.Common.{Wanted, imports_in, move_wanted}
 use Rattle.proto_names_imports.specs.Links.{asked_as, names_of_files, text_of}
@@ -51,7 +51,7 @@ module _ (laws : Laws) (files : List FileOf) (reads : List ReadOf) (after : List
 
   -- the path of an import, as the descriptors have it and as the links have it
   path_of : (w : Wanted) → Contains (imports_in (tree_at reads place)) w → value (scene_at files reads place) w.path ≡ (asked_as (text_of files reads) place w).path
-  path_of w d = path_value (tree_at reads place) (lexemes_of files reads place) w (may.faultless.are.read.trees place may.imports.within).spells d
+  path_of w d = path_value (file_at files place).profile (tree_at reads place) (lexemes_of files reads place) w (may.faultless.are.read.trees place may.imports.within).spells d
 
   says : value (scene_at files reads place) i.path ≡ path
   says = path_of (wanted_by i) imported ∙ ap or_nothing value_is
@@ -134,11 +134,14 @@ drops_are_made laws files reads file path place i may =
     let v = laws.changes files reads place path i may.faultless.are may.imports in
     let after = with_text files place v.0 in
     let seen = with_read reads place v.1 v.2 in
+    let language = (file_at files place).profile in
     let mine : List Lexeme = own (statement.Import i) (lexemes_of files reads place) in
     let c = is_change files reads place v.0 v.1 v.2 within same in
-    let is : IsInserted after seen files reads place i.keyword i mine =
-    subst (λ (z : List Lexeme). IsInsertion i.keyword (Leaf (statement.Import i) End) mine (tree_at seen place) z (tree_at reads place) (lexemes_of files reads place)) (sym (lexemes_here files reads place v.0 v.1 v.2 within same))
-    (subst (λ (u : Tree). IsInsertion i.keyword (Leaf (statement.Import i) End) mine u (map (lexeme_at v.0) v.1) (tree_at reads place) (lexemes_of files reads place)) (sym (tree_here files reads place v.0 v.1 v.2 within same)) v.3.dropped.tree) in (
+    let is : IsInserted after seen files reads place i.keyword i mine = (
+      language,
+      subst (λ (z : List Lexeme). IsInsertion language i.keyword (Leaf (statement.Import i) End) mine (tree_at seen place) z (tree_at reads place) (lexemes_of files reads place)) (sym (lexemes_here files reads place v.0 v.1 v.2 within same))
+          (subst (λ (u : Tree). IsInsertion language i.keyword (Leaf (statement.Import i) End) mine u (map (lexeme_at v.0) v.1) (tree_at reads place) (lexemes_of files reads place)) (sym (tree_here files reads place v.0 v.1 v.2 within same)) v.3.dropped.tree),
+    ) in (
       after,
       seen,
       record {

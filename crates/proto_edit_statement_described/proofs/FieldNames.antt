@@ -4,7 +4,7 @@ use Rattle.proto_base.proofs.Common.{map-append, contains_cases, contains_map}
 use Rattle.proto_case.specs.Camel.{entry_name}
 use Rattle.proto_tree.specs.declared.piece.Header.TheVariants as header
 use Rattle.proto_tree.specs.Tree.{Tree}
-use Rattle.proto_files.proofs.Common.{AreRead, ReadOf, read_at, FileOf}
+use Rattle.proto_files.proofs.Common.{AreRead, ReadOf, read_at, FileOf, file_at}
 use Rattle.proto_names_rules.specs.declared.kind.Kind.TheVariants as kind
 use Rattle.proto_names_rules.proofs.Common.{At, at, all_declared, AreApart, IsLinked, Declared, Source, Token, name_of, shifted_source, spell, symbol_of, file_placed, place, FileAt, declared_to, declares, snoc_parts}
 use Rattle.proto_names_outline.specs.FromTree.{items_in}
@@ -100,5 +100,5 @@ pub field_names_differ : (files : List FileOf) (reads : List ReadOf) → AreRead
 field_names_differ files reads are linked file l b h f g cb is cf cg apart =
     let tree : Tree = (read_at reads file).tree in
     let declared : IsDeclared (file_placed (items_in tree)) (header.Message h) b.within =
-    subst (λ hd. IsDeclared (file_placed (items_in tree)) hd b.within) is (blocks_are_declared tree (lexemes_of files reads file) (are.trees file l).spells b cb) in
+    subst (λ hd. IsDeclared (file_placed (items_in tree)) hd b.within) is (blocks_are_declared (file_at files file).profile tree (lexemes_of files reads file) (are.trees file l).spells b cb) in
     differ files reads are linked file l (declared.0 ++ Token h.name ∷ []) f.name g.name (declared.2 f cf).0 (declared.2 g cg).0 apart

@@ -114,7 +114,7 @@ module _ (files : List FileOf) (reads : List ReadOf) (read : AreRead files reads
   stands_for : (path : List ℕ) (i : Import) → StandsIn (statement.Import i) (tree_at reads place) → (asked_as (text_of files reads) place (wanted_by i)).path ≡ path → StandsFor (word_of_token files reads place i.path) path
   stands_for path i h e =
       let word : List ℕ = word_of_token files reads place i.path in
-      let string = imports_are_strings (file_at files place).bytes (read_at reads place).tokens (tree_at reads place) (read.trees place within) (wanted_by i) (stands_imported i (tree_at reads place) h) in
+      let string = imports_are_strings (file_at files place).profile (file_at files place).bytes (read_at reads place).tokens (tree_at reads place) (read.trees place within) (wanted_by i) (stands_imported i (tree_at reads place) h) in
       let v = strings_have_values word string in
       subst (StandsFor word) (sym (ap or_nothing (value_again word v.0 v.1)) ∙ e) v.1
 

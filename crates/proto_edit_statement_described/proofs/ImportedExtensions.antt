@@ -78,8 +78,8 @@ module _ (files : List FileOf) (reads : List ReadOf) (after : List FileOf) (seen
       (named_stays files reads after seen place g h (left_at files reads n) (left_at after seen n) (each_moved place g (left_at files reads n) (left_at after seen n) (left_here n) (other_left n)) e.extendee)
 
   pub extensions_stay : ExtensionsStay files reads after seen
-  extensions_stay = record { said = said; extendable = λ k e c. extendable e }
+  extensions_stay = record { profiles = h.profiles; said = said; extendable = λ k e c. extendable e }
 
   -- and so it is read backwards
   pub extensions_stayed : ExtensionsStay after seen files reads
-  extensions_stayed = record { said = λ k. sym (said k); extendable = λ k e c. sym (extendable e) }
+  extensions_stayed = record { profiles = λ k. sym (h.profiles k); said = λ k. sym (said k); extendable = λ k e c. sym (extendable e) }

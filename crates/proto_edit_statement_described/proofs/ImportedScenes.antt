@@ -22,7 +22,7 @@ module _ (files : List FileOf) (reads : List ReadOf) (after : List FileOf) (seen
   -- ---- other files
 
   pub is_left : (k : ℕ) → k ≢ place → IsLeft files reads after seen k
-  is_left k n = record { lexemes = h.others k n; tree = h.trees k n; enums = λ u c m e. enums_stay files reads after seen place g h m }
+  is_left k n = record { profile = h.profiles k; lexemes = h.others k n; tree = h.trees k n; enums = λ u c m e. enums_stay files reads after seen place g h m }
 
   pub scene_there : (k : ℕ) → k ≢ place → scene_at after seen k ≡ scene_at files reads k
   scene_there k n = other_scenes_stay files reads after seen k means (is_left k n)
@@ -49,6 +49,7 @@ module _ (files : List FileOf) (reads : List ReadOf) (after : List FileOf) (seen
 
   has_tokens : HasTokens g (scene_at files reads place) (scene_at after seen place)
   has_tokens = record {
+    profile = sym (h.profiles place);
     version = sym (version_own files reads after seen place g h);
     caps = refl;
     apart = h.apart;

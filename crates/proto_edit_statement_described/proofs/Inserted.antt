@@ -17,6 +17,7 @@ use Rattle.proto_edit_statement_described.proofs.Apart.{imports_are_apart}
 use Rattle.proto_edit_statement_described.proofs.ChangedFile.{IsChange}
 use Rattle.proto_edit_statement_described.proofs.MovedNames.{names_move}
 use Rattle.proto_edit_statement_described.proofs.MovedTexts.{other_text, own_text}
+use Rattle.proto_base.specs.declared.profile.Profile.{Profile}
 
 -- the import of a statement
 abbrev pub wanted_by : Import → Wanted
@@ -24,29 +25,30 @@ wanted_by i = record { path = i.path; is_public = is_some i.public }
 
 -- The import is put in at a token of the file at this place.
 abbrev pub IsInserted : List FileOf → List ReadOf → List FileOf → List ReadOf → ℕ → ℕ → Import → List Lexeme → Type 0
-IsInserted files reads after seen place token i more = IsInsertion token (Leaf (statement.Import i) End) more (tree_at reads place) (lexemes_of files reads place) (tree_at seen place) (lexemes_of after seen place)
+IsInserted files reads after seen place token i more = (profile : Profile) × IsInsertion profile token (Leaf (statement.Import i) End) more (tree_at reads place) (lexemes_of files reads place) (tree_at seen place) (lexemes_of after seen place)
 
 module _ (files : List FileOf) (reads : List ReadOf) (after : List FileOf) (seen : List ReadOf) (place token : ℕ) (i : Import) (more : List Lexeme) (c : IsChange files reads after seen place) (is : IsInserted files reads after seen place token i more) where
   pub are_moved : LexemesAreMoved → AreMoved files reads after seen place (moved token token (length more))
   are_moved law = record {
+    profiles = c.profile;
     apart = others_keep_apart token (length more);
-    own = λ k. ap (λ (ls : List Lexeme). slice_get ls (moved token token (length more) k)) is.tokens ∙ law (lexemes_of files reads place) more token token k (omega arith) is.within (cases_lt k token);
+    own = λ k. ap (λ (ls : List Lexeme). slice_get ls (moved token token (length more) k)) is.1.tokens ∙ law (lexemes_of files reads place) more token token k (omega arith) is.1.within (cases_lt k token);
     others = c.lexemes;
     count = c.reads_many;
-    tree = imports_are_apart (moved token token (length more)) i (tree_at reads place) (tree_at seen place) is.tree;
+    tree = imports_are_apart (moved token token (length more)) i (tree_at reads place) (tree_at seen place) is.1.tree;
     trees = c.trees;
   }
 
   -- the trees, as the descriptors have them
   pub has_import : HasImport (moved token token (length more)) (wanted_by i) (tree_at reads place) (tree_at seen place)
   has_import =
-      let h = imports_come_in (moved token token (length more)) i (tree_at reads place) (tree_at seen place) is.tree in
+      let h = imports_come_in (moved token token (length more)) i (tree_at reads place) (tree_at seen place) is.1.tree in
       record {
         front = h.front;
         back = h.back;
         was = h.was;
         is = h.is;
-        others = imports_are_apart (moved token token (length more)) i (tree_at reads place) (tree_at seen place) is.tree;
+        others = imports_are_apart (moved token token (length more)) i (tree_at reads place) (tree_at seen place) is.1.tree;
       }
 
   -- and as the names have them

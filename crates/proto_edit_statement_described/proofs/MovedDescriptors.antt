@@ -21,7 +21,7 @@ use Rattle.proto_names_rules.proofs.Common.{joined, key_word, package_of, value_
 use Rattle.proto_ast.proofs.Common.{is_named, text_of_constant, text_option, truth_named, truth_option, value_named, word_of, word_option, FieldOf, OptionOf, enum_ranges, extension_ranges, fields_in, options_in, reserved_names_in, reserved_ranges, settings_of, statements, values_in, MeantOf, Scene, meant_by, text, value, has_label}
 use Rattle.proto_desc_checks_laws.proofs.Common.{IsMoved, without_imports, enum_ranges_moved, extension_ranges_moved, fields_moved, file_options_moved, find_moved, flat_kept, given_moved, maps_kept, move_field_of, move_option_of, options_moved, reserved_names_moved, reserved_ranges_moved, settings_moved, some_kept, values_moved, enum_range_moved, json_name_moved, label_moved, named_moved, number_moved, range_moved, signed_moved, text_moved, word_moved}
 use Rattle.proto_desc_numbers.specs.NumberFlaws.{enum_range_of, range_of}
-use Rattle.proto_desc_build.specs.Described.{absolute, below, default_number, default_text, entry_described, entry_field, enum_described, enums_described, extension_described, extensions_described, field_described, field_with, field_number, field_type_name, field_type_of, file_described, file_options, is_map, label_of, message_described, messages_described, method_described, methods_described, mode_named, level_named, number_range, oneof_names, package_named, package_prefix, public_places, scalar_type, service_described, services_described, type_name_of, type_of, type_text, value_described, value_number, value_range}
+use Rattle.proto_desc_build.specs.Described.{absolute, below, c_type_named, default_number, default_text, entry_described, entry_field, enum_described, enums_described, extension_described, extensions_described, field_described, field_with, field_number, field_type_name, field_type_of, file_described, file_options, is_map, label_of, message_described, messages_described, method_described, methods_described, mode_named, level_named, number_range, oneof_names, package_named, package_prefix, public_places, scalar_type, service_described, services_described, type_name_of, type_of, type_text, value_described, value_number, value_range}
 use Rattle.proto_descriptors.specs.declared.field.FieldType.{FieldType}
 use Rattle.proto_descriptors.specs.declared.field.FieldType.TheVariants as field_type
 use Rattle.proto_descriptors.specs.declared.field.Label.TheVariants as label
@@ -125,7 +125,11 @@ module _ (g : Move) (a b : Scene) (all : IsMovedScene g a b) where
     oneof_index = f.oneof;
     json_name = names i;
     proto3_optional = version i && has_moved (codes "optional") f i;
-    options = record { packed = truths (codes "packed") f.options i; deprecated = truths (codes "deprecated") f.options i };
+    options = record {
+      ctype = option_map c_type_named (words (codes "ctype") f.options i);
+      packed = truths (codes "packed") f.options i;
+      deprecated = truths (codes "deprecated") f.options i;
+    };
   }
     where
       types : field_type_of b (move_field_of g f) ≡ field_type_of a f
@@ -331,6 +335,9 @@ options_same g a b all os ps e = λ i. record {
   objc_class_prefix = said (codes "objc_class_prefix") i;
   csharp_namespace = said (codes "csharp_namespace") i;
   php_namespace = said (codes "php_namespace") i;
+  java_generate_equals_and_hash = held (codes "java_generate_equals_and_hash") i;
+  java_generic_services = held (codes "java_generic_services") i;
+  ruby_package = said (codes "ruby_package") i;
 }
   where
     said : (n : List ℕ) → text_option (text b) (value b) n ps ≡ text_option (text a) (value a) n os

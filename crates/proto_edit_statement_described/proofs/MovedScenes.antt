@@ -79,6 +79,7 @@ module _ (g : Move) (a b : Scene) (h : HasTokens g a b) where
 pub scenes_are_moved : ScenesAreMoved
 scenes_are_moved g a b h = record {
   same = record {
+    profile = h.profile;
     version = h.version;
     caps = h.caps;
     texts = λ t. word_by b.lexemes (g t) ∙ ap text_in (h.stays t) ∙ sym (word_by a.lexemes t);

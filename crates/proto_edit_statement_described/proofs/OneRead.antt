@@ -7,16 +7,17 @@ use Rattle.proto_tree.specs.Tree.{Tree, End}
 use Rattle.proto_files.proofs.Common.{ReadOf, read_at, FileOf, file_at, paths_of}
 use Rattle.proto_edit_statement_laws.specs.OneFile.{with_read, with_text}
 use Rattle.proto_edit_statement_laws.proofs.LexemesMoved.{got_behind as past}
+use Rattle.proto_files.specs.GivenFiles.{no_file}
 
 module _ (files : List FileOf) (reads : List ReadOf) (place : ℕ) (result : List ℕ) (after : List Token) (tree : Tree) where
   pub many : length (with_text files place result) ≡ length files
-  many = length-set files place (record { path = (file_at files place).path; bytes = result })
+  many = length-set files place (record (file_at files place) { bytes = result })
 
-  pub here : place < length files → file_at (with_text files place result) place ≡ (let f : FileOf = record { path = (file_at files place).path; bytes = result } in f)
-  here l = get_or-set_same files place (record { path = (file_at files place).path; bytes = result }) (record { path = []; bytes = [] }) l
+  pub here : place < length files → file_at (with_text files place result) place ≡ (let f : FileOf = record (file_at files place) { bytes = result } in f)
+  here l = get_or-set_same files place (record (file_at files place) { bytes = result }) no_file l
 
   pub other : (k : ℕ) → k ≢ place → file_at (with_text files place result) k ≡ file_at files k
-  other k apart = get_or-set_other files place k (record { path = (file_at files place).path; bytes = result }) (record { path = []; bytes = [] }) apart
+  other k apart = get_or-set_other files place k (record (file_at files place) { bytes = result }) no_file apart
 
   pub read_here : place < length reads → read_at (with_read reads place after tree) place ≡ (let r : ReadOf = record { tokens = after; tree = tree } in r)
   read_here l = get_or-set_same reads place (record { tokens = after; tree = tree }) (record { tokens = []; tree = End }) l
@@ -30,14 +31,20 @@ module _ (files : List FileOf) (reads : List ReadOf) (place : ℕ) (result : Lis
     | inr n ↦ ap (λ (f : FileOf). f.path) (other k n)
   ]
 
+  pub same_profile : place < length files → (k : ℕ) → (file_at (with_text files place result) k).profile ≡ (file_at files k).profile
+  same_profile l k = elim (cases_eq k place) [
+    | inl e ↦ subst (λ m. (file_at (with_text files place result) m).profile ≡ (file_at files m).profile) (sym e) (ap (λ (f : FileOf). f.profile) (here l))
+    | inr n ↦ ap (λ (f : FileOf). f.profile) (other k n)
+  ]
+
 -- no path changes
 pub paths_stay : (files : List FileOf) (place : ℕ) (result : List ℕ) → paths_of (with_text files place result) ≡ paths_of files
-paths_stay files place result = go files place (file_at files place).path (λ l. refl)
+paths_stay files place result = go files place (record (file_at files place) { bytes = result }) (λ l. refl)
   where
-    go : (fs : List FileOf) (n : ℕ) (path : List ℕ) → (n < length fs → (file_at fs n).path ≡ path) → map (λ (f : FileOf). f.path) (slice_set fs n (record { path = path; bytes = result })) ≡ map (λ (f : FileOf). f.path) fs
-    go [] n path e = refl
-    go (f ∷ fs) zero path e = ap (λ (p : List ℕ). p ∷ map (λ (f : FileOf). f.path) fs) (sym (e (omega arith)))
-    go (f ∷ fs) (suc n) path e = ap (λ (ps : List (List ℕ)). f.path ∷ ps) (go fs n path (λ l. e (omega (arith, l))))
+    go : (fs : List FileOf) (n : ℕ) (g : FileOf) → (n < length fs → (file_at fs n).path ≡ g.path) → map (λ (f : FileOf). f.path) (slice_set fs n g) ≡ map (λ (f : FileOf). f.path) fs
+    go [] n g e = refl
+    go (f ∷ fs) zero g e = ap (λ (p : List ℕ). p ∷ map (λ (f : FileOf). f.path) fs) (sym (e (omega arith)))
+    go (f ∷ fs) (suc n) g e = ap (λ (ps : List (List ℕ)). f.path ∷ ps) (go fs n g (λ l. e (omega (arith, l))))
 
 -- a list around one of its places
 pub record IsAround {A : Type 0} (xs : List A) (n : ℕ) (x y : A) : Type 0 where

@@ -4,7 +4,8 @@ use Rattle.proto_base.proofs.Common.{Contains-append_left, Contains-append_right
 use Rattle.proto_case.specs.Camel.{entry_name}
 use Rattle.proto_text.proofs.Common.{word_at, Lexeme}
 use Rattle.proto_tree.specs.Tree.{Tree}
-use Rattle.proto_files.proofs.Common.{ReadOf, read_at, FileOf}
+use Rattle.proto_base.specs.declared.profile.Profile.{Profile}
+use Rattle.proto_files.proofs.Common.{ReadOf, read_at, FileOf, file_at}
 use Rattle.proto_names_rules.proofs.Common.{At, all_used, at, file_used, used_in, joined, Reference, meaning, EntryOf, Given, Source, Token, Used, name_of, reference_of, shifted_source, spell, map_agree, map_map}
 use Rattle.proto_names_outline.specs.FromTree.{file_names}
 use Rattle.proto_names_imports.specs.Links.{link_skeleton, names_in, names_of_files, text_of, used_named, uses_of}
@@ -54,8 +55,8 @@ use_stays k was now e u =
 
 -- ---- the scene
 
-abbrev scene : List Lexeme → Bool → List MeantOf → Scene
-scene lexemes proto3 means = record { lexemes = lexemes; cap = None; is_proto3 = proto3; means = means }
+abbrev scene : Profile → List Lexeme → Bool → List MeantOf → Scene
+scene profile lexemes proto3 means = record { lexemes = lexemes; cap = None; profile = profile; is_proto3 = proto3; means = means }
 
 module _ (files : List FileOf) (reads : List ReadOf) (after : List FileOf) (seen : List ReadOf) where
   -- a reference that means the same name, with the same enum
@@ -83,8 +84,8 @@ module _ (files : List FileOf) (reads : List ReadOf) (after : List FileOf) (seen
 
     scene_stays : scene_at after seen k ≡ scene_at files reads k
     scene_stays =
-        ap (λ (ls : List Lexeme). scene ls (is_proto3 (λ i. string_of (slice_get (lexemes_of after seen k) i)) (read_at seen k).tree) (means_of after seen k)) h.lexemes
-        ∙ ap₂ (λ (b : Bool) (ms : List MeantOf). scene (lexemes_of files reads k) b ms) version_stays means_stay
+        ap₂ (λ (p : Profile) (ls : List Lexeme). scene p ls (is_proto3 (λ i. string_of (slice_get (lexemes_of after seen k) i)) (read_at seen k).tree) (means_of after seen k)) h.profile h.lexemes
+        ∙ ap₂ (λ (b : Bool) (ms : List MeantOf). scene (file_at files k).profile (lexemes_of files reads k) b ms) version_stays means_stay
 
 pub other_scenes_stay : OtherScenesReadTheSame
 other_scenes_stay files reads after seen k means h = scene_stays files reads after seen k means h

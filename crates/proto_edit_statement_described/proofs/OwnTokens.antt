@@ -9,12 +9,13 @@ use Rattle.proto_tree.specs.declared.piece.Statement.{Statement}
 use Rattle.proto_tree.specs.declared.tree.FieldType.{FieldType}
 use Rattle.proto_tree.specs.declared.tree.FieldType.TheVariants as field_type
 use Rattle.proto_tree.specs.declared.tree.Separated.{Separated}
-use Rattle.proto_tree.proofs.Common.{Mark, flat_all, flat_behind, flat_dotted, flat_option, flat_settings, flat_statement, flat_type, flat_words, mark, one, only, word, Reads, first_of, Tree, numbered_at, trees_are_numbered}
+use Rattle.proto_tree.proofs.Common.{Mark, flat_all, flat_behind, flat_dotted, flat_option, flat_settings, flat_statement, flat_type, flat_words, mark, one, only, word, ReadsIn, first_of, Tree, numbered_at, trees_are_numbered_in}
 use Rattle.proto_names_rules.specs.Skeleton.{Source, Used}
 use Rattle.proto_names_outline.specs.FromTree.{statement_uses, type_uses, used_as}
 use Rattle.proto_edit_statement_laws.proofs.Common.{IsFieldOf, StandsAt, InMessage, InOneof, Deeper, PastLeaf, PastBlock, first_token, next_token, own, reservation_place, found, some_marks, name_mark, before_field, closed, close_at, through}
 use Rattle.proto_edit_statement_described.proofs.Common.{OfMap, Plain, WrittenField, written_name, written_number, statement_of, new_tokens_are_own}
 use Rattle.proto_edit_statement_described.specs.Trees.{to_old}
+use Rattle.proto_base.specs.declared.profile.Profile.{Profile}
 
 -- ---- something stands before the statement
 
@@ -59,11 +60,11 @@ use_mark scope (OfMap f) u c =
 
 -- ---- where they stand
 
-module _ (text : List ℕ) (tokens : List Token) (t : Tree) (w : WrittenField) (o : Option ℕ) (reads : Reads text tokens t) (stands : StandsAt (statement_of w) o t) where
+module _ (profile : Profile) (text : List ℕ) (tokens : List Token) (t : Tree) (w : WrittenField) (o : Option ℕ) (reads : ReadsIn profile text tokens t) (stands : StandsAt (statement_of w) o t) where
   own_long : length (own (statement_of w) (map (lexeme_at text) tokens)) ≡ length (flat_statement (statement_of w))
   own_long =
       let s : Statement = statement_of w in
-      let fd = found text tokens t s reads stands in
+      let fd = found profile text tokens t s reads stands in
       let next = fd.next in
       let inside = fd.within in
       let whole : List Lexeme = map (lexeme_at text) tokens in
@@ -73,7 +74,7 @@ module _ (text : List ℕ) (tokens : List Token) (t : Tree) (w : WrittenField) (
   mark_apart : (i : ℕ) → HasMark (flat_statement (statement_of w)) i → (j : ℕ) → to_old text tokens (statement_of w) j ≢ i
   mark_apart i m j e =
       let s : Statement = statement_of w in
-      let fd = found text tokens t s reads stands in
+      let fd = found profile text tokens t s reads stands in
       let at = numbered_at (first_token s) (flat_statement s) m.0 fd.marks m.1 in
       let below = m.1.1 in
       let is = m.2 in
@@ -88,24 +89,24 @@ module _ (text : List ℕ) (tokens : List Token) (t : Tree) (w : WrittenField) (
 
   pub first_stays : 0 < first_token (statement_of w)
   first_stays =
-      let fd = found text tokens t (statement_of w) reads stands in
+      let fd = found profile text tokens t (statement_of w) reads stands in
       let at = fd.at in
       let some = some_before t stands in
       omega (arith, at, some)
 
 -- the reservation is not put in first either
-pub reserved_behind : (text : List ℕ) (tokens : List Token) (t : Tree) (s : Statement) (o : Option ℕ) → Reads text tokens t → (h : StandsAt s o t) → 0 < reservation_place s o
-reserved_behind text tokens t s None reads h =
-    let fd = found text tokens t s reads h in
+pub reserved_behind : (profile : Profile) (text : List ℕ) (tokens : List Token) (t : Tree) (s : Statement) (o : Option ℕ) → ReadsIn profile text tokens t → (h : StandsAt s o t) → 0 < reservation_place s o
+reserved_behind profile text tokens t s None reads h =
+    let fd = found profile text tokens t s reads h in
     let at = fd.at in
     let some = some_before t h in
     omega (arith, at, some)
-reserved_behind text tokens t s (Some close) reads h =
-    let fd = found text tokens t s reads h in
+reserved_behind profile text tokens t s (Some close) reads h =
+    let fd = found profile text tokens t s reads h in
     let at = fd.at in
     let next = fd.next in
     let some = some_before t h in
     let c = closed t h in
     let less = c.1 in
-    let closes : suc close ≡ through h = close_at t close (through h) (trees_are_numbered t (map (lexeme_at text) tokens) reads.spells) c.0 in
+    let closes : suc close ≡ through h = close_at t close (through h) (trees_are_numbered_in profile t (map (lexeme_at text) tokens) reads.spells) c.0 in
     omega (arith, at, next, some, less, closes)

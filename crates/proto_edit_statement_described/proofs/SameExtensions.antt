@@ -3,12 +3,14 @@ use Rattle.std.proofs.Common.{◌≡◌, ℕ, zero, suc, Bool, not, ◌&&◌, Li
 use Rattle.proto_base.proofs.Common.{contains_head, contains_later, length-map, list_any, map-append}
 use Rattle.proto_base.specs.declared.fault.FaultKind.{FaultKind}
 use Rattle.proto_base.specs.declared.fault.FaultKind.TheVariants as kind
-use Rattle.proto_files.proofs.Common.{FileOf, ReadOf}
+use Rattle.proto_base.specs.declared.profile.Profile.{Profile}
+use Rattle.proto_base.specs.declared.profile.Profile.TheVariants as language
+use Rattle.proto_files.proofs.Common.{FileOf, ReadOf, file_at}
 use Rattle.proto_names_rules.specs.Names.{same_name}
 use Rattle.proto_desc_numbers.proofs.Common.{earlier, flaw_if, is_inside, marked}
 use Rattle.proto_desc_checks_laws.proofs.Common.{any_kept}
 use Rattle.proto_desc_checks_laws.proofs.DeletedFlaws.{nil_joined, nil_parts}
-use Rattle.proto_desc_extensions.specs.Extensions.{ExtensionOf, are_same, extensions_before, extensions_in, is_extendable, not_extendable, ranges_named, repeated_extensions, workspace_flaws}
+use Rattle.proto_desc_extensions.specs.Extensions.{ExtensionOf, are_same, extensions_before, extensions_in, is_extendable, not_extendable, ranges_named, repeated_extensions, taken_before, workspace_flaws}
 use Rattle.proto_edit_statement_described.specs.Extensions.{ExtensionsStay, Saying, saying_of}
 use Rattle.proto_edit_statement_described.proofs.DeletedFlaws.{no_flaw}
 
@@ -64,16 +66,25 @@ module _ (files : List FileOf) (reads : List ReadOf) (after : List FileOf) (seen
       ∙ ap₂ (λ (y z : List Saying). y ++ z) (said_before k) (stay.said k)
       ∙ sym (map-append saying_of (extensions_before None files reads k) (extensions_in None files reads k))
 
+  said_taken : (k : ℕ) → map saying_of (taken_before (file_at after k).profile (extensions_before None after seen k)) ≡ map saying_of (taken_before (file_at files k).profile (extensions_before None files reads k))
+  said_taken k =
+      ap (λ (p : Profile). map saying_of (taken_before p (extensions_before None after seen k))) (stay.profiles k)
+      ∙ by (file_at files k).profile
+    where
+      by : (p : Profile) → map saying_of (taken_before p (extensions_before None after seen k)) ≡ map saying_of (taken_before p (extensions_before None files reads k))
+      by language.Core = said_before k
+      by language.AsWritten = refl
+
   pub no_flaw_of_extensions : (k : ℕ) → workspace_flaws None files reads k ≡ [] → workspace_flaws None after seen k ≡ []
   no_flaw_of_extensions k n =
       let old : List ExtensionOf = extensions_in None files reads k in
       let new : List ExtensionOf = extensions_in None after seen k in
-      let was : List ExtensionOf = extensions_before None files reads k in
-      let before : List ExtensionOf = extensions_before None after seen k in
+      let was : List ExtensionOf = taken_before (file_at files k).profile (extensions_before None files reads k) in
+      let before : List ExtensionOf = taken_before (file_at after k).profile (extensions_before None after seen k) in
       let tokens : List ExtensionOf → List ℕ = map (λ (e : ExtensionOf). e.number.token) in
       let p = nil_parts (not_extendable None files reads old) (repeated_extensions was old) n in
       let flags : earlier are_same before new ≡ earlier are_same was old =
-      earlier_says before new ∙ ap₂ (earlier alike) (said_before k) (stay.said k) ∙ sym (earlier_says was old) in
+      earlier_says before new ∙ ap₂ (earlier alike) (said_taken k) (stay.said k) ∙ sym (earlier_says was old) in
       let many : length (tokens new) ≡ length (tokens old) =
       length-map new (λ (e : ExtensionOf). e.number.token) ∙ sym (length-map new saying_of) ∙ ap length (stay.said k) ∙ length-map old saying_of ∙ sym (length-map old (λ (e : ExtensionOf). e.number.token)) in
       nil_joined (not_extendable None after seen new) (repeated_extensions before new)

@@ -15,8 +15,8 @@ use Rattle.proto_tree.specs.declared.piece.Statement.{Statement}
 use Rattle.proto_tree.specs.declared.piece.Statement.TheVariants as statement
 use Rattle.proto_tree.specs.declared.tree.Field.{Field}
 use Rattle.proto_tree.specs.declared.tree.MapField.{MapField}
-use Rattle.proto_tree.proofs.Common.{Fit, one, flat_header, flat_statement, Move, move_header, move_heading, move_statement, move_tree, Reads, Tree, End, Leaf, Block, flat, statement_kind, header_kind, allows, after, IsWellFormed, joined_trees, Spells, classes, one_tree, trees_are_numbered, header_kind_moved, kind_moved}
-use Rattle.proto_ast.specs.Parts.{BlockOf, FieldOf, blocks_in, fields_in, statements}
+use Rattle.proto_tree.proofs.Common.{Fit, one, flat_header, flat_statement, Move, move_header, move_heading, move_statement, move_tree, ReadsIn, Tree, End, Leaf, Block, flat, statement_kind, header_kind, allows, after, IsWellFormed, joined_trees, Spells, classes_in, one_tree, trees_are_numbered_in, header_kind_moved, kind_moved}
+use Rattle.proto_ast.specs.Parts.{BlockOf, FieldOf, blocks_in, fields_in}
 use Rattle.proto_desc_checks.specs.FileFlaws.{is_empty}
 use Rattle.proto_edit_statement_laws.proofs.Common.{StandsAt, InMessage as StandsInMessage, InOneof as StandsInOneof, Deeper as StandsDeeper, PastLeaf as StandsPastLeaf, PastBlock as StandsPastBlock, StandsIn, First, AfterLeaf, AfterBlock, first_token, next_token, own, reservation_place, without, IsExchanged, Here, Later, Inside, Behind, before, MovesBy, reservation, reservation_tokens, around, cut_around, statements_are_exchanged, found, moved_moves_by, moves_in, reservation_fits, before_field, before_it, block_long, closed, close_at, leaf_long, through, through_message}
 use Rattle.proto_edit_statement_laws.proofs.Reversed.{statement_long, tree_long}
@@ -24,6 +24,8 @@ use Rattle.proto_edit_statement_laws.proofs.Deletions.{in_parts}
 use Rattle.proto_edit_statement_laws.proofs.TakenOut.{exchanged_long}
 use Rattle.proto_edit_statement_described.specs.Deletions.{AtField, AtOneof, BehindBlock, BehindLeaf, Deeper, Found, FurtherOn, InMessage, IsAmong, IsDeletedIn, IsDeletedRight, OfMap, PastBlock, PastLeaf, Plain, Reservation, WrittenField, written_name, reserved, statement_of}
 use Rattle.proto_edit_statement_described.specs.Trees.{HasFellows, TreesAreDeleted, reservation_at, to_new, to_old}
+use Rattle.proto_desc_checks_laws.proofs.MovedParts.{empty_kept, fields_moved, move_field_of}
+use Rattle.proto_base.specs.declared.profile.Profile.{Profile}
 
 -- ---- contexts
 
@@ -75,7 +77,7 @@ may_stand (OfMap f) = refl
 module _ (d g : Move) where
   record InFellows (w : WrittenField) (f : Field) (t : Tree) (n : ℕ) : Type 0 where
     x : Tree
-    some : (map (λ (y : FieldOf). y.name) (fields_in t) ≡ f.name ∷ [] → ⊥) → is_empty (statements x) ≡ false
+    some : (map (λ (y : FieldOf). y.name) (fields_in t) ≡ f.name ∷ [] → ⊥) → is_empty (fields_in x) ≡ false
     taken : IsExchanged d (Leaf (statement_of w) End) End context.Oneof t x
     taken_at : before taken ≡ n
     old : Tree
@@ -83,15 +85,24 @@ module _ (d g : Move) where
     back_at : before back ≡ n
     among : IsAmong g f x old
 
-  fellow_behind : (f : Field) (rest : Tree) → IsWellFormed context.Oneof rest → (map (λ (y : FieldOf). y.name) (fields_in (Leaf (statement.Field f) rest)) ≡ f.name ∷ [] → ⊥) → is_empty (statements (move_tree d rest)) ≡ false
-  fellow_behind f End w more = absurd (more refl)
-  fellow_behind f (Leaf a rest) w more = refl
-  fellow_behind f (Block k i within j rest) w more = absurd (no_block k w.0)
+  fellow_behind : (f : Field) (rest : Tree) → (map (λ (y : FieldOf). y.name) (fields_in (Leaf (statement.Field f) rest)) ≡ f.name ∷ [] → ⊥) → is_empty (fields_in (move_tree d rest)) ≡ false
+  fellow_behind f rest more = ap is_empty (fields_moved d 0 rest) ∙ empty_kept (move_field_of d) (fields_in rest) ∙ not_nil (fields_in rest) more
+    where
+      not_nil : (fs : List FieldOf) → (f.name ∷ map (λ (y : FieldOf). y.name) fs ≡ f.name ∷ [] → ⊥) → is_empty fs ≡ false
+      not_nil [] m = absurd (m refl)
+      not_nil (y ∷ fs) m = refl
+
+  -- one statement more is a field, or there are as many fields as before
+  one_more : (f : Field) (a : Statement) (rest x : Tree) → ((map (λ (y : FieldOf). y.name) (fields_in rest) ≡ f.name ∷ [] → ⊥) → is_empty (fields_in x) ≡ false)
+      → (map (λ (y : FieldOf). y.name) (fields_in (Leaf a rest)) ≡ f.name ∷ [] → ⊥) → is_empty (fields_in (Leaf (move_statement d a) x)) ≡ false
+  one_more f (statement.Field b) rest x some more = refl
+  one_more f (statement.MapField b) rest x some more = refl
+  one_more f _ rest x some more = some more
 
   in_fellows : (f : Field) (t : Tree) (h : StandsIn (statement.Field f) t) → IsWellFormed context.Oneof t → InFellows (Plain f) f t (before_it h)
   in_fellows f _ (First rest) w = record {
     x = move_tree d rest;
-    some = λ more. fellow_behind f rest w.1 more;
+    some = λ more. fellow_behind f rest more;
     taken = Here context.Oneof rest tt (λ z. z);
     taken_at = refl;
     old = Leaf (statement.Field f) (move_tree g (move_tree d rest));
@@ -103,7 +114,7 @@ module _ (d g : Move) where
       let v = in_fellows f rest h w.1 in
       record {
         x = Leaf (move_statement d a) v.x;
-        some = λ more. refl;
+        some = λ more. one_more f a rest v.x v.some more;
         taken = Later context.Oneof a rest v.x v.taken;
         taken_at = ap (λ (n : ℕ). length (flat_statement a) + n) v.taken_at;
         old = Leaf (move_statement g (move_statement d a)) v.old;
@@ -302,15 +313,15 @@ module _ (d g k : Move) (w : WrittenField) (r : Reservation) where
 -- ---- the place of the reservation
 
 -- where it is put in, by what stands before it
-put_place : (text : List ℕ) (tokens : List Token) (t : Tree) (s : Statement) (o : Option ℕ) → Reads text tokens t → (h : StandsAt s o t) → (n : ℕ) → n + length (flat_statement s) ≡ through h → n ≡ reservation_place s o
-put_place text tokens t s None reads h n e =
-    let fd = found text tokens t s reads h in
+put_place : (profile : Profile) (text : List ℕ) (tokens : List Token) (t : Tree) (s : Statement) (o : Option ℕ) → ReadsIn profile text tokens t → (h : StandsAt s o t) → (n : ℕ) → n + length (flat_statement s) ≡ through h → n ≡ reservation_place s o
+put_place profile text tokens t s None reads h n e =
+    let fd = found profile text tokens t s reads h in
     let at = fd.at in
     omega (arith, e, through_message t refl h, at)
-put_place text tokens t s (Some close) reads h n e =
-    let fd = found text tokens t s reads h in
+put_place profile text tokens t s (Some close) reads h n e =
+    let fd = found profile text tokens t s reads h in
     let next = fd.next in
-    let closes : suc close ≡ through h = close_at t close (through h) (trees_are_numbered t (map (lexeme_at text) tokens) reads.spells) (closed t h).0 in
+    let closes : suc close ≡ through h = close_at t close (through h) (trees_are_numbered_in profile t (map (lexeme_at text) tokens) reads.spells) (closed t h).0 in
     omega (arith, e, closes, next)
 
 start_no : context.Start ≡ context.Message → ⊥
@@ -319,14 +330,14 @@ start_no h = cc
 -- ---- the law
 
 pub trees_are_deleted : TreesAreDeleted
-trees_are_deleted text tokens t w o number name result after u reads fellows stands dl =
+trees_are_deleted profile text tokens t w o number name result after u reads fellows stands dl =
     let s : Statement = statement_of w in
     let whole : List Lexeme = map (lexeme_at text) tokens in
     let f : ℕ = first_token s in
     let q : ℕ = next_token s in
     let p : ℕ = reservation_place s o in
     let n : ℕ = length (flat_statement s) in
-    let fd = found text tokens t s reads stands in
+    let fd = found profile text tokens t s reads stands in
     let next = fd.next in
     let inside = fd.within in
     let as_many = length-map tokens (lexeme_at text) in
@@ -342,25 +353,25 @@ trees_are_deleted text tokens t w o number name result after u reads fellows sta
     let front_long : length front ≡ f = omega (arith, length-take f whole, as_many, inside, next) in
     let mine_long : length mine ≡ n = omega (arith, length-take (q - f) (drop f whole), length-drop f whole, as_many, inside, next) in
     let parts : whole ≡ front ++ (mine ++ back) = in_parts f q whole (omega (arith, next)) in
-    let spells = subst (λ (x : List Lexeme). Spells t (classes 0 x)) parts reads.spells in
+    let spells = subst (λ (x : List Lexeme). Spells t (classes_in profile 0 x)) parts reads.spells in
     let taken_at : before v.taken ≡ f = v.taken_at ∙ fd.at in
     let back_at : before v.back ≡ f = v.back_at ∙ fd.at in
-    let put_at : before v.put ≡ p = put_place text tokens t s o reads stands (before v.put) v.put_at in
+    let put_at : before v.put ≡ p = put_place profile text tokens t s o reads stands (before v.put) v.put_at in
     let ar = around d (Leaf s End) End context.Start t v.x v.taken in
-    let c = cut_around t ar.front (flat (Leaf s End)) ar.back front mine back (ar.long ∙ taken_at ∙ sym front_long) (leaf_long s ∙ sym mine_long) ar.old spells.fits in
+    let c = cut_around profile t ar.front (flat (Leaf s End)) ar.back front mine back (ar.long ∙ taken_at ∙ sym front_long) (leaf_long s ∙ sym mine_long) ar.old spells.fits in
     let by_d : MovesBy d (length front) (length mine) 0 = subst (λ (x : ℕ). MovesBy d x (length mine) 0) (sym front_long) (subst (λ (x : ℕ). MovesBy d f x 0) (sym mine_long) (moved_moves_by f n 0)) in
     let by_g : MovesBy g (length front) 0 (length mine) = subst (λ (x : ℕ). MovesBy g x 0 (length mine)) (sym front_long) (moves_in f (length mine)) in
-    let x_spells = statements_are_exchanged d (Leaf s End) End t v.x v.taken front mine [] back (taken_at ∙ sym front_long) (leaf_long s ∙ sym mine_long) tt by_d spells in
-    let old_spells = statements_are_exchanged g End (Leaf s End) v.x v.old v.back front [] mine back (back_at ∙ sym front_long) refl c.old_fits by_g x_spells in
+    let x_spells = statements_are_exchanged profile d (Leaf s End) End t v.x v.taken front mine [] back (taken_at ∙ sym front_long) (leaf_long s ∙ sym mine_long) tt by_d spells in
+    let old_spells = statements_are_exchanged profile g End (Leaf s End) v.x v.old v.back front [] mine back (back_at ∙ sym front_long) refl c.old_fits by_g x_spells in
     let within = dl.new.within in
     let put_long : length (take p less) ≡ p = omega (arith, length-take p less, within) in
     let by_k : MovesBy k (length (take p less)) 0 6 = subst (λ (x : ℕ). MovesBy k x 0 6) (sym put_long) (moves_in p 6) in
-    let x_parts = subst (λ (x : List Lexeme). Spells v.x (classes 0 x)) (sym (take-append-drop p less)) x_spells in
-    let new_spells = statements_are_exchanged k End (reservation p) v.x v.new v.put (take p less) [] res (drop p less) (put_at ∙ sym put_long) refl
-    (subst (λ (x : ℕ). Fit (flat (reservation p)) (classes x res)) (sym put_long) (reservation_fits p number name)) by_k x_parts in
-    let x_is : v.x ≡ dl.middle = one_tree v.x dl.middle (classes 0 less) x_spells dl.old.before_spells in
-    let old_is : v.old ≡ t = one_tree v.old t (classes 0 (front ++ (mine ++ back))) old_spells spells in
-    let new_is : v.new ≡ u = one_tree v.new u (classes 0 (take p less ++ (res ++ drop p less))) new_spells (subst (λ (x : List Lexeme). Spells u (classes 0 x)) dl.new.tokens dl.new.after_spells) in
+    let x_parts = subst (λ (x : List Lexeme). Spells v.x (classes_in profile 0 x)) (sym (take-append-drop p less)) x_spells in
+    let new_spells = statements_are_exchanged profile k End (reservation p) v.x v.new v.put (take p less) [] res (drop p less) (put_at ∙ sym put_long) refl
+    (subst (λ (x : ℕ). Fit (flat (reservation p)) (classes_in profile x res)) (sym put_long) (reservation_fits profile p number name)) by_k x_parts in
+    let x_is : v.x ≡ dl.middle = one_tree v.x dl.middle (classes_in profile 0 less) x_spells dl.old.before_spells in
+    let old_is : v.old ≡ t = one_tree v.old t (classes_in profile 0 (front ++ (mine ++ back))) old_spells spells in
+    let new_is : v.new ≡ u = one_tree v.new u (classes_in profile 0 (take p less ++ (res ++ drop p less))) new_spells (subst (λ (x : List Lexeme). Spells u (classes_in profile 0 x)) dl.new.tokens dl.new.after_spells) in
     let is : IsDeletedIn g k w (reservation_at p) v.x v.old v.new = elim v.deleted [ inl x ↦ absurd (start_no x.0) | inr x ↦ x ] in
     subst (λ (x : Tree). IsDeletedIn g k w (reservation_at p) x t u) x_is
     (subst (λ (y : Tree). IsDeletedIn g k w (reservation_at p) v.x y u) old_is

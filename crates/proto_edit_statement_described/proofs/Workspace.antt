@@ -6,7 +6,7 @@ use Rattle.proto_text.specs.declared.kind.TokenKind.TheVariants.{Text}
 use Rattle.proto_text.specs.declared.lexer.Token.{Token}
 use Rattle.proto_text.proofs.Common.{IsRun, moved, quoted, word_at, Lexeme, lexeme_at, StandsFor, value_again}
 use Rattle.proto_tree.specs.declared.piece.Statement.{Statement}
-use Rattle.proto_tree.proofs.Common.{Move, Reads, Tree, End}
+use Rattle.proto_tree.proofs.Common.{Move, ReadsIn, Tree, End}
 use Rattle.proto_files.proofs.Common.{ReadOf, read_at, FileOf, file_at}
 use Rattle.proto_names_rules.proofs.Common.{at, IsLinked}
 use Rattle.proto_edit_entries.proofs.Puts.{puts_are_once}
@@ -27,7 +27,7 @@ use Rattle.proto_edit_statement_described.proofs.Declared.{named, new_text, old_
 use Rattle.proto_edit_statement_described.proofs.Enums.{same_words}
 use Rattle.proto_edit_statement_described.proofs.DeletedExtensions.{other_scenes_stay}
 use Rattle.proto_edit_statement_laws.proofs.FieldNames.{name_is_word}
-use Rattle.proto_edit_statement_described.proofs.OneRead.{around, come_in, here, many, other, paths_stay, read_here, read_other, same_path}
+use Rattle.proto_edit_statement_described.proofs.OneRead.{around, come_in, here, many, other, paths_stay, read_here, read_other, same_path, same_profile}
 use Rattle.proto_edit_statement_described.proofs.OwnTokens.{first_stays, name_apart, reserved_behind, use_apart}
 use Rattle.proto_edit_statement_described.proofs.DeletedScenes.{scenes_have_tokens}
 use Rattle.proto_edit_statement_described.proofs.SmallNumbers.{numbers_are_small}
@@ -62,7 +62,7 @@ module _ (laws : Laws) (files : List FileOf) (reads : List ReadOf) (name : List 
   in_reads : f.file < length reads
   in_reads = let l = ok.stands.within in let s = ok.are.read.same in omega (arith, l, s)
 
-  reading : Reads (file_at files f.file).bytes (read_at reads f.file).tokens (read_at reads f.file).tree
+  reading : ReadsIn (file_at files f.file).profile (file_at files f.file).bytes (read_at reads f.file).tokens (read_at reads f.file).tree
   reading = ok.are.read.trees f.file ok.stands.within
 
   is_written : IsWritten f.statement f.name f.number
@@ -75,9 +75,9 @@ module _ (laws : Laws) (files : List FileOf) (reads : List ReadOf) (name : List 
   unfolding w
   stands = subst (λ (s : Statement). StandsAt s f.oneof (read_at reads f.file).tree) is_written.same ok.stands.stands
 
-  deleted : IsDeleted (file_at files f.file).bytes (read_at reads f.file).tokens (read_at reads f.file).tree (statement_of w) f.oneof (field_number_value files reads f) (name_of_field files reads f) result after tree
+  deleted : IsDeleted (file_at files f.file).profile (file_at files f.file).bytes (read_at reads f.file).tokens (read_at reads f.file).tree (statement_of w) f.oneof (field_number_value files reads f) (name_of_field files reads f) result after tree
   unfolding w
-  deleted = subst (λ (s : Statement). IsDeleted (file_at files f.file).bytes (read_at reads f.file).tokens (read_at reads f.file).tree s f.oneof (field_number_value files reads f) (name_of_field files reads f) result after tree) is_written.same fd.deleted
+  deleted = subst (λ (s : Statement). IsDeleted (file_at files f.file).profile (file_at files f.file).bytes (read_at reads f.file).tokens (read_at reads f.file).tree s f.oneof (field_number_value files reads f) (name_of_field files reads f) result after tree) is_written.same fd.deleted
 
   its_name : written_name w ≡ f.name
   unfolding w
@@ -109,7 +109,7 @@ module _ (laws : Laws) (files : List FileOf) (reads : List ReadOf) (name : List 
 
   trees : IsDeletedIn g k w r x (read_at reads f.file).tree tree
   unfolding g k r x
-  trees = trees_are_deleted (file_at files f.file).bytes (read_at reads f.file).tokens (read_at reads f.file).tree w f.oneof (field_number_value files reads f) (name_of_field files reads f) result after tree reading fellows stands deleted
+  trees = trees_are_deleted (file_at files f.file).profile (file_at files f.file).bytes (read_at reads f.file).tokens (read_at reads f.file).tree w f.oneof (field_number_value files reads f) (name_of_field files reads f) result after tree reading fellows stands deleted
 
   -- the tokens
   old_is : (i : ℕ) → slice_get (lexemes_of files reads f.file) (g i) ≡ slice_get mid i
@@ -143,6 +143,7 @@ module _ (laws : Laws) (files : List FileOf) (reads : List ReadOf) (name : List 
         count = many files reads f.file result after tree;
         within = ok.stands.within;
         paths = same_path files reads f.file result after tree ok.stands.within;
+        profiles = same_profile files reads f.file result after tree ok.stands.within;
         files_stay = other files reads f.file result after tree;
         reads_stay = read_other files reads f.file result after tree;
         trees = subst (λ (y : ReadOf). IsDeletedIn g k w r x (read_at reads f.file).tree y.tree) (sym (read_here files reads f.file result after tree in_reads)) trees;
@@ -150,9 +151,9 @@ module _ (laws : Laws) (files : List FileOf) (reads : List ReadOf) (name : List 
         new = new_is;
         old_apart = others_keep_apart (first_token s) (length (own s whole));
         new_apart = others_keep_apart (reservation_place s f.oneof) 6;
-        old_first = front_stays (first_token s) (length (own s whole)) (first_stays (file_at files f.file).bytes (read_at reads f.file).tokens (read_at reads f.file).tree w f.oneof reading stands);
-        new_first = front_stays (reservation_place s f.oneof) 6 (reserved_behind (file_at files f.file).bytes (read_at reads f.file).tokens (read_at reads f.file).tree s f.oneof reading stands);
-        own = use_apart (file_at files f.file).bytes (read_at reads f.file).tokens (read_at reads f.file).tree w f.oneof reading stands;
+        old_first = front_stays (first_token s) (length (own s whole)) (first_stays (file_at files f.file).profile (file_at files f.file).bytes (read_at reads f.file).tokens (read_at reads f.file).tree w f.oneof reading stands);
+        new_first = front_stays (reservation_place s f.oneof) 6 (reserved_behind (file_at files f.file).profile (file_at files f.file).bytes (read_at reads f.file).tokens (read_at reads f.file).tree s f.oneof reading stands);
+        own = use_apart (file_at files f.file).profile (file_at files f.file).bytes (read_at reads f.file).tokens (read_at reads f.file).tree w f.oneof reading stands;
       }
 
   -- ---- names
@@ -200,7 +201,7 @@ module _ (laws : Laws) (files : List FileOf) (reads : List ReadOf) (name : List 
 
   stands_for : StandsFor (quoted (name_of_field files reads f)) (name_of_field files reads f)
   stands_for =
-      let run : IsRun Letter (name_of_field files reads f) = name_is_word (file_at files f.file).bytes (read_at reads f.file).tokens (read_at reads f.file).tree f.statement f.name f.number reading ok.stands.stands ok.stands.declares in
+      let run : IsRun Letter (name_of_field files reads f) = name_is_word (file_at files f.file).profile (file_at files f.file).bytes (read_at reads f.file).tokens (read_at reads f.file).tree f.statement f.name f.number reading ok.stands.stands ok.stands.declares in
       (word_is_string laws.texts (name_of_field files reads f) run).1
 
   small : field_number_value files reads f < 2 ^ 64
@@ -220,7 +221,7 @@ module _ (laws : Laws) (files : List FileOf) (reads : List ReadOf) (name : List 
 
   fresh : (i : ℕ) → (g i == written_name w) ≡ false
   unfolding g
-  fresh = name_apart (file_at files f.file).bytes (read_at reads f.file).tokens (read_at reads f.file).tree w f.oneof reading stands
+  fresh = name_apart (file_at files f.file).profile (file_at files f.file).bytes (read_at reads f.file).tokens (read_at reads f.file).tree w f.oneof reading stands
 
   pub is_deletion : IsFileDeletion files reads now seen f.file f.name
   is_deletion =

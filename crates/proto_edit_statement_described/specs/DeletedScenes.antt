@@ -30,6 +30,7 @@ pub record IsReadWithout
   pub count : length after ≡ length files
   pub within : place < length files
   pub paths : (j : ℕ) → (file_at after j).path ≡ (file_at files j).path
+  pub profiles : (j : ℕ) → (file_at after j).profile ≡ (file_at files j).profile
   pub files_stay : (j : ℕ) → j ≢ place → file_at after j ≡ file_at files j
   pub reads_stay : (j : ℕ) → j ≢ place → read_at seen j ≡ read_at reads j
   pub trees : IsDeletedIn g k w r x (tree_at reads place) (tree_at seen place)

@@ -12,7 +12,7 @@ use Rattle.proto_tree.specs.declared.tree.MapField.{MapField}
 use Rattle.proto_tree.specs.declared.tree.ReservedList.TheVariants as reserved_list
 use Rattle.proto_tree.specs.Moved.{Move, move_header, move_statement, move_tree}
 use Rattle.proto_tree.specs.Tree.{Tree, End, Leaf, Block, joined_trees}
-use Rattle.proto_ast.specs.Parts.{BlockOf, FieldOf, blocks_in, fields_in, map_field, plain_field, statements}
+use Rattle.proto_ast.specs.Parts.{BlockOf, FieldOf, blocks_in, fields_in, map_field, plain_field}
 use Rattle.proto_ast.specs.Scenes.{Scene, number_at, text, value}
 use Rattle.proto_desc_checks.specs.FileFlaws.{file_flaws, is_empty}
 use Rattle.proto_desc_checks_laws.specs.Imports.{IsMoved}
@@ -87,7 +87,7 @@ pub data IsDeletedRight
       (joined_trees (reserved r) (move_tree k rest))
   AtOneof : (h : Heading) (f : Field) (i : ℕ) (x t : Tree) (j : ℕ) (rest : Tree)
       → w ≡ Plain f
-      → is_empty (statements x) ≡ false
+      → is_empty (fields_in x) ≡ false
       → IsAmong g f x t
       → IsDeletedRight g k w r (Block (header.Oneof h) i x j rest)
       (Block (move_header g (header.Oneof h)) (g i) t (g j) (move_tree g rest))

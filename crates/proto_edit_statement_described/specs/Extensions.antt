@@ -1,10 +1,10 @@
--- Files whose extensions stay: their numbers, what they extend, and whether that leaves them their
--- numbers.
+-- Files whose extensions stay: their language, their numbers, what they extend, and whether that
+-- leaves them their numbers.
 use Rattle.std.specs.Prelude.{◌≡◌, ℕ, ℤ, List, map, None}
 use Rattle.std.specs.List.{Contains}
 use Rattle.proto_base.specs.Texts.{Text}
 use Rattle.proto_files.specs.FilesRead.{ReadOf}
-use Rattle.proto_files.specs.GivenFiles.{FileOf}
+use Rattle.proto_files.specs.GivenFiles.{FileOf, file_at}
 use Rattle.proto_desc_extensions.specs.Extensions.{ExtensionOf, extensions_in, is_extendable}
 
 -- what an extension says, wherever it stands: its number, and the full name of what it extends
@@ -16,11 +16,12 @@ pub record Saying : Type 0 where
 abbrev pub saying_of : ExtensionOf → Saying
 saying_of e = record { number = e.number.number; extendee = e.extendee }
 
--- The extensions of each file say what they said, in their order, and what they extend leaves them
--- their numbers where it did.
+-- Each file is of its language, its extensions say what they said, in their order, and what they
+-- extend leaves them their numbers where it did.
 pub record ExtensionsStay
     (files : List FileOf) (reads : List ReadOf) (after : List FileOf) (seen : List ReadOf)
     : Type 0 where
+  pub profiles : (k : ℕ) → (file_at after k).profile ≡ (file_at files k).profile
   pub said : (k : ℕ)
       → map saying_of (extensions_in None after seen k) ≡ map saying_of
       (extensions_in None files reads k)

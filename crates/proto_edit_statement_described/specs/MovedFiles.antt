@@ -2,7 +2,7 @@
 -- asked of them, and how they read.
 use Rattle.std.specs.Prelude.{◌≡◌, ◌≢◌, ℕ, List, length, slice_get}
 use Rattle.proto_files.specs.FilesRead.{ReadOf}
-use Rattle.proto_files.specs.GivenFiles.{FileOf}
+use Rattle.proto_files.specs.GivenFiles.{FileOf, file_at}
 use Rattle.proto_tree.specs.Moved.{Move, move_tree}
 use Rattle.proto_desc_checks_laws.specs.Imports.{without_imports}
 use Rattle.proto_edit_statement_described.specs.SceneOf.{lexemes_of}
@@ -12,10 +12,11 @@ use Rattle.proto_edit_rules.specs.Statements.{tree_at}
 use Rattle.proto_edit_statement_described.specs.Scenes.{IsMovedScene}
 
 -- The file at this place has each token whole at its moved index, and but for its imports the same
--- tree, moved; the others are the same.
+-- tree, moved; the others are the same. Each file is of its language.
 pub record AreMoved
     (files : List FileOf) (reads : List ReadOf) (after : List FileOf) (seen : List ReadOf)
     (place : ℕ) (g : Move) : Type 0 where
+  pub profiles : (k : ℕ) → (file_at after k).profile ≡ (file_at files k).profile
   pub apart : (i j : ℕ) → g i ≡ g j → i ≡ j
   pub own : (i : ℕ)
       → slice_get (lexemes_of after seen place) (g i) ≡ slice_get (lexemes_of files reads place) i

@@ -3,7 +3,7 @@ use Rattle.std.specs.Prelude.{◌≡◌, ℕ, List, Some}
 use Rattle.std.specs.List.{Contains}
 use Rattle.proto_base.specs.Texts.{Text}
 use Rattle.proto_files.specs.FilesRead.{ReadOf}
-use Rattle.proto_files.specs.GivenFiles.{FileOf}
+use Rattle.proto_files.specs.GivenFiles.{FileOf, file_at}
 use Rattle.proto_names_rules.specs.Skeleton.{Used}
 use Rattle.proto_names_imports.specs.Links.{uses_of}
 use Rattle.proto_edit_statement_described.specs.SceneOf.{enum_named, lexemes_of, meaning_of}
@@ -11,10 +11,11 @@ use Rattle.proto_edit_statement_laws.specs.Kept.{MeanTheSame}
 use Rattle.proto_edit_statement_described.specs.Files.{scene_at}
 use Rattle.proto_edit_rules.specs.Statements.{tree_at}
 
--- It has its tokens and its tree, and what its references mean are the same enums.
+-- It has its language, its tokens and its tree, and what its references mean are the same enums.
 pub record IsLeft
     (files : List FileOf) (reads : List ReadOf) (after : List FileOf) (seen : List ReadOf) (k : ℕ)
     : Type 0 where
+  pub profile : (file_at after k).profile ≡ (file_at files k).profile
   pub lexemes : lexemes_of after seen k ≡ lexemes_of files reads k
   pub tree : tree_at seen k ≡ tree_at reads k
   pub enums : (u : Used ℕ)

@@ -21,6 +21,7 @@ move_meant g m = record { token = g m.token; name = m.name; enum = m.enum }
 -- The second scene has each token of the first at its moved index, and what the references of the
 -- first mean; others of its references begin at tokens of its own.
 pub record HasTokens (g : Move) (a b : Scene) : Type 0 where
+  pub profile : a.profile ≡ b.profile
   pub version : a.is_proto3 ≡ b.is_proto3
   pub caps : a.cap ≡ b.cap
   pub apart : (i j : ℕ) → g i ≡ g j → i ≡ j

@@ -10,13 +10,14 @@ use Rattle.proto_tree.specs.declared.piece.Header.TheVariants as header
 use Rattle.proto_tree.specs.declared.piece.Heading.{Heading}
 use Rattle.proto_tree.specs.declared.piece.Statement.{Statement}
 use Rattle.proto_tree.specs.Moved.{Move}
-use Rattle.proto_tree.specs.Reads.{Reads}
+use Rattle.proto_tree.specs.Reads.{ReadsIn}
 use Rattle.proto_tree.specs.Tree.{Tree}
 use Rattle.proto_ast.specs.Parts.{BlockOf, blocks_in, fields_in}
 use Rattle.proto_edit_statement_laws.specs.Deletions.{IsDeleted, own, reservation_place}
 use Rattle.proto_edit_rules.specs.DeleteField.{StandsAt}
 use Rattle.proto_edit_rules.specs.Statements.{first_token}
 use Rattle.proto_edit_statement_described.specs.Deletions.{IsDeletedIn, Reservation, WrittenField, written_name, statement_of}
+use Rattle.proto_base.specs.declared.profile.Profile.{Profile}
 
 -- no oneof of the tree has the field of this name token alone
 abbrev pub HasFellows : Tree → ℕ → Type 0
@@ -50,11 +51,11 @@ to_new s o = moved (reservation_place s o) (reservation_place s o) 6
 -- one without both with the reservation put in.
 abbrev pub TreesAreDeleted : Type 0
 TreesAreDeleted =
-    (text : Text) (tokens : List Token) (t : Tree) (w : WrittenField) (o : Option ℕ) (number : ℕ)
-    (name result : Text) (after : List Token) (u : Tree)
-    → Reads text tokens t
+    (profile : Profile) (text : Text) (tokens : List Token) (t : Tree) (w : WrittenField)
+    (o : Option ℕ) (number : ℕ) (name result : Text) (after : List Token) (u : Tree)
+    → ReadsIn profile text tokens t
     → HasFellows t (written_name w)
     → StandsAt (statement_of w) o t
-    → (d : IsDeleted text tokens t (statement_of w) o number name result after u)
+    → (d : IsDeleted profile text tokens t (statement_of w) o number name result after u)
     → IsDeletedIn (to_old text tokens (statement_of w)) (to_new (statement_of w) o) w
     (reservation_at (reservation_place (statement_of w) o)) d.middle t u

@@ -12,8 +12,12 @@ use Rattle.proto_tree.specs.declared.piece.Statement.TheVariants as statement
 use Rattle.proto_tree.specs.declared.tree.FieldType.{FieldType}
 use Rattle.proto_tree.specs.declared.tree.FieldType.TheVariants as field_type
 use Rattle.proto_tree.specs.declared.tree.Separated.{Separated}
-use Rattle.proto_tree.proofs.Common.{fits, Mark, Fit, mark, only, flat_option, flat_type, flat_words, flat_statement, Move, shift, Reads, Tree, End, Leaf, flat, class_by, classes, trees_are_numbered}
+use Rattle.proto_tree.proofs.Common.{fits, Mark, Fit, mark, only, flat_option, flat_type, flat_words, flat_statement, Move, shift, ReadsIn, Tree, End, Leaf, flat, class_by, classes_in, trees_are_numbered_in}
 use Rattle.proto_edit_statement_laws.proofs.Common.{IsDeleted, IsFieldOf, StandsAt, deletion, first_token, next_token, own, without, reservation_tokens, semicolon_token, token_of_text, around, found, close_at, closed, through}
+use Rattle.proto_tree.specs.Words.{class_as}
+use Rattle.proto_base.specs.declared.profile.Profile.{Profile}
+use Rattle.proto_base.specs.declared.profile.Profile.TheVariants.{AsWritten, Core}
+use Rattle.proto_tree.specs.declared.class.Class.{Class}
 
 -- ---- a text that is put as it was
 
@@ -29,21 +33,21 @@ same_tokens text result e tokens after are were h same =
 -- ---- the token of a mark
 
 -- the token that a mark is read of
-record IsReadOf (m : Mark) (before : ℕ) (n : ℕ) (ls : List Lexeme) : Type 0 where
+record IsReadOf (profile : Profile) (m : Mark) (before : ℕ) (n : ℕ) (ls : List Lexeme) : Type 0 where
   token : Lexeme
   front : List Lexeme
   back : List Lexeme
   parts : ls ≡ front ++ (token ∷ back)
   long : length front ≡ before
-  fit : fits m.want (class_by token.kind token.text) ≡ true
+  fit : fits m.want (class_as profile (class_by token.kind token.text)) ≡ true
   at : n + before ≡ m.at
 
-read_of : (front : List Mark) (m : Mark) (back : List Mark) (n : ℕ) (ls : List Lexeme) → Fit (front ++ (m ∷ back)) (classes n ls) → IsReadOf m (length front) n ls
-read_of [] m back n [] h = absurd h
-read_of [] m back n (l ∷ ls) h = record { token = l; front = []; back = ls; parts = refl; long = refl; fit = h.0; at = omega (arith, h.1) }
-read_of (k ∷ front) m back n [] h = absurd h
-read_of (k ∷ front) m back n (l ∷ ls) h =
-    let r = read_of front m back (suc n) ls h.2 in
+read_of : (profile : Profile) (front : List Mark) (m : Mark) (back : List Mark) (n : ℕ) (ls : List Lexeme) → Fit (front ++ (m ∷ back)) (classes_in profile n ls) → IsReadOf profile m (length front) n ls
+read_of profile [] m back n [] h = absurd h
+read_of profile [] m back n (l ∷ ls) h = record { token = l; front = []; back = ls; parts = refl; long = refl; fit = h.0; at = omega (arith, h.1) }
+read_of profile (k ∷ front) m back n [] h = absurd h
+read_of profile (k ∷ front) m back n (l ∷ ls) h =
+    let r = read_of profile front m back (suc n) ls h.2 in
     record { token = r.token; front = l ∷ r.front; back = r.back; parts = ap (λ (z : List Lexeme). l ∷ z) r.parts; long = ap suc r.long; fit = r.fit; at = omega (arith, r.at) }
 
 same_at : (a : List Lexeme) (x : Lexeme) (b c : List Lexeme) (y : Lexeme) (d : List Lexeme) → a ++ (x ∷ b) ≡ c ++ (y ∷ d) → length a ≡ length c → x ≡ y
@@ -75,11 +79,15 @@ begins_apart (statement.Field f) name number is = field_apart f.label f.kind _
 begins_apart (statement.MapField f) name number is = record { first = mark (want.One class.Map) f.keyword; rest = _; parts = refl; apart = λ h. cc }
 begins_apart whole name number is = absurd is
 
+reserved_is : (profile : Profile) → class_as profile (class_by Word (codes "reserved")) ≡ class.Reserved
+reserved_is AsWritten = refl
+reserved_is Core = refl
+
 -- ---- the two deletions
 
-module _ (text : List ℕ) (tokens : List Token) (t : Tree) (s : Statement) (number : ℕ) (name result : List ℕ) (after : List Token) (u : Tree) (reads : Reads text tokens t) where
+module _ (profile : Profile) (text : List ℕ) (tokens : List Token) (t : Tree) (s : Statement) (number : ℕ) (name result : List ℕ) (after : List Token) (u : Tree) (reads : ReadsIn profile text tokens t) where
   -- right in a message, the first token tells
-  pub from_message : (field value : ℕ) → IsFieldOf s field value → IsDeleted text tokens t s None number name result after u → (deletion text tokens s None number name).old ≢ (deletion text tokens s None number name).new
+  pub from_message : (field value : ℕ) → IsFieldOf s field value → IsDeleted profile text tokens t s None number name result after u → (deletion text tokens s None number name).old ≢ (deletion text tokens s None number name).new
   from_message field value is d e =
       let all : List Lexeme = map (lexeme_at text) tokens in
       let f : ℕ = first_token s in
@@ -91,13 +99,13 @@ module _ (text : List ℕ) (tokens : List Token) (t : Tree) (s : Statement) (num
       let front : List Mark = map (shift g) ar.front in
       let rest : List Mark = (b.rest ++ []) ++ map (shift g) ar.back in
       let marks : flat t ≡ front ++ (b.first ∷ rest) = ar.new ∙ ap (λ (z : List Mark). front ++ ((z ++ []) ++ map (shift g) ar.back)) b.parts in
-      let r = read_of front b.first rest 0 all (subst (λ (z : List Mark). Fit z (classes 0 all)) marks reads.spells.fits) in
+      let r = read_of profile front b.first rest 0 all (subst (λ (z : List Mark). Fit z (classes_in profile 0 all)) marks reads.spells.fits) in
       let place : length r.front ≡ length (take f ms) = r.long ∙ length-map ar.front (shift g) ∙ ar.long ∙ d.old.at ∙ sym (length-take-le f ms d.new.within) in
       let read : r.token ≡ token_of_text Word (codes "reserved") = same_at r.front r.token r.back (take f ms) (token_of_text Word (codes "reserved")) (drop 1 (reservation_tokens number name) ++ drop f ms) (sym r.parts ∙ same) place in
-      b.apart (subst (λ (x : Lexeme). fits b.first.want (class_by x.kind x.text) ≡ true) read r.fit)
+      b.apart (subst (λ (k : Class). fits b.first.want k ≡ true) (reserved_is profile) (subst (λ (x : Lexeme). fits b.first.want (class_as profile (class_by x.kind x.text)) ≡ true) read r.fit))
 
   -- in a oneof, the last one
-  pub from_oneof : (close : ℕ) → StandsAt s (Some close) t → IsDeleted text tokens t s (Some close) number name result after u → (deletion text tokens s (Some close) number name).old ≢ (deletion text tokens s (Some close) number name).new
+  pub from_oneof : (close : ℕ) → StandsAt s (Some close) t → IsDeleted profile text tokens t s (Some close) number name result after u → (deletion text tokens s (Some close) number name).old ≢ (deletion text tokens s (Some close) number name).new
   from_oneof close stands d e =
       let all : List Lexeme = map (lexeme_at text) tokens in
       let f : ℕ = first_token s in
@@ -106,7 +114,7 @@ module _ (text : List ℕ) (tokens : List Token) (t : Tree) (s : Statement) (num
       let p : ℕ = suc close - (q - f) in
       let res : List Lexeme = reservation_tokens number name in
       let same : all ≡ take p ms ++ (res ++ drop p ms) = same_tokens text result (deletion text tokens s (Some close) number name) tokens after reads.tokens_are d.reads.tokens_are d.put e ∙ d.new.tokens in
-      let fd = found text tokens t s reads stands in
+      let fd = found profile text tokens t s reads stands in
       let next = fd.next in
       let at = fd.at in
       let within = fd.within in
@@ -114,19 +122,20 @@ module _ (text : List ℕ) (tokens : List Token) (t : Tree) (s : Statement) (num
       let c = cl.0 in
       let less = cl.1 in
       let long = c.long in
-      let closes : suc close ≡ through stands = close_at t close (through stands) (trees_are_numbered t all reads.spells) c in
+      let closes : suc close ≡ through stands = close_at t close (through stands) (trees_are_numbered_in profile t all reads.spells) c in
       let many : length all ≡ length tokens = length-map tokens (lexeme_at text) in
       let parts_long : length ms ≡ length (take f all) + length (drop q all) = length-append (take f all) (drop q all) in
       let six : length all ≡ 6 + length ms = length_of all p ms res same in
       let size : q - f ≡ 6 = omega (arith, six, parts_long, length-take f all, length-drop q all, many, within, next) in
-      let r = read_of c.front (mark (want.One class.Close) close) c.back 0 all (subst (λ (z : List Mark). Fit z (classes 0 all)) c.parts reads.spells.fits) in
+      let r = read_of profile c.front (mark (want.One class.Close) close) c.back 0 all (subst (λ (z : List Mark). Fit z (classes_in profile 0 all)) c.parts reads.spells.fits) in
       let place : length r.front ≡ length (take p ms ++ take 5 res) = omega (arith, r.long, long, closes, less, at, next, size, length-append (take p ms) (take 5 res), length-take-le p ms d.new.within) in
       let regrouped : all ≡ (take p ms ++ take 5 res) ++ (semicolon_token ∷ drop p ms) = same ∙ sym (append_assoc (take p ms) (take 5 res) (semicolon_token ∷ drop p ms)) in
       let read : r.token ≡ semicolon_token = same_at r.front r.token r.back (take p ms ++ take 5 res) semicolon_token (drop p ms) (sym r.parts ∙ regrouped) place in
-      no_close (subst (λ (x : Lexeme). fits (want.One class.Close) (class_by x.kind x.text) ≡ true) read r.fit)
+      no_close profile (subst (λ (x : Lexeme). fits (want.One class.Close) (class_as profile (class_by x.kind x.text)) ≡ true) read r.fit)
     where
-      no_close : fits (want.One class.Close) (class_by Punctuation (codes ";")) ≡ true → ⊥
-      no_close h = cc
+      no_close : (profile : Profile) → fits (want.One class.Close) (class_as profile (class_by Punctuation (codes ";"))) ≡ true → ⊥
+      no_close AsWritten h = cc
+      no_close Core h = cc
 
       length_of : (all : List Lexeme) (p : ℕ) (ms res : List Lexeme) → all ≡ take p ms ++ (res ++ drop p ms) → length all ≡ length res + length ms
       length_of all p ms res e = omega (arith, ap (λ (z : List Lexeme). length z) e, length-append (take p ms) (res ++ drop p ms), length-append res (drop p ms), length-take p ms, length-drop p ms)

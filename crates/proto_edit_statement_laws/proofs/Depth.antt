@@ -1,22 +1,31 @@
--- Tokens without a brace open none.
+-- Tokens that leave the depth of braces, and tokens without a brace.
 use Rattle.std.proofs.Common.{◌≡◌, ℕ, zero, suc, ◌+◌, ◌-◌, ◌<◌, ◌≤◌, ◌⊎◌, inl, inr, false, List, [], ◌∷◌, ◌++◌, length, take, refl, sym, ap, subst, ◌∙◌, arith, length-append}
 use Rattle.std.proofs.lemmas.Bool.{cases_lt}
 use Rattle.proto_text.specs.Tokens.{Lexeme}
 use Rattle.proto_tree.specs.declared.class.Class.{Class}
 use Rattle.proto_tree.specs.declared.class.Class.TheVariants as class
 use Rattle.proto_tree.specs.declared.class.Lexeme.{Lexeme as Classed}
-use Rattle.proto_tree.proofs.Common.{is_brace, open_after, open_from, IsShallow, class_by, classes}
-use Rattle.proto_edit_statement_laws.specs.Reading.{HaveNoBrace, DepthIsKept}
+use Rattle.proto_tree.proofs.Common.{is_brace, open_after, open_from, IsShallow, class_by, classes-length_in, classes_in}
+use Rattle.proto_edit_statement_laws.specs.Reading.{DepthIsKept, HaveNoBrace, LeaveDepth}
+use Rattle.proto_tree.specs.Words.{class_as}
+use Rattle.proto_base.specs.declared.profile.Profile.{Profile}
+use Rattle.proto_base.specs.declared.profile.Profile.TheVariants.{AsWritten, Core}
 
 -- braces open behind tokens, whatever their indices
-opens : ℕ → List Lexeme → ℕ
+pub opens : ℕ → List Lexeme → ℕ
 opens d [] = d
 opens d (l ∷ ls) = opens (open_after d (class_by l.kind l.text)) ls
 
-opens_is : (d n : ℕ) (ls : List Lexeme) → open_from d (classes n ls) ≡ opens d ls
+-- braces are of one class in both languages
+open_as : (profile : Profile) (d : ℕ) (c : Class) → open_after d (class_as profile c) ≡ open_after d c
+open_as AsWritten d class.LeftParenthesis = refl
+open_as AsWritten d _ = refl
+open_as Core d c = refl
+
+pub opens_is : (profile : Profile) (d n : ℕ) (ls : List Lexeme) → open_from d (classes_in profile n ls) ≡ opens d ls
 unfolding opens
-opens_is d n [] = refl
-opens_is d n (l ∷ ls) = opens_is (open_after d (class_by l.kind l.text)) (suc n) ls
+opens_is profile d n [] = refl
+opens_is profile d n (l ∷ ls) = ap (λ e. open_from e (classes_in profile (suc n) ls)) (open_as profile d (class_by l.kind l.text)) ∙ opens_is profile (open_after d (class_by l.kind l.text)) (suc n) ls
 
 opens_append : (d : ℕ) (x y : List Lexeme) → opens d (x ++ y) ≡ opens (opens d x) y
 unfolding opens
@@ -34,29 +43,28 @@ calm_take d zero x h = refl
 calm_take d (suc k) [] h = refl
 calm_take d (suc k) (l ∷ x) h = ap (λ e. opens e (take k x)) (calm_step (class_by l.kind l.text) d h.0) ∙ calm_take d k x h.1
 
+leaves_all : (d : ℕ) (x : List Lexeme) → LeaveDepth x → opens d x ≡ d
+leaves_all d x h = sym (opens_is Core d 0 x) ∙ h d
+
 calm_all : (d : ℕ) (x : List Lexeme) → HaveNoBrace x → opens d x ≡ d
 unfolding opens
 calm_all d [] h = refl
 calm_all d (l ∷ x) h = ap (λ e. opens e x) (calm_step (class_by l.kind l.text) d h.0) ∙ calm_all d x h.1
 
-take_classes : (n k : ℕ) (ls : List Lexeme) → take k (classes n ls) ≡ classes n (take k ls)
-take_classes n zero ls = refl
-take_classes n (suc k) [] = refl
-take_classes n (suc k) (l ∷ ls) = ap (λ (x : List Classed). record { class = class_by l.kind l.text; at = n } ∷ x) (take_classes (suc n) k ls)
-
-length_classes : (n : ℕ) (ls : List Lexeme) → length (classes n ls) ≡ length ls
-length_classes n [] = refl
-length_classes n (l ∷ ls) = ap suc (length_classes (suc n) ls)
+take_classes : (profile : Profile) (n k : ℕ) (ls : List Lexeme) → take k (classes_in profile n ls) ≡ classes_in profile n (take k ls)
+take_classes profile n zero ls = refl
+take_classes profile n (suc k) [] = refl
+take_classes profile n (suc k) (l ∷ ls) = ap (λ (x : List Classed). record { class = class_as profile (class_by l.kind l.text); at = n } ∷ x) (take_classes profile (suc n) k ls)
 
 -- shallow without indices
 abbrev Flat : List Lexeme → Type 0
 Flat ls = (k : ℕ) → k ≤ length ls → opens 0 (take k ls) ≤ 32
 
-to_flat : (ls : List Lexeme) → IsShallow (classes 0 ls) → Flat ls
-to_flat ls h k le = subst (λ (n : ℕ). n ≤ 32) (ap (open_from 0) (take_classes 0 k ls) ∙ opens_is 0 0 (take k ls)) (h k (omega (arith, le, length_classes 0 ls)))
+to_flat : (profile : Profile) (ls : List Lexeme) → IsShallow (classes_in profile 0 ls) → Flat ls
+to_flat profile ls h k le = subst (λ (n : ℕ). n ≤ 32) (ap (open_from 0) (take_classes profile 0 k ls) ∙ opens_is profile 0 0 (take k ls)) (h k (omega (arith, le, classes-length_in profile 0 ls)))
 
-from_flat : (ls : List Lexeme) → Flat ls → IsShallow (classes 0 ls)
-from_flat ls h k le = subst (λ (n : ℕ). n ≤ 32) (sym (ap (open_from 0) (take_classes 0 k ls) ∙ opens_is 0 0 (take k ls))) (h k (omega (arith, le, length_classes 0 ls)))
+from_flat : (profile : Profile) (ls : List Lexeme) → Flat ls → IsShallow (classes_in profile 0 ls)
+from_flat profile ls h k le = subst (λ (n : ℕ). n ≤ 32) (sym (ap (open_from 0) (take_classes profile 0 k ls) ∙ opens_is profile 0 0 (take k ls))) (h k (omega (arith, le, classes-length_in profile 0 ls)))
 
 take_past : (n k : ℕ) (x y : List Lexeme) → n ≡ length x + k → take n (x ++ y) ≡ x ++ take k y
 take_past n k [] y e = ap (λ (i : ℕ). take i y) (omega (arith, e))
@@ -69,10 +77,10 @@ take_within (suc n) [] y le = absurd (omega (arith, le))
 take_within (suc n) (l ∷ x) y le = ap (λ (z : List Lexeme). l ∷ z) (take_within n x y (omega (arith, le)))
 
 pub depth_is_kept : DepthIsKept
-depth_is_kept front old new back calm_old calm_new h = from_flat (front ++ (new ++ back)) (λ k le. by k le (cases_lt (length front) k))
+depth_is_kept profile front old new back calm_old calm_new h = from_flat profile (front ++ (new ++ back)) (λ k le. by k le (cases_lt (length front) k))
   where
     was : Flat (front ++ (old ++ back))
-    was = to_flat (front ++ (old ++ back)) h
+    was = to_flat profile (front ++ (old ++ back)) h
 
     long : (x : List Lexeme) → length (front ++ (x ++ back)) ≡ length front + (length x + length back)
     long x = length-append front (x ++ back) ∙ ap (λ (n : ℕ). length front + n) (length-append x back)
@@ -87,7 +95,7 @@ depth_is_kept front old new back calm_old calm_new h = from_flat (front ++ (new 
     behind : (m : ℕ) → m ≤ length back → opens (opens 0 front) (take m back) ≤ 32
     behind m le =
         let e : take (length front + (length old + m)) (front ++ (old ++ back)) ≡ front ++ (old ++ take m back) = take_past (length front + (length old + m)) (length old + m) front (old ++ back) refl ∙ ap (λ (z : List Lexeme). front ++ z) (take_past (length old + m) m old back refl) in
-        let f : opens 0 (front ++ (old ++ take m back)) ≡ opens (opens 0 front) (take m back) = opens_append 0 front (old ++ take m back) ∙ opens_append (opens 0 front) old (take m back) ∙ ap (λ (d : ℕ). opens d (take m back)) (calm_all (opens 0 front) old calm_old) in
+        let f : opens 0 (front ++ (old ++ take m back)) ≡ opens (opens 0 front) (take m back) = opens_append 0 front (old ++ take m back) ∙ opens_append (opens 0 front) old (take m back) ∙ ap (λ (d : ℕ). opens d (take m back)) (leaves_all (opens 0 front) old calm_old) in
         subst (λ (n : ℕ). n ≤ 32) (ap (opens 0) e ∙ f) (was (length front + (length old + m)) (omega (arith, le, long old)))
 
     past : (k m : ℕ) → k ≡ length front + m → m ≤ length new + length back → (length new < m) ⊎ (m ≤ length new) → opens 0 (take k (front ++ (new ++ back))) ≤ 32

@@ -7,9 +7,10 @@ use Rattle.proto_tree.specs.declared.context.Context.{Context}
 use Rattle.proto_tree.specs.declared.context.Context.TheVariants as context
 use Rattle.proto_tree.specs.declared.class.Expected.TheVariants as want
 use Rattle.proto_tree.specs.declared.piece.Header.{Header}
-use Rattle.proto_tree.proofs.Common.{Mark, mark, one, Fit, flat_statement, flat_header, Tree, End, Leaf, Block, flat, statement_kind, header_kind, allows, after, inside, IsWellFormed, last_of, classes, Move, shift, move_header, move_statement, move_tree, Fit-join, flat-joined, joined-fine, behind_fine, classes-append, classes-length, fit_moved, fit_parts, regroup, shift_append, flat_moved, well_formed_moved, kind_moved, header_kind_moved, inside_moved}
+use Rattle.proto_tree.proofs.Common.{Mark, mark, one, Fit, flat_statement, flat_header, Tree, End, Leaf, Block, flat, statement_kind, header_kind, allows, after, inside, IsWellFormed, last_of, classes_in, Move, shift, move_header, move_statement, move_tree, Fit-join, flat-joined, joined-fine, behind_fine, classes-append_in, classes-length_in, fit_moved_in, fit_parts, regroup, shift_append, flat_moved, well_formed_moved, kind_moved, header_kind_moved, inside_moved}
 use Rattle.proto_edit_statement_laws.proofs.Endings.{IsApart, apart_then, nothing_behind, the, then, tree_apart}
 use Rattle.proto_edit_statement_laws.specs.Exchanges.{IsExchanged, Here, Later, Inside, Behind, before, StatementsAreExchanged}
+use Rattle.proto_base.specs.declared.profile.Profile.{Profile}
 
 -- ---- marks before and behind the place
 
@@ -99,33 +100,33 @@ put_fine g a b _ t u (Behind c k i within j x y r) h =
 -- ---- tokens
 
 -- the marks of a tree, cut at the place
-pub record AreCut (s : Tree) (front_marks a back_marks : List Mark) (front old back : List Lexeme) : Type 0 where
-  pub front_fits : Fit front_marks (classes 0 front)
-  pub old_fits : Fit a (classes (length front) old)
-  pub back_fits : Fit back_marks (classes (length front + length old) back)
+pub record AreCut (profile : Profile) (s : Tree) (front_marks a back_marks : List Mark) (front old back : List Lexeme) : Type 0 where
+  pub front_fits : Fit front_marks (classes_in profile 0 front)
+  pub old_fits : Fit a (classes_in profile (length front) old)
+  pub back_fits : Fit back_marks (classes_in profile (length front + length old) back)
 
 zero_first : (n : ℕ) → 0 + n ≡ n
 zero_first n = omega arith
 
-split : (front x back : List Lexeme) → classes 0 (front ++ (x ++ back)) ≡ classes 0 front ++ (classes (length front) x ++ classes (length front + length x) back)
-split front x back = classes-append 0 front (x ++ back) ∙ ap (λ (ls : List Classed). classes 0 front ++ ls) (ap (λ (k : ℕ). classes k (x ++ back)) (zero_first (length front)) ∙ classes-append (length front) x back)
+split : (profile : Profile) (front x back : List Lexeme) → classes_in profile 0 (front ++ (x ++ back)) ≡ classes_in profile 0 front ++ (classes_in profile (length front) x ++ classes_in profile (length front + length x) back)
+split profile front x back = classes-append_in profile 0 front (x ++ back) ∙ ap (λ (ls : List Classed). classes_in profile 0 front ++ ls) (ap (λ (k : ℕ). classes_in profile k (x ++ back)) (zero_first (length front)) ∙ classes-append_in profile (length front) x back)
 
-pub cut_around : (t : Tree) (fm a bm : List Mark) (front old back : List Lexeme) → length fm ≡ length front → length a ≡ length old → flat t ≡ fm ++ (a ++ bm) → Fit (flat t) (classes 0 (front ++ (old ++ back))) → AreCut t fm a bm front old back
-cut_around t fm a bm front old back at len parts h =
-    let whole = subst (λ (ls : List Classed). Fit (fm ++ (a ++ bm)) ls) (split front old back) (subst (λ (ms : List Mark). Fit ms (classes 0 (front ++ (old ++ back)))) parts h) in
-    let p = fit_parts fm (a ++ bm) (classes 0 front) (classes (length front) old ++ classes (length front + length old) back) (at ∙ sym (classes-length 0 front)) whole in
-    let q = fit_parts a bm (classes (length front) old) (classes (length front + length old) back) (len ∙ sym (classes-length (length front) old)) p.1 in
+pub cut_around : (profile : Profile) (t : Tree) (fm a bm : List Mark) (front old back : List Lexeme) → length fm ≡ length front → length a ≡ length old → flat t ≡ fm ++ (a ++ bm) → Fit (flat t) (classes_in profile 0 (front ++ (old ++ back))) → AreCut profile t fm a bm front old back
+cut_around profile t fm a bm front old back at len parts h =
+    let whole = subst (λ (ls : List Classed). Fit (fm ++ (a ++ bm)) ls) (split profile front old back) (subst (λ (ms : List Mark). Fit ms (classes_in profile 0 (front ++ (old ++ back)))) parts h) in
+    let p = fit_parts fm (a ++ bm) (classes_in profile 0 front) (classes_in profile (length front) old ++ classes_in profile (length front + length old) back) (at ∙ sym (classes-length_in profile 0 front)) whole in
+    let q = fit_parts a bm (classes_in profile (length front) old) (classes_in profile (length front + length old) back) (len ∙ sym (classes-length_in profile (length front) old)) p.1 in
     record { front_fits = p.0; old_fits = q.0; back_fits = q.1 }
 
 pub statements_are_exchanged : StatementsAreExchanged
-statements_are_exchanged g a b t u r front old new back at len fits_b by h =
+statements_are_exchanged profile g a b t u r front old new back at len fits_b by h =
     let s = around g a b context.Start t u r in
     let n : ℕ = length front in
-    let c = cut_around t s.front (flat a) s.back front old back (s.long ∙ at) len s.old h.fits in
-    let moved = fit_moved g (n + length old) (n + length new) s.back back (λ k lt. by.goes k) c.back_fits in
-    let kept = fit_moved g 0 0 s.front front (λ k lt. ap g (zero_first k) ∙ by.stays k lt ∙ sym (zero_first k)) c.front_fits in
-    let fit = Fit-join (map (shift g) s.front) (flat b ++ map (shift g) s.back) (classes 0 front) (classes n new ++ classes (n + length new) back) kept (Fit-join (flat b) (map (shift g) s.back) (classes n new) (classes (n + length new) back) fits_b moved) in
+    let c = cut_around profile t s.front (flat a) s.back front old back (s.long ∙ at) len s.old h.fits in
+    let moved = fit_moved_in profile g (n + length old) (n + length new) s.back back (λ k lt. by.goes k) c.back_fits in
+    let kept = fit_moved_in profile g 0 0 s.front front (λ k lt. ap g (zero_first k) ∙ by.stays k lt ∙ sym (zero_first k)) c.front_fits in
+    let fit = Fit-join (map (shift g) s.front) (flat b ++ map (shift g) s.back) (classes_in profile 0 front) (classes_in profile n new ++ classes_in profile (n + length new) back) kept (Fit-join (flat b) (map (shift g) s.back) (classes_in profile n new) (classes_in profile (n + length new) back) fits_b moved) in
     record {
       well_formed = put_fine g a b context.Start t u r h.well_formed;
-      fits = subst (λ (ms : List Mark). Fit ms (classes 0 (front ++ (new ++ back)))) (sym s.new) (subst (λ (ls : List Classed). Fit (map (shift g) s.front ++ (flat b ++ map (shift g) s.back)) ls) (sym (split front new back)) fit);
+      fits = subst (λ (ms : List Mark). Fit ms (classes_in profile 0 (front ++ (new ++ back)))) (sym s.new) (subst (λ (ls : List Classed). Fit (map (shift g) s.front ++ (flat b ++ map (shift g) s.back)) ls) (sym (split profile front new back)) fit);
     }

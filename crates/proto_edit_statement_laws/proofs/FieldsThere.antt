@@ -249,7 +249,7 @@ pub fields_are_one : FieldsStandOnce → FieldsAreOne
 fields_are_one law files reads f g read a b same_file same_name =
     let stands : StandsAt g.statement g.oneof (read_at reads f.file).tree = subst (λ (k : ℕ). StandsAt g.statement g.oneof (read_at reads k).tree) (sym same_file) b.stands in
     let declares : IsFieldOf g.statement f.name g.number = subst (λ (n : ℕ). IsFieldOf g.statement n g.number) (sym same_name) b.declares in
-    let one = law (file_at files f.file).bytes (read_at reads f.file).tokens (read_at reads f.file).tree f.statement g.statement f.oneof g.oneof f.name f.number g.number (read.trees f.file a.within) a.stands stands a.declares declares in
+    let one = law (file_at files f.file).profile (file_at files f.file).bytes (read_at reads f.file).tokens (read_at reads f.file).tree f.statement g.statement f.oneof g.oneof f.name f.number g.number (read.trees f.file a.within) a.stands stands a.declares declares in
     let number : f.number ≡ g.number = same_number g.statement f.name f.number g.number (subst (λ (s : Statement). IsFieldOf s f.name f.number) one.0 a.declares) declares in
     parts f g same_file one.0 one.1 same_name number
   where

@@ -8,7 +8,9 @@ use Rattle.proto_tree.specs.declared.piece.Header.{Header}
 use Rattle.proto_tree.specs.declared.piece.Header.TheVariants as header
 use Rattle.proto_tree.specs.declared.piece.Statement.{Statement}
 use Rattle.proto_tree.specs.declared.piece.Statement.TheVariants as statement
-use Rattle.proto_tree.specs.Tree.{Tree, End, Leaf, Block, field_kind, statement_kind, header_kind, allows, after, IsWellFormed}
+use Rattle.proto_tree.specs.declared.tree.Setting.{Setting}
+use Rattle.proto_tree.specs.declared.tree.Setting.TheVariants as setting
+use Rattle.proto_tree.specs.Tree.{Tree, End, Leaf, Block, field_kind, option_kind, statement_kind, header_kind, allows, after, IsWellFormed}
 use Rattle.proto_edit_rules.specs.AddImport.{behind_syntax}
 use Rattle.proto_edit_statement_laws.proofs.LastOf.{last_by, last_option, or_none, some_is_not_none}
 
@@ -77,7 +79,11 @@ no_syntax : (s : Statement) → last_option (behind_syntax s) ≡ None → state
 no_syntax (statement.Syntax s) e h = some_is_not_none (suc s.semicolon) e
 no_syntax (statement.Import i) e h = cc
 no_syntax (statement.Package p) e h = cc
-no_syntax (statement.Option o) e h = cc
+no_syntax (statement.Option o) e h = no_option o.setting h
+  where
+    no_option : (x : Setting) → option_kind x ≡ kind.Syntax → ⊥
+    no_option (setting.Plain p) e = cc
+    no_option (setting.Custom c) e = cc
 no_syntax (statement.Field f) e h = no_field f.label h
   where
     no_field : (label : Option ℕ) → field_kind label ≡ kind.Syntax → ⊥

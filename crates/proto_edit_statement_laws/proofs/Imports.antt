@@ -8,7 +8,7 @@ use Rattle.proto_tree.specs.declared.context.Kind.TheVariants as kind
 use Rattle.proto_tree.specs.declared.piece.Statement.{Statement}
 use Rattle.proto_tree.specs.declared.piece.Statement.TheVariants as statement
 use Rattle.proto_tree.specs.declared.tree.Import.{Import}
-use Rattle.proto_tree.proofs.Common.{Mark, Fit, flat_statement, Numbered, Move, move_header, move_statement, move_tree, Tree, End, Leaf, Block, flat, statement_kind, header_kind, after, IsWellFormed, last_of, Spells, classes, trees_are_numbered}
+use Rattle.proto_tree.proofs.Common.{Mark, Fit, flat_statement, Numbered, Move, move_header, move_statement, move_tree, Tree, End, Leaf, Block, flat, statement_kind, header_kind, after, IsWellFormed, last_of, Spells, classes_in, trees_are_numbered_in}
 use Rattle.proto_edit_statement_laws.specs.Common.{StandsIn, First, AfterLeaf, AfterBlock, begins, ends, first_token, next_token, own, IsExchanged, Here, Later, Behind, before, MovesBy, AdditionsAreRead, DropsAreRead, added_text, import_place, import_tree, import_text, import_tokens}
 use Rattle.proto_edit_statement_laws.proofs.Deletions.{drop_front, in_parts, take_front}
 use Rattle.proto_edit_statement_laws.proofs.Endings.{nothing_behind}
@@ -16,7 +16,7 @@ use Rattle.proto_edit_statement_laws.proofs.Exchanged.{around}
 use Rattle.proto_edit_statement_laws.proofs.FileContexts.{IsOuter, IsSettled, import_may, import_stays, outer, settled, start_from_file}
 use Rattle.proto_edit_statement_laws.proofs.ImportPlaces.{place_of_import}
 use Rattle.proto_edit_statement_laws.proofs.Marks.{moved_moves_by, moves_in, numbered_among, numbered_first, numbered_last, some_marks}
-use Rattle.proto_edit_statement_laws.proofs.NewStatements.{feed_utf8, import_fits, import_segment, import_utf8}
+use Rattle.proto_edit_statement_laws.proofs.NewStatements.{feed_utf8, import_fits, import_has_no_brace, import_segment, import_utf8}
 use Rattle.proto_edit_statement_laws.proofs.Reading.{statements_are_read}
 use Rattle.proto_edit_statement_laws.proofs.Reversed.{exchanges_are_reversed}
 use Rattle.proto_edit_statement_laws.proofs.Seams.{places_are_seams}
@@ -38,20 +38,20 @@ added_utf8 zero path h = IsUtf8-append (import_text path) (codes "\n") (import_u
 added_utf8 (suc i) path h = IsUtf8-append (codes "\n") (import_text path) feed_utf8 (import_utf8 path h)
 
 pub additions_are_read : Laws → AdditionsAreRead
-additions_are_read laws text tokens t path reads is =
+additions_are_read laws profile text tokens t path reads is =
     let i : ℕ = import_place t in
     let g : Move = moved i i 3 in
     let b : Tree = import_tree i in
     let end : ℕ = end_before tokens i in
-    let w = place_of_import g b t reads.spells.well_formed (trees_are_numbered t (map (lexeme_at text) tokens) reads.spells) (import_fine i) (refl, tt) refl in
+    let w = place_of_import g b t reads.spells.well_formed (trees_are_numbered_in profile t (map (lexeme_at text) tokens) reads.spells) (import_fine i) (refl, tt) refl in
     let v = w.there in
     let place : before v.put ≡ i = let e = v.at in omega (arith, e) in
-    let seams = places_are_seams text tokens g End b t v.tree v.put reads in
+    let seams = places_are_seams profile text tokens g End b t v.tree v.put reads in
     let j_is : before v.put + 0 ≡ i = omega (arith, place) in
     let p : IsPlace tokens i end = record { seam = subst (IsSeam tokens) place seams.0; there = inl refl } in
-    let read = statements_are_read laws.replaced text tokens g End b t v.tree v.put end end (added_text i path) (import_tokens path) reads tt tt
+    let read = statements_are_read laws.replaced profile text tokens g End b t v.tree v.put end end (added_text i path) (import_tokens path) reads tt (import_has_no_brace path)
     (subst (λ (x : ℕ). IsPlace tokens x end) (sym place) p) (subst (λ (x : ℕ). IsPlace tokens x end) (sym j_is) p) (omega arith)
-    (added_segment laws i path is) (subst (λ (x : ℕ). Fit (flat b) (classes x (import_tokens path))) (sym place) (import_fits i path))
+    (added_segment laws i path is) (subst (λ (x : ℕ). Fit (flat b) (classes_in profile x (import_tokens path))) (sym place) (import_fits profile i path))
     (subst (λ (x : ℕ). MovesBy g x 0 3) (sym place) (moves_in i 3)) in
     let replaced : IsReplaced text tokens i i end end (added_text i path) (import_tokens path) read.0 read.1 =
     subst (λ (x : ℕ). IsReplaced text tokens x i end end (added_text i path) (import_tokens path) read.0 read.1) place
@@ -103,7 +103,7 @@ drop_within g x c _ o (AfterBlock k i within j rest h) =
     record { tree = Block (move_header g k) (g i) (move_tree g within) (g j) v.tree; put = Behind c k i within j rest v.tree v.put; at = ap (λ (n : ℕ). length (flat (Block k i within j End)) + n) v.at }
 
 pub drops_are_read : RunsAreReplaced → DropsAreRead
-drops_are_read runs text tokens t x reads stands =
+drops_are_read runs profile text tokens t x reads stands =
     let s : Statement = statement.Import x in
     let a : Tree = Leaf s End in
     let n : ℕ = length (flat_statement s) in
@@ -115,11 +115,11 @@ drops_are_read runs text tokens t x reads stands =
     let some = some_marks s in
     let v = drop_within g x context.Start t tt stands in
     let ar = around g a End context.Start t v.tree v.put in
-    let marks : Numbered (before_it stands) (flat_statement s) = numbered_among (before_it stands) (flat a) ar.front ar.back (flat t) ar.old (trees_are_numbered t whole reads.spells) (ar.long ∙ v.at) (nothing_behind (flat_statement s)) in
+    let marks : Numbered (before_it stands) (flat_statement s) = numbered_among (before_it stands) (flat a) ar.front ar.back (flat t) ar.old (trees_are_numbered_in profile t whole reads.spells) (ar.long ∙ v.at) (nothing_behind (flat_statement s)) in
     let first : f ≡ before_it stands = numbered_first (before_it stands) (flat_statement s) marks some in
     let next : q ≡ f + n = numbered_last (before_it stands) (flat_statement s) marks some ∙ ap (λ (y : ℕ). y + n) (sym first) in
     let place : before v.put ≡ f = v.at ∙ sym first in
-    let seams = places_are_seams text tokens g a End t v.tree v.put reads in
+    let seams = places_are_seams profile text tokens g a End t v.tree v.put reads in
     let j_is : before v.put + length (flat a) ≡ q = omega (arith, place, long, next) in
     let within : q ≤ length tokens = omega (arith, seams.2, j_is) in
     let many : length whole ≡ length tokens = length-map tokens (lexeme_at text) in
@@ -127,7 +127,7 @@ drops_are_read runs text tokens t x reads stands =
     let le : begins tokens s ≤ ends tokens s = omega (arith, order.some f (omega (arith, within, some, next)), order.rising (suc f) q (omega (arith, some, next)) within) in
     let p : IsPlace tokens f (begins tokens s) = record { seam = subst (IsSeam tokens) place seams.0; there = inr (omega (arith, within, some, next), refl) } in
     let r : IsPlace tokens q (ends tokens s) = record { seam = subst (IsSeam tokens) j_is seams.1; there = inl refl } in
-    let read = statements_are_read runs text tokens g a End t v.tree v.put (begins tokens s) (ends tokens s) [] [] reads tt tt
+    let read = statements_are_read runs profile text tokens g a End t v.tree v.put (begins tokens s) (ends tokens s) [] [] reads tt tt
     (subst (λ (y : ℕ). IsPlace tokens y (begins tokens s)) (sym place) p) (subst (λ (y : ℕ). IsPlace tokens y (ends tokens s)) (sym j_is) r) le
     ([], (λ rest. tt), refl, refl) tt
     (subst (λ (y : ℕ). MovesBy g y (length (flat a)) 0) (sym place) (subst (λ (y : ℕ). MovesBy g f y 0) (sym long) (moved_moves_by f n 0))) in
@@ -141,8 +141,8 @@ drops_are_read runs text tokens t x reads stands =
     let parts : whole ≡ front ++ (mine ++ drop q whole) = in_parts f q whole (omega (arith, next)) in
     let is : map (lexeme_at read.0) read.1 ≡ front ++ drop q whole = replaced.lexemes in
     let by_back : MovesBy (moved f f (length mine)) (length front) 0 (length mine) = subst (λ (y : ℕ). MovesBy (moved f f (length mine)) y 0 (length mine)) (sym front_long) (moves_in f (length mine)) in
-    let again = exchanges_are_reversed g (moved f f (length mine)) a End t v.tree v.put front mine [] (drop q whole) (place ∙ sym front_long) (long ∙ sym mine_long) refl by_back
-    (subst (λ (y : List Lexeme). Spells t (classes 0 y)) parts reads.spells) (subst (λ (y : List Lexeme). Spells v.tree (classes 0 y)) is read.3.spells) in (
+    let again = exchanges_are_reversed profile g (moved f f (length mine)) a End t v.tree v.put front mine [] (drop q whole) (place ∙ sym front_long) (long ∙ sym mine_long) refl by_back
+    (subst (λ (y : List Lexeme). Spells t (classes_in profile 0 y)) parts reads.spells) (subst (λ (y : List Lexeme). Spells v.tree (classes_in profile 0 y)) is read.3.spells) in (
       read.0,
       read.1,
       v.tree,

@@ -7,11 +7,15 @@ use Rattle.proto_text.specs.declared.kind.TokenKind.TheVariants.{Word, Number, T
 use Rattle.proto_text.proofs.Common.{EachByte, class_of, extends_word, is_digit, is_identifier, is_letter, is_mark, is_space, IsLexeme, IsRun, IsSegment, is_plain, quoted, IsString, Lexeme, StandsFor, says}
 use Rattle.proto_tree.specs.declared.class.Class.TheVariants as class
 use Rattle.proto_tree.specs.declared.class.Expected.TheVariants as want
-use Rattle.proto_tree.proofs.Common.{fits, Fit, flat, class_by, classes}
+use Rattle.proto_tree.proofs.Common.{fits, is_brace, Fit, flat, class_by, classes_in}
 use Rattle.proto_edit_statement_laws.specs.Statements.{import_tree, import_tokens, reservation, reservation_tokens, semicolon_token, token_of_text}
 use Rattle.proto_edit_rules.specs.AddImport.{import_text}
 use Rattle.proto_edit_rules.specs.DeleteField.{reservation_text}
 use Rattle.proto_edit_statement_laws.proofs.TextLaws.{Laws}
+use Rattle.proto_tree.specs.Words.{class_as}
+use Rattle.proto_base.specs.declared.profile.Profile.{Profile}
+use Rattle.proto_base.specs.declared.profile.Profile.TheVariants.{AsWritten, Core}
+use Rattle.proto_edit_statement_laws.specs.Reading.{HaveNoBrace}
 
 -- ---- segments
 
@@ -58,22 +62,45 @@ module _ (laws : Laws) where
 
 -- ---- what fits
 
-text_fits : (w : List ℕ) → fits want.Text (class_by Text w) ≡ true
-text_fits w = by (says w (codes "proto2") || says w (codes "proto3"))
+text_fits : (profile : Profile) (w : List ℕ) → fits want.Text (class_as profile (class_by Text w)) ≡ true
+text_fits profile w = by profile (says w (codes "proto2") || says w (codes "proto3"))
   where
-    by : (b : Bool) → fits want.Text (cond b class.ProtoText class.OtherText) ≡ true
+    by : (profile : Profile) (b : Bool) → fits want.Text (class_as profile (cond b class.ProtoText class.OtherText)) ≡ true
+    by AsWritten true = refl
+    by AsWritten false = refl
+    by Core true = refl
+    by Core false = refl
+
+pub reservation_fits : (profile : Profile) (i number : ℕ) (name : List ℕ) → Fit (flat (reservation i)) (classes_in profile i (reservation_tokens number name))
+reservation_fits AsWritten i number name = (
+  refl,
+  refl,
+  (refl, omega arith, (refl, omega arith, (refl, omega arith, (text_fits AsWritten (quoted name), omega arith, (refl, omega arith, tt))))),
+)
+reservation_fits Core i number name = (
+  refl,
+  refl,
+  (refl, omega arith, (refl, omega arith, (refl, omega arith, (text_fits Core (quoted name), omega arith, (refl, omega arith, tt))))),
+)
+
+pub import_fits : (profile : Profile) (i : ℕ) (path : List ℕ) → Fit (flat (import_tree i)) (classes_in profile i (import_tokens path))
+import_fits AsWritten i path = (refl, refl, (text_fits AsWritten (quoted path), omega arith, (refl, omega arith, tt)))
+import_fits Core i path = (refl, refl, (text_fits Core (quoted path), omega arith, (refl, omega arith, tt)))
+
+-- ---- no brace is in what is put in
+
+text_no_brace : (w : List ℕ) → is_brace (class_by Text w) ≡ false
+text_no_brace w = by (says w (codes "proto2") || says w (codes "proto3"))
+  where
+    by : (b : Bool) → is_brace (cond b class.ProtoText class.OtherText) ≡ false
     by true = refl
     by false = refl
 
-pub reservation_fits : (i number : ℕ) (name : List ℕ) → Fit (flat (reservation i)) (classes i (reservation_tokens number name))
-reservation_fits i number name = (
-  refl,
-  refl,
-  (refl, omega arith, (refl, omega arith, (refl, omega arith, (text_fits (quoted name), omega arith, (refl, omega arith, tt))))),
-)
+pub reservation_has_no_brace : (number : ℕ) (name : List ℕ) → HaveNoBrace (reservation_tokens number name)
+reservation_has_no_brace number name = (refl, (refl, (refl, (refl, (text_no_brace (quoted name), (refl, tt))))))
 
-pub import_fits : (i : ℕ) (path : List ℕ) → Fit (flat (import_tree i)) (classes i (import_tokens path))
-import_fits i path = (refl, refl, (text_fits (quoted path), omega arith, (refl, omega arith, tt)))
+pub import_has_no_brace : (path : List ℕ) → HaveNoBrace (import_tokens path)
+import_has_no_brace path = (refl, (text_no_brace (quoted path), (refl, tt)))
 
 -- ---- a word stands for itself in quotes
 

@@ -3,12 +3,13 @@ use Rattle.std.proofs.Common.{◌≡◌, ◌≢◌, inl, inr, ℕ, zero, suc, �
 use Rattle.proto_base.proofs.Common.{cases_lt, cases_order, All-cons, All-head, All-nil, text_limit, contains_cases, contains_head}
 use Rattle.proto_text.specs.declared.lexer.Token.{Token}
 use Rattle.proto_text.specs.Edits.{Edit, Puts}
-use Rattle.proto_tree.proofs.Common.{Reads, Tree, End}
+use Rattle.proto_tree.proofs.Common.{ReadsIn, Tree, End}
 use Rattle.proto_files.proofs.Common.{ReadOf, read_at, FileOf, file_at, IsText, IsBefore, IsWorkspacePath, never_before_itself}
 use Rattle.proto_edit_entries.proofs.Common.{ChangeOf, HasLengths, IsChange, IsEntry, IsMeasured, IsPut, PutsFile, puts_keep_paths}
 use Rattle.proto_edit_statement_laws.specs.OneFile.{AreFiles, IsChangedBy, with_read, with_text}
 use Rattle.proto_edit_rules.specs.Statements.{IsTooLong, length_with, one_change}
 use Rattle.proto_edit_rename_laws.proofs.ChangesPut.{each_puts, index_get}
+use Rattle.proto_files.specs.GivenFiles.{no_file}
 
 -- ---- lengths
 
@@ -32,8 +33,8 @@ parts_of text result e h =
       );
     }
 
-pub long_with : (f : Edit) (text result path : List ℕ) → Puts 0 text (f ∷ []) result → length result ≡ length_with (record { path = path; bytes = text }) f
-long_with e text result path h = let p = (parts_of text result e h).old_is in omega (arith, p.1, p.2)
+pub long_with : (f : FileOf) (e : Edit) (result : List ℕ) → Puts 0 f.bytes (e ∷ []) result → length result ≡ length_with f e
+long_with f e result h = let p = (parts_of f.bytes result e h).old_is in omega (arith, p.1, p.2)
 
 fits_with : (f : FileOf) (e : Edit) (result : List ℕ) → Puts 0 f.bytes (e ∷ []) result → (IsTooLong f e → ⊥) → length result ≤ text_limit
 fits_with f e result h short = let p = (parts_of f.bytes result e h).old_is in elim (cases_lt (text_limit + length e.old) (length f.bytes + length e.new)) [
@@ -97,13 +98,13 @@ path_at (f ∷ fs) (suc i) l h = path_at fs i (omega (arith, l)) (λ j d m. h (s
 
 module _ (files : List FileOf) (reads : List ReadOf) (file : ℕ) (e : Edit) (result : List ℕ) (after : List Token) (tree : Tree) (are : AreFiles files reads) (within : file < length files) where
   many : length (with_text files file result) ≡ length files
-  many = length-set files file (record { path = (file_at files file).path; bytes = result })
+  many = length-set files file (record (file_at files file) { bytes = result })
 
-  here : file_at (with_text files file result) file ≡ record { path = (file_at files file).path; bytes = result }
-  here = get_or-set_same files file (record { path = (file_at files file).path; bytes = result }) (record { path = []; bytes = [] }) within
+  here : file_at (with_text files file result) file ≡ record (file_at files file) { bytes = result }
+  here = get_or-set_same files file (record (file_at files file) { bytes = result }) no_file within
 
   other : (k : ℕ) → k ≢ file → file_at (with_text files file result) k ≡ file_at files k
-  other k apart = get_or-set_other files file k (record { path = (file_at files file).path; bytes = result }) (record { path = []; bytes = [] }) apart
+  other k apart = get_or-set_other files file k (record (file_at files file) { bytes = result }) no_file apart
 
   read_here : read_at (with_read reads file after tree) file ≡ record { tokens = after; tree = tree }
   read_here = get_or-set_same reads file (record { tokens = after; tree = tree }) (record { tokens = []; tree = End }) (subst (λ (n : ℕ). file < n) (sym are.read.same) within)
@@ -131,6 +132,7 @@ module _ (files : List FileOf) (reads : List ReadOf) (file : ℕ) (e : Edit) (re
       this : file < length files → PutsFile (one_change (file_at files file) e) (file_at files file) (file_at (with_text files file result) file)
       this l = subst (PutsFile (one_change (file_at files file) e) (file_at files file)) (sym here) (record {
         path = refl;
+        profile = refl;
         changed = λ c h p. subst (λ (x : ChangeOf). (length (file_at files file).bytes ≡ x.before) × Puts 0 (file_at files file).bytes x.splices result) (only c h) (refl, put);
         kept = λ none. absurd (none (record { path = (file_at files file).path; before = length (file_at files file).bytes; after = length_with (file_at files file) e; splices = e ∷ [] }) (contains_head _ []) refl);
       })
@@ -138,6 +140,7 @@ module _ (files : List FileOf) (reads : List ReadOf) (file : ℕ) (e : Edit) (re
       that : (k : ℕ) → k ≢ file → k < length files → PutsFile (one_change (file_at files file) e) (file_at files k) (file_at (with_text files file result) k)
       that k apart l = subst (PutsFile (one_change (file_at files file) e) (file_at files k)) (sym (other k apart)) (record {
         path = refl;
+        profile = refl;
         changed = λ c h p. absurd (apart (sym (one_place files are.workspace.ordered file k within l (ap (λ (x : ChangeOf). x.path) (only c h) ∙ p))));
         kept = λ none. refl;
       })
@@ -148,14 +151,14 @@ module _ (files : List FileOf) (reads : List ReadOf) (file : ℕ) (e : Edit) (re
     there = λ c h. (file_at files file, (file, within, index_get files (file_at files file) file within), ap (λ (x : ChangeOf). x.path) (only c h));
   }
 
-  pub changed_by : Puts 0 (file_at files file).bytes (e ∷ []) result → (IsUtf8 (file_at files file).bytes → IsUtf8 result) → Reads result after tree → e.old ≢ e.new → (IsTooLong (file_at files file) e → ⊥) → IsChangedBy files reads file e result after tree
+  pub changed_by : Puts 0 (file_at files file).bytes (e ∷ []) result → (IsUtf8 (file_at files file).bytes → IsUtf8 result) → ReadsIn (file_at files file).profile result after tree → e.old ≢ e.new → (IsTooLong (file_at files file) e → ⊥) → IsChangedBy files reads file e result after tree
   changed_by put utf8 read apart short =
       let fits = fits_with (file_at files file) e result put short in
       let whole = put_is put in
       record {
         entry = entry_of (file_at files file) e result (path_at files file within are.workspace.named) (are.texts file within).short fits put apart;
         put = whole;
-        long = long_with e (file_at files file).bytes result (file_at files file).path put;
+        long = long_with (file_at files file) e result put;
         still = record {
           workspace = puts_keep_paths files (with_text files file result) (one_change (file_at files file) e) are.workspace whole;
           texts = λ k l. by_place (λ k. k < length files → IsText (file_at (with_text files file result) k).bytes)
@@ -169,9 +172,9 @@ module _ (files : List FileOf) (reads : List ReadOf) (file : ℕ) (e : Edit) (re
         };
       }
     where
-      all_read : (k : ℕ) → k < length files → Reads (file_at (with_text files file result) k).bytes (read_at (with_read reads file after tree) k).tokens (read_at (with_read reads file after tree) k).tree
-      all_read = by_place (λ k. k < length files → Reads (file_at (with_text files file result) k).bytes (read_at (with_read reads file after tree) k).tokens (read_at (with_read reads file after tree) k).tree)
-          (λ l. subst (λ (f : FileOf). Reads f.bytes (read_at (with_read reads file after tree) file).tokens (read_at (with_read reads file after tree) file).tree) (sym here)
-          (subst (λ (r : ReadOf). Reads result r.tokens r.tree) (sym read_here) read))
-          (λ j apart_is l. subst (λ (f : FileOf). Reads f.bytes (read_at (with_read reads file after tree) j).tokens (read_at (with_read reads file after tree) j).tree) (sym (other j apart_is))
-          (subst (λ (r : ReadOf). Reads (file_at files j).bytes r.tokens r.tree) (sym (read_other j apart_is)) (are.read.trees j l)))
+      all_read : (k : ℕ) → k < length files → ReadsIn (file_at (with_text files file result) k).profile (file_at (with_text files file result) k).bytes (read_at (with_read reads file after tree) k).tokens (read_at (with_read reads file after tree) k).tree
+      all_read = by_place (λ k. k < length files → ReadsIn (file_at (with_text files file result) k).profile (file_at (with_text files file result) k).bytes (read_at (with_read reads file after tree) k).tokens (read_at (with_read reads file after tree) k).tree)
+          (λ l. subst (λ (f : FileOf). ReadsIn f.profile f.bytes (read_at (with_read reads file after tree) file).tokens (read_at (with_read reads file after tree) file).tree) (sym here)
+          (subst (λ (r : ReadOf). ReadsIn (file_at files file).profile result r.tokens r.tree) (sym read_here) read))
+          (λ j apart_is l. subst (λ (f : FileOf). ReadsIn f.profile f.bytes (read_at (with_read reads file after tree) j).tokens (read_at (with_read reads file after tree) j).tree) (sym (other j apart_is))
+          (subst (λ (r : ReadOf). ReadsIn (file_at files j).profile (file_at files j).bytes r.tokens r.tree) (sym (read_other j apart_is)) (are.read.trees j l)))

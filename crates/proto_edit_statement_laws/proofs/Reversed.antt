@@ -4,7 +4,7 @@ use Rattle.std.proofs.lemmas.List.{length-map}
 use Rattle.proto_tree.specs.declared.class.Class.TheVariants as class
 use Rattle.proto_tree.specs.declared.context.Context.{Context}
 use Rattle.proto_tree.specs.declared.context.Context.TheVariants as context
-use Rattle.proto_tree.proofs.Common.{Mark, one, flat_statement, flat_header, Move, shift, move_header, move_statement, move_tree, Tree, End, Leaf, Block, flat, statement_kind, header_kind, after, inside, IsWellFormed, last_of, joined_trees, one_tree, flat_moved, well_formed_moved, kind_moved, header_kind_moved, inside_moved, classes, behind_fine}
+use Rattle.proto_tree.proofs.Common.{Mark, one, flat_statement, flat_header, Move, shift, move_header, move_statement, move_tree, Tree, End, Leaf, Block, flat, statement_kind, header_kind, after, inside, IsWellFormed, last_of, joined_trees, one_tree, flat_moved, well_formed_moved, kind_moved, header_kind_moved, inside_moved, classes_in, behind_fine}
 use Rattle.proto_edit_statement_laws.specs.Exchanges.{IsExchanged, Here, Later, Inside, Behind, before, ExchangesAreReversed}
 use Rattle.proto_edit_statement_laws.proofs.Endings.{nothing_behind}
 use Rattle.proto_edit_statement_laws.proofs.Exchanged.{around, cut_around, header_moved, statements_are_exchanged}
@@ -57,12 +57,12 @@ backwards g back a b _ t u (Behind c k i within j x y r) h d e =
     }
 
 pub exchanges_are_reversed : ExchangesAreReversed
-exchanges_are_reversed g back a b t u r front old new rest at len_a len_b by spells_t spells_u =
+exchanges_are_reversed profile g back a b t u r front old new rest at len_a len_b by spells_t spells_u =
     let v = backwards g back a b context.Start t u r spells_t.well_formed context.Start refl in
     let s = around g a b context.Start t u r in
-    let c = cut_around t s.front (flat a) s.back front old rest (s.long ∙ at) len_a s.old spells_t.fits in
-    let again = statements_are_exchanged back b a u v.tree v.put front new old rest (v.same ∙ at) len_b c.old_fits by spells_u in
-    let same : v.tree ≡ t = one_tree v.tree t (classes 0 (front ++ (old ++ rest))) again spells_t in
+    let c = cut_around profile t s.front (flat a) s.back front old rest (s.long ∙ at) len_a s.old spells_t.fits in
+    let again = statements_are_exchanged profile back b a u v.tree v.put front new old rest (v.same ∙ at) len_b c.old_fits by spells_u in
+    let same : v.tree ≡ t = one_tree v.tree t (classes_in profile 0 (front ++ (old ++ rest))) again spells_t in
     go v.tree same v.put v.same
   where
     go : (x : Tree) → x ≡ t → (p : IsExchanged back b a context.Start u x) → before p ≡ before r → (v : IsExchanged back b a context.Start u t) × (before v ≡ before r)

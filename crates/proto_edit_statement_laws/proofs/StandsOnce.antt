@@ -104,15 +104,15 @@ name_mark (statement.MapField f) name number is =
 name_mark whole name number is = absurd is
 
 pub fields_stand_once : FieldsStandOnce
-fields_stand_once text tokens t s x o p name number other reads h k is_s is_x = elim (at_at t h k) [
+fields_stand_once profile text tokens t s x o p name number other reads h k is_s is_x = elim (at_at t h k) [
   | inl e ↦ e
   | inr apart ↦ absurd (both apart)
 ]
   where
     both : AreApart (before_field h) (length (flat_statement s)) (before_field k) (length (flat_statement x)) → ⊥
     both apart =
-        let a = found text tokens t s reads h in
-        let b = found text tokens t x reads k in
+        let a = found profile text tokens t s reads h in
+        let b = found profile text tokens t x reads k in
         let c = name_mark s name number is_s in
         let d = name_mark x name other is_x in
         let name_a = numbered_at (first_token s) (flat_statement s) (mark want.Name name) a.marks c in

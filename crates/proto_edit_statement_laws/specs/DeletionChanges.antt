@@ -19,9 +19,9 @@ use Rattle.proto_edit_rules.specs.DeleteField.{FieldAt, IsFieldAt, field_number_
 pub record IsFieldDeleted
     (files : List FileOf) (reads : List ReadOf) (f : FieldAt) (result : Text)
     (after : List TokenOf) (tree : Tree) : Type 0 where
-  pub deleted : IsDeleted (file_at files f.file).bytes (read_at reads f.file).tokens
-      (read_at reads f.file).tree f.statement f.oneof (field_number_value files reads f)
-      (name_of_field files reads f) result after tree
+  pub deleted : IsDeleted (file_at files f.file).profile (file_at files f.file).bytes
+      (read_at reads f.file).tokens (read_at reads f.file).tree f.statement f.oneof
+      (field_number_value files reads f) (name_of_field files reads f) result after tree
   pub changed : IsChangedBy files reads f.file (splice_of_deletion files reads f) result after tree
 
 -- The changes of a deletion are an entry, and put files that are read,

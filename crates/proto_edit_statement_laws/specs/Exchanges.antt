@@ -1,5 +1,6 @@
 -- A tree with other items in place of some, and all its indices moved by one map.
 use Rattle.std.specs.Prelude.{◌≡◌, ◌⊎◌, ℕ, ◌+◌, ◌<◌, ◌≤◌, List, ◌++◌, length, slice_get, take, drop}
+use Rattle.proto_base.specs.declared.profile.Profile.{Profile}
 use Rattle.proto_text.specs.Segments.{moved}
 use Rattle.proto_text.specs.Tokens.{Lexeme}
 use Rattle.proto_tree.specs.declared.class.Class.TheVariants as class
@@ -10,7 +11,7 @@ use Rattle.proto_tree.specs.declared.piece.Statement.{Statement}
 use Rattle.proto_tree.specs.Flat.{Fit, one, flat_statement, flat_header}
 use Rattle.proto_tree.specs.Moved.{Move, move_header, move_statement, move_tree}
 use Rattle.proto_tree.specs.Tree.{Tree, End, Leaf, Block, flat, statement_kind, header_kind, after, inside, IsWellFormed, last_of, joined_trees, Spells}
-use Rattle.proto_tree.specs.Words.{classes}
+use Rattle.proto_tree.specs.Words.{classes_in}
 
 -- The second tree is the first, moved, with the items of b in place of those of a: at one
 -- place, where b may stand, and behind which stands what followed, if it could follow on a.
@@ -47,14 +48,14 @@ pub record MovesBy (g : Move) (front old new : ℕ) : Type 0 where
 -- Where the tokens of b replace those of a, the second tree spells what comes out.
 abbrev pub StatementsAreExchanged : Type 0
 StatementsAreExchanged =
-    (g : Move) (a b t u : Tree) (r : IsExchanged g a b context.Start t u)
+    (profile : Profile) (g : Move) (a b t u : Tree) (r : IsExchanged g a b context.Start t u)
     (front old new back : List Lexeme)
     → before r ≡ length front
     → length (flat a) ≡ length old
-    → Fit (flat b) (classes (length front) new)
+    → Fit (flat b) (classes_in profile (length front) new)
     → MovesBy g (length front) (length old) (length new)
-    → Spells t (classes 0 (front ++ (old ++ back)))
-    → Spells u (classes 0 (front ++ (new ++ back)))
+    → Spells t (classes_in profile 0 (front ++ (old ++ back)))
+    → Spells u (classes_in profile 0 (front ++ (new ++ back)))
 
 -- A token that stays stands whole at its moved index.
 abbrev pub LexemesAreMoved : Type 0
@@ -65,12 +66,13 @@ LexemesAreMoved = (ls ns : List Lexeme) (i j k : ℕ) → i ≤ j → j ≤ leng
 -- items of a in place of those of b.
 abbrev pub ExchangesAreReversed : Type 0
 ExchangesAreReversed =
-    (g back : Move) (a b t u : Tree) (r : IsExchanged g a b context.Start t u)
+    (profile : Profile) (g back : Move) (a b t u : Tree)
+    (r : IsExchanged g a b context.Start t u)
     (front old new rest : List Lexeme)
     → before r ≡ length front
     → length (flat a) ≡ length old
     → length (flat b) ≡ length new
     → MovesBy back (length front) (length new) (length old)
-    → Spells t (classes 0 (front ++ (old ++ rest)))
-    → Spells u (classes 0 (front ++ (new ++ rest)))
+    → Spells t (classes_in profile 0 (front ++ (old ++ rest)))
+    → Spells u (classes_in profile 0 (front ++ (new ++ rest)))
     → (v : IsExchanged back b a context.Start u t) × (before v ≡ before r)

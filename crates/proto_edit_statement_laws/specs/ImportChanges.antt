@@ -19,8 +19,8 @@ use Rattle.proto_edit_rules.specs.DropImport.{IsImportOf, splice_of_drop}
 pub record IsImportAdded
     (files : List FileOf) (reads : List ReadOf) (file : ℕ) (path : Path) (result : Text)
     (after : List Token) (tree : Tree) : Type 0 where
-  pub added : IsImportPutIn (file_at files file).bytes (read_at reads file).tokens
-      (read_at reads file).tree path result after tree
+  pub added : IsImportPutIn (file_at files file).profile (file_at files file).bytes
+      (read_at reads file).tokens (read_at reads file).tree path result after tree
   pub changed : IsChangedBy files reads file (splice_of_addition files reads file path) result after
       tree
 
@@ -41,8 +41,8 @@ AdditionsAreChanges = (files : List FileOf) (reads : List ReadOf) (file : ℕ) (
 pub record IsImportDropped
     (files : List FileOf) (reads : List ReadOf) (file : ℕ) (i : Import) (result : Text)
     (after : List Token) (tree : Tree) : Type 0 where
-  pub dropped : IsImportTakenOut (file_at files file).bytes (read_at reads file).tokens
-      (read_at reads file).tree i result after tree
+  pub dropped : IsImportTakenOut (file_at files file).profile (file_at files file).bytes
+      (read_at reads file).tokens (read_at reads file).tree i result after tree
   pub changed : IsChangedBy files reads file (splice_of_drop files reads file i) result after tree
 
 -- The changes of a dropped import are an entry, and put files that are read; no file gets longer.

@@ -21,7 +21,7 @@ pub record AreFiles (files : List FileOf) (reads : List ReadOf) : Type 0 where
 -- the files with another text in place of that of one
 abbrev pub with_text : List FileOf → ℕ → Text → List FileOf
 with_text files file text =
-    slice_set files file (record { path = (file_at files file).path; bytes = text })
+    slice_set files file (record (file_at files file) { bytes = text })
 
 -- what is read of files, with other tokens and another tree of one of them
 abbrev pub with_read : List ReadOf → ℕ → List Token → Tree → List ReadOf

@@ -4,21 +4,22 @@ use Rattle.proto_base.proofs.Common.{length-map, IsUtf8-nil}
 use Rattle.proto_text.proofs.Common.{class_of, end_before, quoted, IsSpan, IsString, lexeme_at}
 use Rattle.proto_text.specs.declared.lexer.Token.{Token}
 use Rattle.proto_text.specs.declared.source.Span.{Span}
-use Rattle.proto_tree.proofs.Common.{Reads, Tree}
+use Rattle.proto_tree.proofs.Common.{ReadsIn, Tree}
 use Rattle.proto_files.proofs.Common.{ReadOf, read_at, FileOf, file_at}
 use Rattle.proto_edit_statement_laws.proofs.Common.{splice, AdditionsAreRead, added_text, import_place}
 use Rattle.proto_edit_rules.specs.AddImport.{splice_of_addition}
 use Rattle.proto_edit_statements.specs.ImportPlaces.{behind_all, ends_of, place_behind}
 use Rattle.proto_edit_statements.proofs.ImportEnds.{place_is}
 use Rattle.proto_edit_statements.proofs.TokenSpans.{end_is}
+use Rattle.proto_base.specs.declared.profile.Profile.{Profile}
 
 empty_string : IsString (quoted [])
 unfolding class_of
 empty_string = (34, [], (refl, refl, refl), ([], refl, IsUtf8-nil))
 
-pub place_inside : AdditionsAreRead → (text : List ℕ) (tokens : List Token) (t : Tree) → Reads text tokens t → import_place t ≤ length tokens
-place_inside law text tokens t reads =
-    let r = law text tokens t [] reads empty_string in
+pub place_inside : AdditionsAreRead → (profile : Profile) (text : List ℕ) (tokens : List Token) (t : Tree) → ReadsIn profile text tokens t → import_place t ≤ length tokens
+place_inside law profile text tokens t reads =
+    let r = law profile text tokens t [] reads empty_string in
     let within = r.3.tree.within in
     let long = length-map tokens (lexeme_at text) in
     omega (arith, within, long)

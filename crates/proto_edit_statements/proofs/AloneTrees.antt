@@ -1,5 +1,5 @@
 -- Whether a field is alone in a oneof of trees that stand one behind another; and that this is so by their blocks.
-use Rattle.std.proofs.Common.{◌≡◌, ◌⊎◌, ℕ, ◌≤◌, Bool, true, false, ◌||◌, List, [], ◌∷◌, ◌++◌, length, map, refl, sym, ap, subst, ◌∙◌, inl, inr, arith, Contains, eq-eqb, eqb-true}
+use Rattle.std.proofs.Common.{◌≡◌, ◌⊎◌, ℕ, Bool, true, false, ◌||◌, List, [], ◌∷◌, ◌++◌, map, refl, sym, ap, subst, ◌∙◌, inl, inr, arith, Contains, eq-eqb, eqb-true}
 use Rattle.proto_base.proofs.Common.{both_ways, or_cases, or_left, or_right, Contains-append_cases, Contains-append_left, Contains-append_right, contains_cases, contains_head, contains_later}
 use Rattle.proto_ast.specs.Parts.{BlockOf, FieldOf, blocks_in, fields_in}
 use Rattle.proto_edit_statements.specs.FieldPlaces.{alone_in, is_only}
@@ -10,10 +10,10 @@ use Rattle.proto_tree.specs.declared.piece.Header.{Header}
 use Rattle.proto_tree.specs.declared.piece.Header.TheVariants as header
 use Rattle.proto_tree.specs.declared.piece.Heading.{Heading}
 use Rattle.proto_tree.specs.declared.tree.Block.{Block as Braced}
-use Rattle.proto_tree.specs.declared.tree.Field.{Field}
+use Rattle.proto_tree.specs.declared.tree.OneofItem.{OneofItem}
 use Rattle.proto_tree.specs.declared.tree.Member.{Member}
 use Rattle.proto_tree.specs.declared.tree.Signature.{Signature}
-use Rattle.proto_tree.proofs.Common.{field_tree, member_tree, message_tree, oneof_tree, trees, Tree, End, Leaf, Block, IsWellFormed, after, allows, header_kind, joined_trees, statement_kind}
+use Rattle.proto_tree.proofs.Common.{member_tree, message_tree, oneof_item_tree, oneof_tree, trees, Tree, End, Leaf, Block, IsWellFormed, after, allows, header_kind, joined_trees, statement_kind}
 
 or_assoc : (a b c : Bool) → ((a || b) || c) ≡ (a || (b || c))
 or_assoc true b c = refl
@@ -35,8 +35,8 @@ alone_joined name (Block whole i within j rest) u = alone_joined name rest u
 pub alone_message : (name : ℕ) (m : Braced Member) → alone_in name (message_tree m) ≡ alone_in name (trees member_tree m.members.items)
 alone_message name m = or_none (alone_in name (trees member_tree m.members.items))
 
-pub alone_oneof : (name : ℕ) (o : Braced Field) → alone_in name (oneof_tree o) ≡ is_only name (fields_in (trees field_tree o.members.items))
-alone_oneof name o = or_none (is_only name (fields_in (trees field_tree o.members.items)))
+pub alone_oneof : (name : ℕ) (o : Braced OneofItem) → alone_in name (oneof_tree o) ≡ is_only name (fields_in (trees oneof_item_tree o.members.items))
+alone_oneof name o = or_none (is_only name (fields_in (trees oneof_item_tree o.members.items)))
 
 -- ---- by blocks
 
@@ -183,9 +183,3 @@ holds_alone name c (Block (header.Extend k) i within j rest) fine x = elim (in_b
   where
     not_it : header.Extend k ≡ header.Oneof x.h → ⊥
     not_it e = cc
-
--- two fields or more
-pub two_or_more : (name : ℕ) (fs : List Field) → 2 ≤ length fs → false ≡ is_only name (fields_in (trees field_tree fs))
-two_or_more name [] l = absurd (omega (arith, l))
-two_or_more name (f ∷ []) l = absurd (omega (arith, l))
-two_or_more name (f ∷ g ∷ fs) l = refl

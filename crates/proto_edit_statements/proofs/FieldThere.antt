@@ -5,7 +5,7 @@ use Rattle.proto_text.specs.declared.lexer.Token.{Token as TextToken}
 use Rattle.proto_text.proofs.Common.{bytes_between, end_before, offset_at, word_at, Lexeme, lexeme_at, one_token_list}
 use Rattle.proto_tree.specs.declared.class.Class.TheVariants as class
 use Rattle.proto_tree.specs.declared.piece.Statement.{Statement}
-use Rattle.proto_tree.proofs.Common.{Mark, one, Reads, Tree, flat, trees_are_numbered}
+use Rattle.proto_tree.proofs.Common.{Mark, one, ReadsIn, Tree, flat, trees_are_numbered_in}
 use Rattle.proto_files.proofs.Common.{ReadOf, AreRead, read_at, FileOf, file_at}
 use Rattle.proto_names_rules.proofs.Common.{place_from, place_of as place_of_declared, At, at, Declared, Source, Token, shifted_source}
 use Rattle.proto_ast.specs.Numbers.{number_value, past}
@@ -17,6 +17,7 @@ use Rattle.proto_edit_statements.specs.Common.{FieldStatement as FoundAt, field_
 use Rattle.proto_edit_statements.proofs.FieldCases.{file_there}
 use Rattle.proto_edit_statements.proofs.FieldEnds.{field_last}
 use Rattle.proto_edit_statements.proofs.FieldStands.{none_missing, stands_found}
+use Rattle.proto_base.specs.declared.profile.Profile.{Profile}
 
 -- ---- a field that is declared is found
 
@@ -57,26 +58,26 @@ some_found : (o : Option FoundAt) (p : FieldPlace) → option_map place_of_state
 some_found None p h = absurd (none-some p h)
 some_found (Some a) p h = (a, refl, same_Some (place_of_statement a) p h)
 
-last_inside : (text : List ℕ) (tokens : List TextToken) (t : Tree) (s : Statement) (o : Option ℕ) (name number : ℕ) → Reads text tokens t → StandsAt s o t → IsFieldOf s name number
+last_inside : (profile : Profile) (text : List ℕ) (tokens : List TextToken) (t : Tree) (s : Statement) (o : Option ℕ) (name number : ℕ) → ReadsIn profile text tokens t → StandsAt s o t → IsFieldOf s name number
     → (first_token s ≤ statement_end s) × (statement_end s ≤ last_by o (statement_end s)) × (last_by o (statement_end s) < length tokens)
-last_inside text tokens t s None name number reads h f =
-    let x = found text tokens t s reads h in
+last_inside profile text tokens t s None name number reads h f =
+    let x = found profile text tokens t s reads h in
     let next = x.next in
     let within = x.within in
     let some = some_marks s in
     let last = field_last s name number f in
     (omega (arith, next, some, last), omega arith, omega (arith, within, last))
-last_inside text tokens t s (Some close) name number reads h f =
-    let x = found text tokens t s reads h in
+last_inside profile text tokens t s (Some close) name number reads h f =
+    let x = found profile text tokens t s reads h in
     let next = x.next in
     let start = x.at in
     let some = some_marks s in
     let last = field_last s name number f in
     let c = closed t h in
     let whole = map (lexeme_at text) tokens in
-    let shut = close_at t close _ (trees_are_numbered t whole reads.spells) c.0 in
+    let shut = close_at t close _ (trees_are_numbered_in profile t whole reads.spells) c.0 in
     let beyond = c.1 in
-    let long = fit_long 0 (flat t) whole reads.spells.fits ∙ length-map tokens (lexeme_at text) in
+    let long = fit_long profile 0 (flat t) whole reads.spells.fits ∙ length-map tokens (lexeme_at text) in
     let parts = ap (λ (z : List Mark). length z) c.0.parts ∙ length-append c.0.front (one class.Close close ++ c.0.back) in
     let rest = length-append (one class.Close close) c.0.back in
     let front = c.0.long in
@@ -87,7 +88,7 @@ module _ (files : List FileOf) (reads : List ReadOf) (are : AreRead files reads)
   within : field.file < length files
   within = file_there files reads are name field is
 
-  whole : Reads (file_at files field.file).bytes (read_at reads field.file).tokens (read_at reads field.file).tree
+  whole : ReadsIn (file_at files field.file).profile (file_at files field.file).bytes (read_at reads field.file).tokens (read_at reads field.file).tree
   whole = are.trees field.file within
 
   pub it : (a : FoundAt) × (field_in field.token (read_at reads field.file).tree ≡ Some a) × (place_of_statement a ≡ place)
@@ -104,7 +105,7 @@ module _ (files : List FileOf) (reads : List ReadOf) (are : AreRead files reads)
 
   pub in_order : StandsInOrder files field.file place
   in_order =
-      let x = last_inside (file_at files field.file).bytes (read_at reads field.file).tokens (read_at reads field.file).tree it.0.statement it.0.close field.token (number_token it.0.statement) whole stands.0 stands.1 in
+      let x = last_inside (file_at files field.file).profile (file_at files field.file).bytes (read_at reads field.file).tokens (read_at reads field.file).tree it.0.statement it.0.close field.token (number_token it.0.statement) whole stands.0 stands.1 in
       subst (StandsInOrder files field.file) it.2
       (x.0, x.1, λ tokens t. subst (λ (z : List TextToken). last_by it.0.close (statement_end it.0.statement) < length z) (one_token_list (file_at files field.file).bytes (read_at reads field.file).tokens tokens (are.tokens field.file within) t) x.2)
 

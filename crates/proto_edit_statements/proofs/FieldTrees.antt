@@ -8,10 +8,11 @@ use Rattle.proto_tree.specs.declared.class.Expected.TheVariants as want
 use Rattle.proto_tree.specs.declared.piece.Statement.TheVariants as statement
 use Rattle.proto_tree.specs.declared.tree.Block.{Block as Braced}
 use Rattle.proto_tree.specs.declared.tree.Field.{Field}
+use Rattle.proto_tree.specs.declared.tree.OneofItem.{OneofItem}
 use Rattle.proto_tree.specs.declared.tree.FieldType.{FieldType}
 use Rattle.proto_tree.specs.declared.tree.FieldType.TheVariants as field_type
 use Rattle.proto_tree.specs.declared.tree.Separated.{Separated}
-use Rattle.proto_tree.proofs.Common.{field_tree, oneof_tree, trees, Mark, flat_option, flat_type, flat_words, only, Tree, End, Leaf, Block, joined_trees}
+use Rattle.proto_tree.proofs.Common.{oneof_item_tree, oneof_tree, trees, Mark, flat_option, flat_type, flat_words, only, Tree, End, Leaf, Block, joined_trees}
 
 -- ---- the first token
 
@@ -74,5 +75,5 @@ behind name t u h = field_joined name t u ∙ or_behind (field_in name t) (field
 
 -- ---- blocks alone
 
-pub oneof_place : (name : ℕ) (o : Braced Field) → field_in name (oneof_tree o) ≡ field_among name (Some o.close) (trees field_tree o.members.items)
-oneof_place name o = or_else_none (field_among name (Some o.close) (trees field_tree o.members.items))
+pub oneof_place : (name : ℕ) (o : Braced OneofItem) → field_in name (oneof_tree o) ≡ field_among name (Some o.close) (trees oneof_item_tree o.members.items)
+oneof_place name o = or_else_none (field_among name (Some o.close) (trees oneof_item_tree o.members.items))

@@ -153,14 +153,14 @@ module _ (files : List FileOf) (reads : List ReadOf) (are : AreRead files reads)
       let bytes = (file_at files file).bytes in
       let tokens = (read_at reads file).tokens in
       let s = wanted_stands tree w c in
-      let string = imports_are_strings bytes tokens tree (are.trees file within) w c in
+      let string = imports_are_strings (file_at files file).profile bytes tokens tree (are.trees file within) w c in
       let v = strings_have_values (word_of_token files reads file w.path) string in
       let value : value_of (word_of_token files reads file w.path) ≡ Some v.0 = value_again (word_of_token files reads file w.path) v.0 v.1 in
       let asked : asked_as T file w ≡ a = subst (λ m. asked_as T m w ≡ a) (e ∙ here) o.4 in
       let same : v.0 ≡ path = sym (ap or_nothing value) ∙ ap (λ (z : AskedImport). z.path) asked ∙ x.3 in
       let all = map (lexeme_at bytes) tokens in
       let none_at : Lexeme = record { kind = Word; text = [] } in
-      let there = path_here bytes tokens tree (are.trees file within) w c in
+      let there = path_here (file_at files file).profile bytes tokens tree (are.trees file within) w c in
       let long = length-map tokens (lexeme_at bytes) in
       let l : w.path < length all = omega (arith, there, long) in
       let kind : (get_or all w.path none_at).kind ≡ Text = string_kind (get_or all w.path none_at).kind (get_or all w.path none_at).text (tokens_are_lexemes bytes tokens (are.tokens file within) w.path none_at l) (subst IsString (text_at_place all w.path none_at l) string) in

@@ -7,8 +7,9 @@ use Rattle.proto_tree.specs.declared.class.Class.TheVariants as class
 use Rattle.proto_tree.specs.declared.piece.Statement.{Statement}
 use Rattle.proto_tree.specs.declared.piece.Statement.TheVariants as statement
 use Rattle.proto_tree.specs.declared.tree.Import.{Import}
-use Rattle.proto_tree.proofs.Common.{Mark, flat_header, flat_statement, one, Numbered, Reads, Tree, flat, trees_are_numbered}
+use Rattle.proto_tree.proofs.Common.{Mark, flat_header, flat_statement, one, Numbered, ReadsIn, Tree, flat, trees_are_numbered_in}
 use Rattle.proto_edit_statement_laws.proofs.Common.{AfterBlock, AfterLeaf, First, StandsIn, first_token, next_token, numbered_among, numbered_first, numbered_last, some_marks, fit_long}
+use Rattle.proto_base.specs.declared.profile.Profile.{Profile}
 
 pub record IsPart (ms whole : List Mark) : Type 0 where
   pub front : List Mark
@@ -26,14 +27,14 @@ stands_part s _ (AfterBlock k i within j rest h) =
     (further (flat_statement s) (one class.Close j ++ flat rest) (flat within) (further (flat_statement s) (flat rest) (one class.Close j) (stands_part s rest h)))
 
 -- its first token, and the token behind it
-pub stands_inside : (text : List ℕ) (tokens : List Token) (t : Tree) (s : Statement) → Reads text tokens t → IsPart (flat_statement s) (flat t) → (first_token s < next_token s) × (next_token s ≤ length tokens)
-stands_inside text tokens t s reads p =
+pub stands_inside : (profile : Profile) (text : List ℕ) (tokens : List Token) (t : Tree) (s : Statement) → ReadsIn profile text tokens t → IsPart (flat_statement s) (flat t) → (first_token s < next_token s) × (next_token s ≤ length tokens)
+stands_inside profile text tokens t s reads p =
     let whole = map (lexeme_at text) tokens in
-    let marks : Numbered (length p.front) (flat_statement s) = numbered_among (length p.front) (flat_statement s) p.front p.back (flat t) p.is (trees_are_numbered t whole reads.spells) refl refl in
+    let marks : Numbered (length p.front) (flat_statement s) = numbered_among (length p.front) (flat_statement s) p.front p.back (flat t) p.is (trees_are_numbered_in profile t whole reads.spells) refl refl in
     let some = some_marks s in
     let first = numbered_first (length p.front) (flat_statement s) marks some in
     let last = numbered_last (length p.front) (flat_statement s) marks some in
-    let long = fit_long 0 (flat t) whole reads.spells.fits ∙ length-map tokens (lexeme_at text) in
+    let long = fit_long profile 0 (flat t) whole reads.spells.fits ∙ length-map tokens (lexeme_at text) in
     let parts = ap (λ (z : List Mark). length z) p.is ∙ length-append p.front (flat_statement s ++ p.back) in
     let rest = length-append (flat_statement s) p.back in
     (omega (arith, first, last, some), omega (arith, last, long, parts, rest))
@@ -47,9 +48,9 @@ import_last i = by i.public
     by None = refl
     by (Some p) = refl
 
-pub import_inside : (text : List ℕ) (tokens : List Token) (t : Tree) (i : Import) → Reads text tokens t → StandsIn (statement.Import i) t → (i.keyword ≤ i.semicolon) × (i.semicolon < length tokens)
-import_inside text tokens t i reads h =
-    let x = stands_inside text tokens t (statement.Import i) reads (stands_part (statement.Import i) t h) in
+pub import_inside : (profile : Profile) (text : List ℕ) (tokens : List Token) (t : Tree) (i : Import) → ReadsIn profile text tokens t → StandsIn (statement.Import i) t → (i.keyword ≤ i.semicolon) × (i.semicolon < length tokens)
+import_inside profile text tokens t i reads h =
+    let x = stands_inside profile text tokens t (statement.Import i) reads (stands_part (statement.Import i) t h) in
     let last = import_last i in
     let a = x.0 in
     let b = x.1 in

@@ -34,6 +34,7 @@ abbrev pub IsDeletionRefusal : List FileOf → Text → Refusal → Type 0
 IsDeletionRefusal files name refusal.NoMemory = Unit {0}
 IsDeletionRefusal files name (refusal.Captured path offset) = ⊥
 IsDeletionRefusal files name (refusal.Needed path offset) = ⊥
+IsDeletionRefusal files name (refusal.OptionValue path offset) = ⊥
 IsDeletionRefusal files name r = IsLeastOf (IsDeletionCase files name) (refusal_number r)
 
 -- no case refuses it, and these are the changes
@@ -65,6 +66,7 @@ IsAdditionRefusal files file path (refusal.Captured place offset) =
     IsLeastOf (IsAdditionCase files file path) 7
     × SomeReading files (λ reads. IsOvertakenAt files reads file path (string_bytes place) offset)
 IsAdditionRefusal files file path (refusal.Needed place offset) = ⊥
+IsAdditionRefusal files file path (refusal.OptionValue place offset) = ⊥
 IsAdditionRefusal files file path r = IsLeastOf (IsAdditionCase files file path) (refusal_number r)
 
 -- no case refuses it, and these are the changes
@@ -84,6 +86,7 @@ IsDropCase files file path n = SomeReading files (λ reads. DropCase files reads
 abbrev pub IsDropRefusal : List FileOf → Path → Path → Refusal → Type 0
 IsDropRefusal files file path refusal.NoMemory = Unit {0}
 IsDropRefusal files file path (refusal.Captured place offset) = ⊥
+IsDropRefusal files file path (refusal.OptionValue place offset) = ⊥
 IsDropRefusal files file path (refusal.Needed place offset) =
     IsLeastOf (IsDropCase files file path) 15
     × SomeReading files (λ reads. IsNeededAt files reads file path (string_bytes place) offset)

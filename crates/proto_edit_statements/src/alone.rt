@@ -3,17 +3,21 @@
 ghost use Rattle.std.specs.Prelude.{◌≡◌};
 ghost use Rattle.proto_ast.specs.Parts.{fields_in};
 ghost use Rattle.proto_edit_statements.specs.FieldPlaces.{alone_in, is_only};
-ghost use Rattle.proto_tree.specs.File.{field_tree, item_tree, member_tree, message_tree, tree_of_file, trees};
+ghost use Rattle.proto_tree.specs.File.{item_tree, member_tree, message_tree, oneof_item_tree, tree_of_file, trees};
 
-use proto_tree::{Field, File, Item, Member, Message};
+use proto_ast::next_field;
+use proto_tree::{File, Item, Member, Message, OneofItem};
 
 /// Whether there is one field, and it has this name token.
-fn is_only(fields: &[Field], name: u32) -> bool
-    ensures { result ≡ is_only name (fields_in (trees field_tree fields.now)) }
+fn is_only(items: &[OneofItem], name: u32) -> bool
+    ensures { result ≡ is_only name (fields_in (trees oneof_item_tree items.now)) }
 {
-    match fields {
-        [] | [_, _, ..] => false,
-        [field] => field.name == name,
+    let Some((field, rest)) = next_field(items) else {
+        return false;
+    };
+    match next_field(rest) {
+        Some(_) => false,
+        None => field.name == name,
     }
 }
 

@@ -4,10 +4,10 @@ ghost use Rattle.std.specs.Prelude.{◌≡◌, Some, None, option_map};
 ghost use Rattle.proto_edit_rules.specs.Statements.{first_index, first_token};
 ghost use Rattle.proto_edit_statements.specs.FieldPlaces.{field_among, field_if, field_in, place_of_statement};
 ghost use Rattle.proto_tree.specs.declared.piece.Statement.TheVariants as statement;
-ghost use Rattle.proto_tree.specs.File.{field_tree, item_tree, member_tree, message_tree, oneof_tree, tree_of_file, trees};
+ghost use Rattle.proto_tree.specs.File.{item_tree, member_tree, message_tree, oneof_item_tree, oneof_tree, tree_of_file, trees};
 ghost use Rattle.proto_tree.specs.Flat.{flat_type};
 
-use proto_tree::{Field, FieldType, File, Item, MapField, Member, Message, Oneof};
+use proto_tree::{Field, FieldType, File, Item, MapField, Member, Message, Oneof, OneofItem};
 
 /// The statement of a field, by its first token, the token of its number, and its `;`; and the `}`
 /// of the oneof around it, if it is of one.
@@ -73,13 +73,23 @@ fn map_place(field: &MapField, name: u32) -> Option<FieldPlace>
     })
 }
 
-fn place_in_fields(fields: &[Field], name: u32, close: u32) -> Option<FieldPlace>
+fn place_in_item_of_oneof(item: &OneofItem, name: u32, close: u32) -> Option<FieldPlace>
+    ensures { result ≡ option_map place_of_statement
+        (field_among name (Some close) (oneof_item_tree item.now)) }
+{
+    match item {
+        OneofItem::Field(field) => field_place(field, name, Some(close)),
+        OneofItem::Option(_) => None,
+    }
+}
+
+fn place_in_items(items: &[OneofItem], name: u32, close: u32) -> Option<FieldPlace>
     ensures { result
         ≡ option_map place_of_statement (field_among name (Some close)
-        (trees field_tree fields.now)) }
+        (trees oneof_item_tree items.now)) }
 {
-    for field in fields {
-        if let Some(place) = field_place(field, name, Some(close)) {
+    for item in items {
+        if let Some(place) = place_in_item_of_oneof(item, name, close) {
             return Some(place);
         }
     }
@@ -90,7 +100,7 @@ fn place_in_fields(fields: &[Field], name: u32, close: u32) -> Option<FieldPlace
 fn place_in_oneof(oneof: &Oneof, name: u32) -> Option<FieldPlace>
     ensures { result ≡ option_map place_of_statement (field_in name (oneof_tree oneof.now)) }
 {
-    place_in_fields(&oneof.members, name, oneof.close)
+    place_in_items(&oneof.members, name, oneof.close)
 }
 
 #[cycle(messages)]

@@ -1,4 +1,5 @@
 -- What proofs of the crates above name of this crate, passed on from one place. Declares nothing.
+pub use Rattle.proto_files.proofs.CoreFiles.{core_files_are_written, core_files_stay_clean}
 pub use Rattle.proto_files.proofs.FaultOrder.{comes_before_cases}
 pub use Rattle.proto_files.proofs.FilesAreRead.{each_pushed}
 pub use Rattle.proto_files.proofs.OneOrder.{grammar_is_phase_2, one_order, paths_are_phase_0, texts_are_phase_1}

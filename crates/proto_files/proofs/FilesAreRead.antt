@@ -1,13 +1,13 @@
 -- The files of a workspace are read, one after the other (for the crates above).
 use Rattle.std.proofs.Common.{◌≡◌, ℕ, zero, suc, ◌<◌, List, [], ◌∷◌, ◌++◌, length, sym, subst, arith}
 use Rattle.proto_text.specs.Tokens.{AreTokens}
-use Rattle.proto_tree.proofs.Common.{End, Reads}
+use Rattle.proto_tree.proofs.Common.{End, ReadsIn}
 use Rattle.proto_files.specs.Common.{Each, ReadOf, AreRead, read_at, FileOf, file_at}
 
 -- what is read of the file with this number
 pub record IsReadAt (files : List FileOf) (k : ℕ) (r : ReadOf) : Type 0 where
   pub tokens : AreTokens (file_at files k).bytes r.tokens
-  pub tree : Reads (file_at files k).bytes r.tokens r.tree
+  pub tree : ReadsIn (file_at files k).profile (file_at files k).bytes r.tokens r.tree
 
 pub all_read : (files : List FileOf) (reads : List ReadOf) → length reads ≡ length files → Each (IsReadAt files) reads → AreRead files reads
 all_read files reads n h =

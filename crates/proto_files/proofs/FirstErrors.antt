@@ -3,16 +3,16 @@ use Rattle.std.proofs.Common.{◌≡◌, ℕ, zero, suc, ◌<◌, ◌≤◌, Lis
 use Rattle.proto_base.specs.declared.fault.FaultKind.{FaultKind}
 use Rattle.proto_base.specs.declared.fault.SchemaFault.{SchemaFault}
 use Rattle.proto_base.specs.declared.fault.SchemaFault.TheVariants.{Schema, NoMemory}
-use Rattle.proto_files.specs.Common.{LexedFile, ReadFile, fault_at, FileOf, file_at, IsTextFault, IsGrammarFault, HasNone, IsOnlyFault, IsFileError, IsFirstError, IsLexedFile, IsReadFile, lexed_files, read_files}
+use Rattle.proto_files.specs.Common.{LexedFile, ReadFile, fault_at, FileOf, file_at, no_file, IsTextFault, IsGrammarFault, HasNone, IsOnlyFault, IsFileError, IsFirstError, IsLexedFile, IsReadFile, lexed_files, read_files}
 use Rattle.std.proofs.lemmas.List.Elements.{All-push}
 use Rattle.proto_files.proofs.Members.{Member, member_at}
 
 abbrev Says : Type 1
-Says = List ℕ → ℕ → FaultKind → Type 0
+Says = FileOf → ℕ → FaultKind → Type 0
 
 -- no file of the list has such a fault
-abbrev pub NoneOf : (List ℕ → ℕ → FaultKind → Type 0) → List FileOf → Type 0
-NoneOf says files = (f : FileOf) → Member f files → HasNone says f.bytes
+abbrev pub NoneOf : (FileOf → ℕ → FaultKind → Type 0) → List FileOf → Type 0
+NoneOf says files = (f : FileOf) → Member f files → HasNone says f
 
 pub map_same : {X : Type 0} (xs : List X) → map (λ y. y) xs ≡ xs
 map_same [] = refl
@@ -34,36 +34,36 @@ length-map v [] = refl
 length-map v (x ∷ xs) = ap suc (length-map v xs)
 
 -- what a loop over `all` knows where it comes to x with an error
-pub first_error : {X : Type 0} (v : X → FileOf) (says : List ℕ → ℕ → FaultKind → Type 0) (all yielded : List X) (x : X) (done : List FileOf) (e : SchemaFault) → map (λ y. y) yielded ≡ take (length yielded) all → (length yielded < length all) × (x ≡ get_or all (length yielded) x) → done ≡ map v yielded → NoneOf says done → IsFileError says (v x) e → IsFirstError says (map v all) e
+pub first_error : {X : Type 0} (v : X → FileOf) (says : FileOf → ℕ → FaultKind → Type 0) (all yielded : List X) (x : X) (done : List FileOf) (e : SchemaFault) → map (λ y. y) yielded ≡ take (length yielded) all → (length yielded < length all) × (x ≡ get_or all (length yielded) x) → done ≡ map v yielded → NoneOf says done → IsFileError says (v x) e → IsFirstError says (map v all) e
 first_error v says all yielded x done NoMemory so_far at is none h = tt
 first_error {X} v says all yielded x done (Schema fault) so_far at is none h =
     let n = length yielded in
     let front : done ≡ map v (take n all) = is ∙ ap (map v) (sym (map_same yielded) ∙ so_far) in
-    let here : v x ≡ file_at (map v all) n = ap v at.1 ∙ sym (get_or-map_at v n all x (record { path = []; bytes = [] }) at.0) in
+    let here : v x ≡ file_at (map v all) n = ap v at.1 ∙ sym (get_or-map_at v n all x no_file at.0) in
     record {
       place = n;
       within = omega (arith, length-map v all, at.0);
       none_before = λ k lt.
           let short : n ≤ length all = omega (arith, at.0) in
           let inside : k < length done = omega (arith, ap length is, length-map v yielded) in
-          let found : get_or done k (record { path = []; bytes = [] }) ≡ file_at (map v all) k = ap (λ xs. get_or xs k (record { path = []; bytes = [] })) front ∙ get_or_taken v n k all (record { path = []; bytes = [] }) (record { path = []; bytes = [] }) lt short in
-          subst (λ (f : FileOf). HasNone says f.bytes) found (none (get_or done k (record { path = []; bytes = [] })) (member_at done k (record { path = []; bytes = [] }) inside));
+          let found : get_or done k no_file ≡ file_at (map v all) k = ap (λ xs. get_or xs k no_file) front ∙ get_or_taken v n k all no_file no_file lt short in
+          subst (λ (f : FileOf). HasNone says f) found (none (get_or done k no_file) (member_at done k no_file inside));
       is_only = subst (λ (f : FileOf). IsOnlyFault says f (fault_at fault)) here h;
     }
 
 pub none_lexed : (files : List LexedFile) → All IsLexedFile files → NoneOf IsTextFault (lexed_files files)
 none_lexed [] h f m = absurd m
-none_lexed (x ∷ files) h f (inl e) = subst (λ (g : FileOf). HasNone IsTextFault g.bytes) e (h 0 x (omega arith)).no_fault
+none_lexed (x ∷ files) h f (inl e) = subst (λ (g : FileOf). HasNone IsTextFault g) e (h 0 x (omega arith)).no_fault
 none_lexed (x ∷ files) h f (inr m) = none_lexed files (λ k d lt. h (suc k) d (omega arith)) f m
 
 pub none_read : (files : List ReadFile) → All IsReadFile files → NoneOf IsGrammarFault (read_files files)
 none_read [] h f m = absurd m
-none_read (x ∷ files) h f (inl e) = subst (λ (g : FileOf). HasNone IsGrammarFault g.bytes) e (h 0 x (omega arith)).no_fault
+none_read (x ∷ files) h f (inl e) = subst (λ (g : FileOf). HasNone IsGrammarFault g) e (h 0 x (omega arith)).no_fault
 none_read (x ∷ files) h f (inr m) = none_read files (λ k d lt. h (suc k) d (omega arith)) f m
 
 pub none_read_texts : (files : List ReadFile) → All IsReadFile files → NoneOf IsTextFault (read_files files)
 none_read_texts [] h f m = absurd m
-none_read_texts (x ∷ files) h f (inl e) = subst (λ (g : FileOf). HasNone IsTextFault g.bytes) e (h 0 x (omega arith)).no_text_fault
+none_read_texts (x ∷ files) h f (inl e) = subst (λ (g : FileOf). HasNone IsTextFault g) e (h 0 x (omega arith)).no_text_fault
 none_read_texts (x ∷ files) h f (inr m) = none_read_texts files (λ k d lt. h (suc k) d (omega arith)) f m
 
 -- this iteration's file is one of those that were given

@@ -2,7 +2,8 @@
 use Rattle.std.proofs.Common.{◌≡◌, ℕ, ◌+◌, ◌<◌, ◌≤◌, List, [], ◌∷◌, length, get_or, sym, ap, ◌∙◌, subst, arith, Option, Some, None, IsPermutation, String, Global, string_bytes}
 use Rattle.proto_base.proofs.Common.{Vec, IsPermutation-map}
 use Rattle.proto_base.specs.declared.fault.FaultKind.{FaultKind}
-use Rattle.proto_files.specs.Common.{NamedFile, IsInPathOrder, IsLeastFault, HasNoFault, FileOf, paths_of, files_of, AreWorkspaceFiles, named_files, named_paths, PathFaults, fault_before, fault_or, first_fault}
+use Rattle.proto_base.specs.declared.profile.Profile.{Profile}
+use Rattle.proto_files.specs.Common.{NamedFile, IsInPathOrder, IsLeastFault, HasNoFault, FileOf, paths_of, files_of_as, AreWorkspaceFiles, named_file, named_files, named_paths, PathFaults, fault_before, fault_or, first_fault}
 use Rattle.proto_files.proofs.PathWalk.{Passed, Outcome, walked}
 use Rattle.proto_files.proofs.NamedLists.{paths_of-named_files, length-named_paths, get_or-named_paths, workspace_files}
 
@@ -24,32 +25,32 @@ first_fault_ends place limit [] total e h = h
 first_fault_ends place limit (f ∷ left) total e h = absurd (omega arith)
 
 -- The files that are given have other names and another order than those that are walked.
-pub same_files : (given : List (String Global × Vec ℕ)) (named sorted : List NamedFile) → named_files named ≡ files_of given → IsPermutation named sorted → IsPermutation (files_of given) (named_files sorted)
-same_files given named sorted e h =
-    subst (λ (xs : List FileOf). IsPermutation xs (named_files sorted)) e (IsPermutation-map (λ (f : NamedFile). record { path = string_bytes f.path; bytes = f.bytes.items }) named sorted h)
+pub same_files : (p : Profile) (given : List (String Global × Vec ℕ)) (named sorted : List NamedFile) → named_files named ≡ files_of_as p given → IsPermutation named sorted → IsPermutation (files_of_as p given) (named_files sorted)
+same_files p given named sorted e h =
+    subst (λ (xs : List FileOf). IsPermutation xs (named_files sorted)) e (IsPermutation-map named_file named sorted h)
 
-pub same_paths : (given : List (String Global × Vec ℕ)) (named sorted : List NamedFile) → named_files named ≡ files_of given → IsPermutation named sorted → IsPermutation (paths_of (files_of given)) (named_paths sorted)
-same_paths given named sorted e h =
-    subst (λ (xs : List (List ℕ)). IsPermutation (paths_of (files_of given)) xs) (paths_of-named_files sorted)
-    (IsPermutation-map (λ (f : FileOf). f.path) (files_of given) (named_files sorted) (same_files given named sorted e h))
+pub same_paths : (p : Profile) (given : List (String Global × Vec ℕ)) (named sorted : List NamedFile) → named_files named ≡ files_of_as p given → IsPermutation named sorted → IsPermutation (paths_of (files_of_as p given)) (named_paths sorted)
+same_paths p given named sorted e h =
+    subst (λ (xs : List (List ℕ)). IsPermutation (paths_of (files_of_as p given)) xs) (paths_of-named_files sorted)
+    (IsPermutation-map (λ (f : FileOf). f.path) (files_of_as p given) (named_files sorted) (same_files p given named sorted e h))
 
-pub clean_walk : (limit : ℕ) (given : List (String Global × Vec ℕ)) (named sorted : List NamedFile) → named_files named ≡ files_of given → IsPermutation named sorted → IsInPathOrder (named_paths sorted) → None ≡ first_fault 0 limit (named_paths sorted) → HasNoFault (PathFaults limit (paths_of (files_of given))) × Passed limit (named_paths sorted) []
-clean_walk limit given named sorted e h o is =
+pub clean_walk : (p : Profile) (limit : ℕ) (given : List (String Global × Vec ℕ)) (named sorted : List NamedFile) → named_files named ≡ files_of_as p given → IsPermutation named sorted → IsInPathOrder (named_paths sorted) → None ≡ first_fault 0 limit (named_paths sorted) → HasNoFault (PathFaults limit (paths_of (files_of_as p given))) × Passed limit (named_paths sorted) []
+clean_walk p limit given named sorted e h o is =
     let all = named_paths sorted in
-    let paths = paths_of (files_of given) in
-    subst (λ (r : Option (ℕ × FaultKind)). Outcome limit paths all (same_paths given named sorted e h) r) (sym is) (walked limit paths all (same_paths given named sorted e h) o)
+    let paths = paths_of (files_of_as p given) in
+    subst (λ (r : Option (ℕ × FaultKind)). Outcome limit paths all (same_paths p given named sorted e h) r) (sym is) (walked limit paths all (same_paths p given named sorted e h) o)
 
-pub clean_files : (limit : ℕ) (given : List (String Global × Vec ℕ)) (named sorted : List NamedFile) → limit ≤ 4096 → named_files named ≡ files_of given → IsPermutation named sorted → IsInPathOrder (named_paths sorted) → None ≡ first_fault 0 limit (named_paths sorted) → AreWorkspaceFiles (named_files sorted)
-clean_files limit given named sorted small e h o is =
+pub clean_files : (p : Profile) (limit : ℕ) (given : List (String Global × Vec ℕ)) (named sorted : List NamedFile) → limit ≤ 4096 → named_files named ≡ files_of_as p given → IsPermutation named sorted → IsInPathOrder (named_paths sorted) → None ≡ first_fault 0 limit (named_paths sorted) → AreWorkspaceFiles (named_files sorted)
+clean_files p limit given named sorted small e h o is =
     workspace_files limit (named_files sorted) small
-    (subst (λ (xs : List (List ℕ)). Passed limit xs []) (sym (paths_of-named_files sorted)) (clean_walk limit given named sorted e h o is).1)
+    (subst (λ (xs : List (List ℕ)). Passed limit xs []) (sym (paths_of-named_files sorted)) (clean_walk p limit given named sorted e h o is).1)
 
-pub stopped_walk : (limit : ℕ) (given : List (String Global × Vec ℕ)) (named sorted : List NamedFile) → named_files named ≡ files_of given → IsPermutation named sorted → IsInPathOrder (named_paths sorted) → (place : ℕ) (kind : FaultKind) (file : NamedFile) → Some (place, kind) ≡ first_fault 0 limit (named_paths sorted) → file ≡ get_or sorted place file → IsLeastFault (PathFaults limit (paths_of (files_of given))) (record { path = string_bytes file.path; offset = 0; kind = kind })
-stopped_walk limit given named sorted e h o place kind file is at =
+pub stopped_walk : (p : Profile) (limit : ℕ) (given : List (String Global × Vec ℕ)) (named sorted : List NamedFile) → named_files named ≡ files_of_as p given → IsPermutation named sorted → IsInPathOrder (named_paths sorted) → (place : ℕ) (kind : FaultKind) (file : NamedFile) → Some (place, kind) ≡ first_fault 0 limit (named_paths sorted) → file ≡ get_or sorted place file → IsLeastFault (PathFaults limit (paths_of (files_of_as p given))) (record { path = string_bytes file.path; offset = 0; kind = kind })
+stopped_walk p limit given named sorted e h o place kind file is at =
     let all = named_paths sorted in
-    let paths = paths_of (files_of given) in
+    let paths = paths_of (files_of_as p given) in
     let found : (place < length all) × IsLeastFault (PathFaults limit paths) (record { path = get_or all place []; offset = 0; kind = kind }) =
-    subst (λ (r : Option (ℕ × FaultKind)). Outcome limit paths all (same_paths given named sorted e h) r) (sym is) (walked limit paths all (same_paths given named sorted e h) o) in
+    subst (λ (r : Option (ℕ × FaultKind)). Outcome limit paths all (same_paths p given named sorted e h) r) (sym is) (walked limit paths all (same_paths p given named sorted e h) o) in
     let within : place < length sorted = omega (arith, found.0, length-named_paths sorted) in
     let path : get_or all place [] ≡ string_bytes file.path = get_or-named_paths sorted place file [] within ∙ ap (λ (f : NamedFile). string_bytes f.path) (sym at) in
     subst (λ (q : List ℕ). IsLeastFault (PathFaults limit paths) (record { path = q; offset = 0; kind = kind })) path found.1

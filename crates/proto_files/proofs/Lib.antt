@@ -10,6 +10,7 @@ pub mod FirstFaultSteps
 pub mod FirstErrors
 pub mod FileErrors
 pub mod LeastOfFiles
+pub mod CoreFiles
 pub mod OneLeast
 mod Rows
 pub mod OneOrder

@@ -1,7 +1,8 @@
 -- Named files as files of a workspace.
 use Rattle.std.proofs.Common.{◌≡◌, ℕ, zero, suc, ◌<◌, ◌≤◌, Bool, List, [], ◌∷◌, length, map, get_or, refl, sym, ap, ◌∙◌, subst, inl, inr, arith, AllPairs, String, Global, string_bytes, is_lt, IsSortedBy}
+use Rattle.proto_base.specs.declared.profile.Profile.{Profile}
 use Rattle.proto_base.proofs.Common.{Vec, IsStrictWeakOrder, false≢true, nat_list_cmp_total, sorted_far, ranks_by}
-use Rattle.proto_files.specs.Common.{NamedFile, path_cmp, IsBefore, IsInPathOrder, IsWorkspacePath, FileOf, paths_of, file_of, files_of, AreWorkspaceFiles, named_files, named_paths}
+use Rattle.proto_files.specs.Common.{NamedFile, path_cmp, IsBefore, IsInPathOrder, IsWorkspacePath, FileOf, paths_of, file_of_as, files_of_as, AreWorkspaceFiles, named_files, named_paths}
 use Rattle.proto_files.proofs.Members.{Member, All-from_members, member_at}
 use Rattle.proto_files.proofs.PathOrder.{PathsRise}
 use Rattle.proto_files.proofs.PathWalk.{Passed}
@@ -10,13 +11,13 @@ pub paths_of-named_files : (files : List NamedFile) → paths_of (named_files fi
 paths_of-named_files [] = refl
 paths_of-named_files (f ∷ files) = ap (λ rest. string_bytes f.path ∷ rest) (paths_of-named_files files)
 
--- a pair that is given, by names
-abbrev pub name_pair : String Global × Vec ℕ → NamedFile
-name_pair given = record { path = given.0; bytes = given.1 }
+-- a pair that is given in a language, by names
+abbrev pub name_pair : Profile → String Global × Vec ℕ → NamedFile
+name_pair p given = record { path = given.0; bytes = given.1; profile = p }
 
-pub named_files-map : (given : List (String Global × Vec ℕ)) → named_files (map name_pair given) ≡ files_of given
-named_files-map [] = refl
-named_files-map (g ∷ given) = ap (λ rest. file_of g ∷ rest) (named_files-map given)
+pub named_files-map : (p : Profile) (given : List (String Global × Vec ℕ)) → named_files (map (name_pair p) given) ≡ files_of_as p given
+named_files-map p [] = refl
+named_files-map p (g ∷ given) = ap (λ rest. file_of_as p g ∷ rest) (named_files-map p given)
 
 pub length-named_paths : (files : List NamedFile) → length (named_paths files) ≡ length files
 length-named_paths [] = refl

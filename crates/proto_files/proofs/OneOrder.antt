@@ -53,7 +53,7 @@ pub paths_are_phase_0 : PathsArePhase0
 paths_are_phase_0 limit paths x f = path_phase limit paths x.kind x.path f.1
 
 pub texts_are_phase_1 : TextsArePhase1
-texts_are_phase_1 files x f = text_phase f.0.bytes x.offset x.kind f.3
+texts_are_phase_1 files x f = text_phase f.0 x.offset x.kind f.3
 
 pub grammar_is_phase_2 : GrammarIsPhase2
-grammar_is_phase_2 files x f = grammar_phase f.0.bytes x.offset x.kind f.3
+grammar_is_phase_2 files x f = grammar_phase f.0 x.offset x.kind f.3

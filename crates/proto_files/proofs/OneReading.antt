@@ -2,16 +2,16 @@
 use Rattle.std.proofs.Common.{◌≡◌, ℕ, ◌<◌, List, length, map, ◌∙◌, ap}
 use Rattle.proto_text.specs.declared.lexer.Token.{Token}
 use Rattle.proto_text.proofs.Common.{Lexeme, lexeme_at, AreTokens, one_token_list}
-use Rattle.proto_tree.proofs.Common.{Tree, Reads, classed, one_tree}
+use Rattle.proto_tree.proofs.Common.{Tree, ReadsIn, classed_in, one_tree}
 use Rattle.proto_files.specs.Common.{FileOf, file_at, ReadOf, AreRead, read_at}
 
 -- what answers for a file's tree
-abbrev pub IsTreeOf : List ℕ → Tree → Type 0
-IsTreeOf text tree = (tokens : List Token) → AreTokens text tokens → Reads text tokens tree
+abbrev pub IsTreeOf : FileOf → Tree → Type 0
+IsTreeOf f tree = (tokens : List Token) → AreTokens f.bytes tokens → ReadsIn f.profile f.bytes tokens tree
 
-pub same_tree : (files : List FileOf) (reads : List ReadOf) (k : ℕ) (tree : Tree) → AreRead files reads → k < length files → IsTreeOf (file_at files k).bytes tree → (read_at reads k).tree ≡ tree
+pub same_tree : (files : List FileOf) (reads : List ReadOf) (k : ℕ) (tree : Tree) → AreRead files reads → k < length files → IsTreeOf (file_at files k) tree → (read_at reads k).tree ≡ tree
 same_tree files reads k tree are l t =
-    one_tree (read_at reads k).tree tree (classed (file_at files k).bytes (read_at reads k).tokens) (are.trees k l).spells (t (read_at reads k).tokens (are.tokens k l)).spells
+    one_tree (read_at reads k).tree tree (classed_in (file_at files k).profile (file_at files k).bytes (read_at reads k).tokens) (are.trees k l).spells (t (read_at reads k).tokens (are.tokens k l)).spells
 
 -- the tokens of a file with their texts
 pub record AreWordsAt (files : List FileOf) (k : ℕ) (tokens : List Token) (ls : List Lexeme) : Type 0 where

@@ -4,7 +4,7 @@ use Rattle.std.proofs.lemmas.Option.{get_or_from_slice_get, slice_get_within}
 use Rattle.proto_text.specs.declared.kind.TokenKind.TheVariants.{Text}
 use Rattle.proto_text.specs.declared.lexer.Token.{Token}
 use Rattle.proto_text.proofs.Common.{IsSpan, text_at, IsString, offset_at, words, AreTokens, one_token_list, word_at_token, text_token_is_string}
-use Rattle.proto_tree.proofs.Common.{tree_of_file, Reads}
+use Rattle.proto_tree.proofs.Common.{tree_of_file, ReadsIn}
 use Rattle.proto_files.specs.Common.{ReadFile, ReadOf, AreRead, read_at, FileOf, file_at, IsReadFile, read_files}
 use Rattle.proto_files.specs.FileTokens.{AreTokensOf, HasString}
 use Rattle.proto_files.proofs.LeastOfFiles.{file_at-read, length-read_files}
@@ -60,7 +60,7 @@ length-reads : (files : List ReadFile) → length (map read_of files) ≡ length
 length-reads [] = refl
 length-reads (f ∷ files) = ap suc (length-reads files)
 
-each_is_read : (files : List ReadFile) → All IsReadFile files → (k : ℕ) → k < length files → Reads (file_at (read_files files) k).bytes (read_at (map read_of files) k).tokens (read_at (map read_of files) k).tree
+each_is_read : (files : List ReadFile) → All IsReadFile files → (k : ℕ) → k < length files → ReadsIn (file_at (read_files files) k).profile (file_at (read_files files) k).bytes (read_at (map read_of files) k).tokens (read_at (map read_of files) k).tree
 each_is_read [] all k lt = absurd (omega (arith, lt))
 each_is_read (f ∷ files) all zero lt = (all 0 f lt).reads
 each_is_read (f ∷ files) all (suc k) lt = each_is_read files (λ i d l. all (suc i) d (omega (arith, l))) k (omega (arith, lt))

@@ -2,7 +2,7 @@
 use Rattle.std.specs.Prelude.{◌≡◌, ℕ, ◌<◌, List, [], length, get_or, slice_index_or}
 use Rattle.proto_text.specs.declared.lexer.Token.{Token}
 use Rattle.proto_text.specs.Tokens.{AreTokens}
-use Rattle.proto_tree.specs.Reads.{Reads}
+use Rattle.proto_tree.specs.Reads.{ReadsIn}
 use Rattle.proto_tree.specs.Tree.{Tree, End}
 use Rattle.proto_files.specs.GivenFiles.{FileOf, file_at}
 
@@ -21,7 +21,8 @@ pub record AreRead (files : List FileOf) (reads : List ReadOf) : Type 0 where
   pub tokens : (k : ℕ) → k < length files
       → AreTokens (file_at files k).bytes (read_at reads k).tokens
   pub trees : (k : ℕ) → k < length files
-      → Reads (file_at files k).bytes (read_at reads k).tokens (read_at reads k).tree
+      → ReadsIn (file_at files k).profile (file_at files k).bytes (read_at reads k).tokens
+      (read_at reads k).tree
 
 -- each element of a list, by its index
 abbrev pub Each : {A : Type 0} → (ℕ → A → Type 0) → List A → Type 0

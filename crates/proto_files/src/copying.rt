@@ -8,7 +8,7 @@ use crate::files::Files;
 use crate::stages::ReadFile;
 use proto_base::NoMemory;
 use proto_text::Source;
-use proto_tree::parse;
+use proto_tree::parse_as;
 use std::alloc::Global;
 
 fn copy_source(alloc: Global, source: &Source) -> Result<Source, NoMemory>
@@ -30,12 +30,13 @@ fn copy_file(alloc: Global, file: &ReadFile) -> Result<ReadFile, NoMemory>
     let path = String::from_str(alloc, file.path.as_str())?;
     let source = copy_source(alloc, &file.source)?;
     let tokens = Vec::from_slice(alloc, file.tokens.as_slice())?;
-    match parse(alloc, &source, &tokens) {
+    match parse_as(alloc, &source, &tokens, file.profile) {
         Ok(tree) => Ok(ReadFile {
             path,
             source,
             tokens,
             tree,
+            profile: file.profile,
         }),
         // There is a tree, so that only memory can be wanting.
         Err(_) => Err(NoMemory),

@@ -9,7 +9,7 @@ ghost use Rattle.proto_text.specs.Texts.{words};
 ghost use Rattle.proto_text.specs.Tokens.{AreTokens};
 ghost use Rattle.proto_text.specs.Values.{StandsFor, value_of};
 ghost use Rattle.proto_tree.specs.File.{tree_of_file};
-ghost use Rattle.proto_tree.specs.Reads.{Reads};
+ghost use Rattle.proto_tree.specs.Reads.{ReadsIn};
 ghost use Rattle.proto_files.specs.Faults.{HasNoFault, IsFilesError};
 ghost use Rattle.proto_files.specs.FileTokens.{AreTokensOf, HasToken, HasString};
 ghost use Rattle.proto_files.specs.FilesRead.{AreRead, ReadOf};
@@ -21,7 +21,7 @@ ghost use Rattle.proto_files.specs.Stages.{read_files};
 use crate::paths::Paths;
 use crate::reading::{lex_files, parse_files};
 use crate::stages::ReadFile;
-use proto_base::{NoMemory, SchemaFault};
+use proto_base::{NoMemory, Profile, SchemaFault};
 use proto_text::{Source, Token, string_value};
 use proto_tree::File;
 use std::alloc::Global;
@@ -98,6 +98,14 @@ impl Files {
         self.files[place as usize].path.as_str()
     }
 
+    /// The language of the file at a place.
+    pub fn profile(&self, place: u32) -> Profile
+        requires { place < length self.now }
+        ensures { result ≡ (file_at self.now place).profile }
+    {
+        self.files[place as usize].profile
+    }
+
     /// The text of the file at a place.
     pub fn source(&self, place: u32) -> &Source
         requires { place < length self.now }
@@ -120,7 +128,8 @@ impl Files {
     pub fn tree(&self, place: u32) -> &File
         requires { place < length self.now }
         ensures { (tokens : List Token) → AreTokens (file_at self.now place).bytes tokens
-            → Reads (file_at self.now place).bytes tokens (tree_of_file result.now) }
+            → ReadsIn (file_at self.now place).profile (file_at self.now place).bytes tokens
+            (tree_of_file result.now) }
     {
         &self.files[place as usize].tree
     }

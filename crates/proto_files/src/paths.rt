@@ -2,7 +2,7 @@
 
 ghost use Rattle.std.specs.Prelude.{◌≡◌, ◌≤◌, ◌<◌, length, map, IfOk, IfErr, IfSome, IsPermutation};
 ghost use Rattle.proto_files.specs.Faults.{HasNoFault, IsFilesError};
-ghost use Rattle.proto_files.specs.GivenFiles.{AreWorkspaceFiles, paths_of, files_of};
+ghost use Rattle.proto_files.specs.GivenFiles.{AreWorkspaceFiles, paths_of, files_of, files_of_as};
 ghost use Rattle.proto_files.specs.Stages.{named_files, named_paths};
 ghost use Rattle.proto_files.specs.WorkspacePaths.{IsInPathOrder};
 ghost use Rattle.proto_files.specs.PathFaults.{PathFaults};
@@ -10,7 +10,7 @@ ghost use Rattle.proto_files.specs.FirstFault.{begins_with, fault_before, first_
 
 use crate::path::is_workspace_path;
 use crate::stages::NamedFile;
-use proto_base::{Fault, FaultKind, SchemaFault};
+use proto_base::{Fault, FaultKind, Profile, SchemaFault};
 use std::alloc::{AllocError, Global};
 use std::marker::Model;
 
@@ -36,12 +36,20 @@ impl Model for Paths {
     ghost invariant = { λ p. AreWorkspaceFiles (named_files p.files.items) };
 }
 
-fn name_files(alloc: Global, files: Vec<(String, Vec<u8>)>) -> Result<Vec<NamedFile>, AllocError>
-    ensures { IfOk result (λ named. named_files named.items ≡ files_of files.items) }
+fn name_files(
+    alloc: Global,
+    files: Vec<(String, Vec<u8>)>,
+    profile: Profile,
+) -> Result<Vec<NamedFile>, AllocError>
+    ensures { IfOk result (λ named. named_files named.items ≡ files_of_as profile files.items) }
 {
     files
         .into_iter()
-        .map(|(path, bytes)| NamedFile { path, bytes })
+        .map(|(path, bytes)| NamedFile {
+            path,
+            bytes,
+            profile,
+        })
         .collect(alloc)
 }
 
@@ -109,7 +117,24 @@ impl Paths {
         Paths::up_to(alloc, MAX_FILES, files)
     }
 
-    /// The same, where a workspace has at most `limit` files.
+    /// The files of a language in the order of their paths; otherwise as `new`.
+    pub fn new_as(
+        alloc: Global,
+        files: Vec<(String, Vec<u8>)>,
+        profile: Profile,
+    ) -> Result<Paths, SchemaFault>
+        ensures clean { IfOk result (λ _. HasNoFault
+            (PathFaults MAX_FILES (paths_of (files_of_as profile files.items)))) }
+        ensures same { IfOk result (λ paths. IsPermutation
+            (files_of_as profile files.items) paths) }
+        ensures in_order { IfOk result (λ paths. AreWorkspaceFiles paths) }
+        ensures fault { IfErr result (λ e. IsFilesError
+            (PathFaults MAX_FILES (paths_of (files_of_as profile files.items))) e) }
+    {
+        Paths::up_to_as(alloc, MAX_FILES, files, profile)
+    }
+
+    /// As `new`, where a workspace has at most `limit` files.
     pub fn up_to(
         alloc: Global,
         limit: usize,
@@ -123,7 +148,26 @@ impl Paths {
         ensures fault { IfErr result (λ e. IsFilesError
             (PathFaults limit (paths_of (files_of files.items))) e) }
     {
-        let mut files = name_files(alloc, files)?;
+        Paths::up_to_as(alloc, limit, files, Profile::Core)
+    }
+
+    // As `up_to`, for files of a language.
+    fn up_to_as(
+        alloc: Global,
+        limit: usize,
+        files: Vec<(String, Vec<u8>)>,
+        profile: Profile,
+    ) -> Result<Paths, SchemaFault>
+        requires { limit ≤ MAX_FILES }
+        ensures clean { IfOk result (λ _. HasNoFault
+            (PathFaults limit (paths_of (files_of_as profile files.items)))) }
+        ensures same { IfOk result (λ paths. IsPermutation
+            (files_of_as profile files.items) paths) }
+        ensures in_order { IfOk result (λ paths. AreWorkspaceFiles paths) }
+        ensures fault { IfErr result (λ e. IsFilesError
+            (PathFaults limit (paths_of (files_of_as profile files.items))) e) }
+    {
+        let mut files = name_files(alloc, files, profile)?;
         sort_by_path(&mut files);
         match first_fault(&files, limit) {
             None => Ok(Paths { files }),

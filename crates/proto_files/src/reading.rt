@@ -8,8 +8,8 @@ ghost use Rattle.proto_files.specs.Stages.{named_file, named_files, lexed_file, 
 use crate::stages::{LexedFile, NamedFile, ReadFile};
 use crate::text_faults::{grammar_error, text_error};
 use proto_base::SchemaFault;
-use proto_text::{Source, lex};
-use proto_tree::parse;
+use proto_text::{Source, lex_as};
+use proto_tree::parse_as;
 use std::alloc::Global;
 
 fn lex_file(alloc: Global, file: NamedFile) -> Result<LexedFile, SchemaFault>
@@ -17,16 +17,21 @@ fn lex_file(alloc: Global, file: NamedFile) -> Result<LexedFile, SchemaFault>
     ensures lexed { IfOk result IsLexedFile }
     ensures fault { IfErr result (IsFileError IsTextFault (named_file file)) }
 {
-    let NamedFile { path, bytes } = file;
+    let NamedFile {
+        path,
+        bytes,
+        profile,
+    } = file;
     let source = match Source::new(bytes) {
         Ok(source) => source,
         Err(fault) => return Err(text_error(path, fault)),
     };
-    match lex(alloc, &source) {
+    match lex_as(alloc, &source, profile) {
         Ok(tokens) => Ok(LexedFile {
             path,
             source,
             tokens,
+            profile,
         }),
         Err(fault) => Err(text_error(path, fault)),
     }
@@ -55,13 +60,15 @@ fn parse_file(alloc: Global, file: LexedFile) -> Result<ReadFile, SchemaFault>
         path,
         source,
         tokens,
+        profile,
     } = file;
-    match parse(alloc, &source, &tokens) {
+    match parse_as(alloc, &source, &tokens, profile) {
         Ok(tree) => Ok(ReadFile {
             path,
             source,
             tokens,
             tree,
+            profile,
         }),
         Err(fault) => Err(grammar_error(path, fault)),
     }

@@ -3,7 +3,7 @@
 ghost use Rattle.std.specs.Prelude.{◌≡◌, ◌<◌, length, position, slice_set};
 ghost use Rattle.std.specs.Str.{bytes_eq};
 ghost use Rattle.proto_tree.specs.File.{tree_of_file};
-ghost use Rattle.proto_tree.specs.Reads.{Reads};
+ghost use Rattle.proto_tree.specs.Reads.{ReadsIn};
 ghost use Rattle.proto_files.specs.GivenFiles.{file_at, paths_of};
 
 use crate::files::Files;
@@ -26,8 +26,8 @@ impl Files {
         }
     }
 
-    /// Gives the file at a place another text, with its tokens and its tree; answers what stood
-    /// there. Takes no memory.
+    /// Gives the file at a place another text of its language, with its tokens and its tree; answers
+    /// what stood there. Takes no memory.
     pub fn set(
         &mut self,
         file: u32,
@@ -36,11 +36,13 @@ impl Files {
         tree: File,
     ) -> (Source, Vec<Token>, File)
         requires file { file < length self.old }
-        requires read { Reads source tokens.items (tree_of_file tree) }
+        requires read { ReadsIn (file_at self.old file).profile source tokens.items
+            (tree_of_file tree) }
         ensures files { self.new ≡ slice_set self.old file
-            (record { path = (file_at self.old file).path; bytes = source }) }
+            (record (file_at self.old file) { bytes = source }) }
         ensures source { result.0 ≡ (file_at self.old file).bytes }
-        ensures read { Reads result.0 result.1.items (tree_of_file result.2) }
+        ensures read { ReadsIn (file_at self.old file).profile result.0 result.1.items
+            (tree_of_file result.2) }
     {
         // The bytes of a source are those of a text.
         let _text = source.as_bytes();

@@ -15,7 +15,7 @@ in_order (Some now) listed sorted l p s = (l.0, sorted_paths listed sorted now.f
 -- none of their files is read yet
 pub none_read : (held : Option Held) (paths : List (String Global)) → ArePathsOf held (map string_bytes paths) → Loads held [] paths
 none_read None paths are = tt
-none_read (Some now) paths are = (now.files, are.0, refl, are.1)
+none_read (Some now) paths are = ([], now.files, are.0, refl, refl, are.1)
 
 abbrev pub names_of : List (String Global × Vec ℕ) → List (List ℕ)
 names_of files = paths_of (files_of files)

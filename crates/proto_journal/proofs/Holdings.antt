@@ -1,7 +1,7 @@
 -- What a store holds after writes, told by what it held before them.
 use Rattle.std.proofs.Common.{◌≡◌, ◌⊎◌, inl, inr, ℕ, List, Option, Some, None, refl, sym, ap, ◌∙◌, subst, IsSome, option_map}
 use Rattle.proto_files.specs.GivenFiles.{FileOf, paths_of}
-use Rattle.proto_store.specs.Stores.{Held, HoldsFiles, IsListed, bytes_at, with_bytes, with_file, with_journal}
+use Rattle.proto_store.specs.Stores.{Held, HoldsFiles, IsListed, bytes_at, with_bytes, with_file, with_journal, languages_of}
 use Rattle.proto_journal_records.specs.Torn.{IsBetween}
 use Rattle.proto_journal.specs.Written.{AreBetween, Passes, held, with_these_files}
 use Rattle.proto_journal.proofs.Between.{between_as_after, between_as_before}
@@ -58,17 +58,17 @@ module _ (before after : List FileOf) (first last : List ℕ) where
   pub cut_files : (h mid now : Option Held) → mid ≡ option_map (with_journal first) h → AreBetween before after mid now → Passes before after first last h now
   cut_files h mid now e b = cut_between h now (subst (λ (z : Option Held). AreBetween before after z now) e b)
 
-  full : (h : Option Held) → paths_of after ≡ paths_of before → Passes before after first last h (option_map (with_these_files after) (option_map (with_journal first) h))
-  full None p = inr (inl tt)
-  full (Some then) p = inr (inl (refl, between_as_after before after after p refl))
+  full : (h : Option Held) → paths_of after ≡ paths_of before → languages_of after ≡ languages_of before → Passes before after first last h (option_map (with_these_files after) (option_map (with_journal first) h))
+  full None p q = inr (inl tt)
+  full (Some then) p q = inr (inl (refl, between_as_after before after after p q refl))
 
   -- the last write failed
-  pub cut_last : (h mid late now : Option Held) → paths_of after ≡ paths_of before → mid ≡ option_map (with_journal first) h → late ≡ option_map (with_these_files after) mid
+  pub cut_last : (h mid late now : Option Held) → paths_of after ≡ paths_of before → languages_of after ≡ languages_of before → mid ≡ option_map (with_journal first) h → late ≡ option_map (with_these_files after) mid
       → (now ≡ late) ⊎ (now ≡ option_map (with_journal last) late) → Passes before after first last h now
-  cut_last h mid late now p m l c =
+  cut_last h mid late now p q m l c =
       let here : late ≡ option_map (with_these_files after) (option_map (with_journal first) h) = l ∙ ap (option_map (with_these_files after)) m in
       elim c [
-        | inl same ↦ subst (λ (z : Option Held). Passes before after first last h z) (sym (same ∙ here)) (full h p)
+        | inl same ↦ subst (λ (z : Option Held). Passes before after first last h z) (sym (same ∙ here)) (full h p q)
         | inr there ↦ inr (inr (there ∙ ap (option_map (with_journal last)) here ∙ all_written h first last after))
       ]
 

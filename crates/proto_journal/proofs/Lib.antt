@@ -9,6 +9,6 @@ mod PutPaths
 mod TornUndos
 mod CutCalls
 mod OneOutcome
-mod Loaded
+pub mod Loaded
 mod PathsFirst
 mod Gathered

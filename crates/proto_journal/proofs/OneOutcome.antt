@@ -18,6 +18,7 @@ use Rattle.proto_journal_records.proofs.Comebacks.{same_ends}
 use Rattle.proto_store.specs.Stores.{Held}
 use Rattle.proto_journal.specs.Common.{CommitOutcome, IsCommitted, IsFull, Stays, CommitsAreOne, IsSameAnswer, IsSameRefusal, UndosAreOne, EndsIn, IsStale, IsUndone, UndoOutcome}
 use Rattle.proto_journal.proofs.Recorded.{last_of}
+use Rattle.proto_edit.specs.CustomOptions.{IsCustomAt}
 
 -- ---- refusals
 
@@ -42,9 +43,10 @@ plain n =
 
 -- a refusal has no place, and its number tells it; or it has the place that the edit is refused with
 data IsTold (from : List FileOf) (e : Asked) : Refusal → Type 0 where
-  by_number : (r : Refusal) → plain (refusal_number r) ≡ r → (refusal_number r == 7) ≡ false → (refusal_number r == 15) ≡ false → IsTold from e r
+  by_number : (r : Refusal) → plain (refusal_number r) ≡ r → (refusal_number r == 7) ≡ false → (refusal_number r == 15) ≡ false → (refusal_number r == 19) ≡ false → IsTold from e r
   captured : (path : String Global) (offset : ℕ) → IsCaseAt from e (string_bytes path) offset → IsTold from e (refusal.Captured path offset)
   needed : (path : String Global) (offset : ℕ) → IsCaseAt from e (string_bytes path) offset → IsTold from e (refusal.Needed path offset)
+  custom : (path : String Global) (offset : ℕ) → IsCustomAt from (string_bytes path) offset → IsTold from e (refusal.OptionValue path offset)
 
 -- a refused edit: the store was ready, and the refusal is the least case
 record IsRefused (e : Asked) (from to : List FileOf) (old : Held) (new : Option Held) (r : Refusal) : Type 0 where
@@ -58,11 +60,13 @@ unfolding plain
 is_refused e from to old new refusal.NoMemory o = absurd o
 is_refused e from to old new (refusal.Captured path offset) o = record { stay = o.0; ready = o.1; least = o.2.0; is = captured path offset o.2.1 }
 is_refused e from to old new (refusal.Needed path offset) o = record { stay = o.0; ready = o.1; least = o.2.0; is = needed path offset o.2.1 }
-is_refused e from to old new r o = record { stay = o.0; ready = o.1; least = o.2; is = by_number r refl refl refl }
+is_refused e from to old new (refusal.OptionValue path offset) o = record { stay = o.0; ready = o.1; least = o.2.0; is = custom path offset o.2.1 }
+is_refused e from to old new r o = record { stay = o.0; ready = o.1; least = o.2; is = by_number r refl refl refl refl }
 
 same_itself : (r : Refusal) → IsSameRefusal r r
 same_itself (refusal.Captured path offset) = (refl, refl)
 same_itself (refusal.Needed path offset) = (refl, refl)
+same_itself (refusal.OptionValue path offset) = (refl, refl)
 same_itself r = refl
 
 -- the number is this one, and is not
@@ -71,15 +75,22 @@ numbered m n same itself differs = let e : true ≡ false = sym itself ∙ ap (�
 
 -- one number and one place, one refusal
 told_alike : RefusedOnce → (from : List FileOf) (e : Asked) (r s : Refusal) → AreCompiled from → refusal_number r ≡ refusal_number s → IsTold from e r → IsTold from e s → IsSameRefusal r s
-told_alike refused_once from e r s has same (by_number x p a b) (by_number y q c d) = subst (λ (z : Refusal). IsSameRefusal r z) (sym p ∙ ap plain same ∙ q) (same_itself r)
-told_alike refused_once from e r s has same (by_number x p a b) (captured path offset there) = numbered (refusal_number r) 7 same refl a
-told_alike refused_once from e r s has same (by_number x p a b) (needed path offset there) = numbered (refusal_number r) 15 same refl b
-told_alike refused_once from e r s has same (captured path offset there) (by_number y q c d) = numbered (refusal_number s) 7 (sym same) refl c
-told_alike refused_once from e r s has same (captured path offset x) (captured file other y) = (refused_once from e has).1 (string_bytes path) (string_bytes file) offset other x y
+told_alike refused_once from e r s has same (by_number x p a b z) (by_number y q c d w) = subst (λ (z : Refusal). IsSameRefusal r z) (sym p ∙ ap plain same ∙ q) (same_itself r)
+told_alike refused_once from e r s has same (by_number x p a b z) (captured path offset there) = numbered (refusal_number r) 7 same refl a
+told_alike refused_once from e r s has same (by_number x p a b z) (needed path offset there) = numbered (refusal_number r) 15 same refl b
+told_alike refused_once from e r s has same (by_number x p a b z) (custom path offset there) = numbered (refusal_number r) 19 same refl z
+told_alike refused_once from e r s has same (captured path offset there) (by_number y q c d w) = numbered (refusal_number s) 7 (sym same) refl c
+told_alike refused_once from e r s has same (captured path offset x) (captured file other y) = ((refused_once from e has).1).0 (string_bytes path) (string_bytes file) offset other x y
 told_alike refused_once from e r s has same (captured path offset x) (needed file other y) = numbered 7 15 same refl refl
-told_alike refused_once from e r s has same (needed path offset there) (by_number y q c d) = numbered (refusal_number s) 15 (sym same) refl d
+told_alike refused_once from e r s has same (captured path offset x) (custom file other y) = numbered 7 19 same refl refl
+told_alike refused_once from e r s has same (needed path offset there) (by_number y q c d w) = numbered (refusal_number s) 15 (sym same) refl d
 told_alike refused_once from e r s has same (needed path offset x) (captured file other y) = numbered 15 7 same refl refl
-told_alike refused_once from e r s has same (needed path offset x) (needed file other y) = (refused_once from e has).1 (string_bytes path) (string_bytes file) offset other x y
+told_alike refused_once from e r s has same (needed path offset x) (needed file other y) = ((refused_once from e has).1).0 (string_bytes path) (string_bytes file) offset other x y
+told_alike refused_once from e r s has same (needed path offset x) (custom file other y) = numbered 15 19 same refl refl
+told_alike refused_once from e r s has same (custom path offset there) (by_number y q c d w) = numbered (refusal_number s) 19 (sym same) refl w
+told_alike refused_once from e r s has same (custom path offset x) (captured file other y) = numbered 19 7 same refl refl
+told_alike refused_once from e r s has same (custom path offset x) (needed file other y) = numbered 19 15 same refl refl
+told_alike refused_once from e r s has same (custom path offset x) (custom file other y) = ((refused_once from e has).1).1 (string_bytes path) (string_bytes file) offset other x y
 
 -- ---- stores
 

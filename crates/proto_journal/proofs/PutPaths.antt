@@ -6,6 +6,7 @@ use Rattle.proto_edit.specs.Compiled.{AreCompiled}
 use Rattle.proto_edit.specs.Workspaces.{Asked, IsMappedStep, IsUndo}
 use Rattle.proto_edit.proofs.GivenAgain.{are_short}
 use Rattle.proto_journal.specs.Written.{DifferBy}
+use Rattle.proto_store.specs.Stores.{languages_of}
 
 each_path : (cs : List ChangeOf) (w after : List FileOf) → EachPuts cs w after → paths_of after ≡ paths_of w
 each_path cs [] [] p = refl
@@ -13,11 +14,20 @@ each_path cs [] (g ∷ gs) p = absurd p
 each_path cs (f ∷ fs) [] p = absurd p
 each_path cs (f ∷ fs) (g ∷ gs) p = let rest : paths_of gs ≡ paths_of fs = each_path cs fs gs p.1 in λ i. p.0.path i ∷ rest i
 
+each_language : (cs : List ChangeOf) (w after : List FileOf) → EachPuts cs w after → languages_of after ≡ languages_of w
+each_language cs [] [] p = refl
+each_language cs [] (g ∷ gs) p = absurd p
+each_language cs (f ∷ fs) [] p = absurd p
+each_language cs (f ∷ fs) (g ∷ gs) p = let rest : languages_of gs ≡ languages_of fs = each_language cs fs gs p.1 in λ i. p.0.profile i ∷ rest i
+
 pub put_paths : (w after : List FileOf) (cs : List ChangeOf) → IsPut w cs after → paths_of after ≡ paths_of w
 put_paths w after cs p = each_path cs w after p.each
 
 pub undo_paths : (w before : List FileOf) (cs : List ChangeOf) → IsUndo w cs before → paths_of before ≡ paths_of w
 undo_paths w before cs u = put_paths w before (inverted cs) u.put
+
+pub undo_languages : (w before : List FileOf) (cs : List ChangeOf) → IsUndo w cs before → languages_of before ≡ languages_of w
+undo_languages w before cs u = each_language (inverted cs) w before u.put.each
 
 -- ---- the files that differ
 
@@ -30,7 +40,7 @@ walk_differs [] cs (g ∷ gs) p = absurd (none_put g gs p.1)
 walk_differs (f ∷ fs) cs [] p = absurd p
 walk_differs (f ∷ fs) [] (g ∷ gs) p = (p.1.0, walk_differs fs [] gs (subst (λ (z : List ChangeOf). ArePut fs z gs) p.1.1 p.2))
 walk_differs (f ∷ fs) (c ∷ cs) (g ∷ gs) p = elim p.1 [
-  | inl x ↦ inl (x.0, x.1, walk_differs fs cs gs (subst (λ (z : List ChangeOf). ArePut fs z gs) x.3 p.2))
+  | inl x ↦ inl (x.0, x.1, x.4, walk_differs fs cs gs (subst (λ (z : List ChangeOf). ArePut fs z gs) x.3 p.2))
   | inr x ↦ inr (x.0, x.1, walk_differs fs (c ∷ cs) gs (subst (λ (z : List ChangeOf). ArePut fs z gs) x.2 p.2))
 ]
 
@@ -43,7 +53,7 @@ turned_back cs [] [] d = tt
 turned_back cs [] (g ∷ gs) d = absurd d
 turned_back cs (f ∷ fs) [] d = absurd d
 turned_back [] (f ∷ fs) (g ∷ gs) d = (d.0, turned_back [] fs gs d.1)
-turned_back (c ∷ cs) (f ∷ fs) (g ∷ gs) (inl d) = inl (d.0, d.1, turned_back cs fs gs d.2)
+turned_back (c ∷ cs) (f ∷ fs) (g ∷ gs) (inl d) = inl (d.0, d.1, d.2, turned_back cs fs gs d.3)
 turned_back (c ∷ cs) (f ∷ fs) (g ∷ gs) (inr d) = inr (d.0, d.1, turned_back (c ∷ cs) fs gs d.2)
 
 pub step_differs : (w after : List FileOf) (e : Asked) (cs : List ChangeOf) → AreCompiled w → IsEntry cs → IsMappedStep w e cs after → DifferBy cs w after

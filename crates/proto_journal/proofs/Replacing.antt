@@ -3,10 +3,11 @@ use Rattle.std.proofs.Common.{arith, ◌≡◌, ◌⊎◌, inl, inr, ℕ, suc, �
 use Rattle.proto_base.proofs.Common.{drop_more}
 use Rattle.proto_files.specs.GivenFiles.{FileOf, file_at, paths_of}
 use Rattle.proto_edit_entries.specs.Entries.{ChangeOf}
-use Rattle.proto_store.specs.Stores.{Held, HoldsFiles, IsListed, with_bytes, with_file}
+use Rattle.proto_store.specs.Stores.{Held, HoldsFiles, IsListed, with_bytes, with_file, languages_of}
 use Rattle.proto_journal.specs.Written.{AreBetween, DifferBy, IsHalfReplaced, IsFileReplaced, with_these_files}
 use Rattle.proto_journal.proofs.Between.{IsOrdered, all_after, as_long, between_up_to, listed_step, replaced_step, same_step, up_to}
 use Rattle.proto_journal.proofs.Holdings.{file_replaced, files_already, files_between, listed_among}
+use Rattle.proto_files.specs.GivenFiles.{no_file}
 
 -- a fact that holds of an answer
 pub on_ok : {T E : Type 0} (r : Result T E) (P Q : Type 0) → (P → Q) → OnOk r P → OnOk r Q
@@ -53,7 +54,7 @@ HasNew from to old new = (new ≡ option_map (with_file to.path to.bytes) old) �
 first_replaced : (cs rest : List ChangeOf) (f g : FileOf) (fs gs : List FileOf) (old new : Option Held) → DifferBy cs (f ∷ fs) (g ∷ gs) → IsFileReplaced f g cs rest old new
     → DifferBy rest fs gs × HasNew f g old new
 first_replaced [] rest f g fs gs old new d r = (subst (λ (z : List ChangeOf). DifferBy z fs gs) (sym r.0) d.1, inr (ap (λ (z : FileOf). z.bytes) (sym d.0), r.1))
-first_replaced (c ∷ cs) rest f g fs gs old new (inl d) (inl r) = (subst (λ (z : List ChangeOf). DifferBy z fs gs) (sym r.1) d.2, inl r.2)
+first_replaced (c ∷ cs) rest f g fs gs old new (inl d) (inl r) = (subst (λ (z : List ChangeOf). DifferBy z fs gs) (sym r.1) d.3, inl r.2)
 first_replaced (c ∷ cs) rest f g fs gs old new (inl d) (inr r) = absurd (r.0 d.0)
 first_replaced (c ∷ cs) rest f g fs gs old new (inr d) (inl r) = absurd (d.0 r.0)
 first_replaced (c ∷ cs) rest f g fs gs old new (inr d) (inr r) =
@@ -64,7 +65,7 @@ pub next_left : (before after : List FileOf) (i : ℕ) (cs rest : List ChangeOf)
     → DifferBy cs (drop i before) (drop i after) → IsFileReplaced (file_at before i) (file_at after i) cs rest old new
     → DifferBy rest (drop (i + 1) before) (drop (i + 1) after) × HasNew (file_at before i) (file_at after i) old new
 next_left before after i cs rest old new p lt d r =
-    let none : FileOf = record { path = []; bytes = [] } in
+    let none : FileOf = no_file in
     let long : length after ≡ length before = as_long after before p in
     let was : drop i before ≡ file_at before i ∷ drop (i + 1) before = drop_more before i none (omega (arith, long, lt)) in
     let is : drop i after ≡ file_at after i ∷ drop (i + 1) after = drop_more after i none lt in
@@ -77,12 +78,21 @@ same_paths cs [] [] d = refl
 same_paths cs [] (g ∷ gs) d = absurd d
 same_paths cs (f ∷ fs) [] d = absurd d
 same_paths [] (f ∷ fs) (g ∷ gs) d = let rest : paths_of gs ≡ paths_of fs = same_paths [] fs gs d.1 in λ j. (d.0 j).path ∷ rest j
-same_paths (c ∷ cs) (f ∷ fs) (g ∷ gs) (inl d) = let rest : paths_of gs ≡ paths_of fs = same_paths cs fs gs d.2 in λ j. d.1 j ∷ rest j
+same_paths (c ∷ cs) (f ∷ fs) (g ∷ gs) (inl d) = let rest : paths_of gs ≡ paths_of fs = same_paths cs fs gs d.3 in λ j. d.1 j ∷ rest j
 same_paths (c ∷ cs) (f ∷ fs) (g ∷ gs) (inr d) = let rest : paths_of gs ≡ paths_of fs = same_paths (c ∷ cs) fs gs d.2 in λ j. (d.1 j).path ∷ rest j
+
+-- and the same languages
+pub same_languages : (cs : List ChangeOf) (fs gs : List FileOf) → DifferBy cs fs gs → languages_of gs ≡ languages_of fs
+same_languages cs [] [] d = refl
+same_languages cs [] (g ∷ gs) d = absurd d
+same_languages cs (f ∷ fs) [] d = absurd d
+same_languages [] (f ∷ fs) (g ∷ gs) d = let rest : languages_of gs ≡ languages_of fs = same_languages [] fs gs d.1 in λ j. (d.0 j).profile ∷ rest j
+same_languages (c ∷ cs) (f ∷ fs) (g ∷ gs) (inl d) = let rest : languages_of gs ≡ languages_of fs = same_languages cs fs gs d.3 in λ j. d.2 j ∷ rest j
+same_languages (c ∷ cs) (f ∷ fs) (g ∷ gs) (inr d) = let rest : languages_of gs ≡ languages_of fs = same_languages (c ∷ cs) fs gs d.2 in λ j. (d.1 j).profile ∷ rest j
 
 -- ---- one file more
 
-module _ (h : Option Held) (before after : List FileOf) (i : ℕ) (lt : i < length after) (p : paths_of after ≡ paths_of before) where
+module _ (h : Option Held) (before after : List FileOf) (i : ℕ) (lt : i < length after) (p : paths_of after ≡ paths_of before) (q : languages_of after ≡ languages_of before) where
   one_more : i + 1 ≡ suc i
   one_more = omega arith
 
@@ -94,7 +104,7 @@ module _ (h : Option Held) (before after : List FileOf) (i : ℕ) (lt : i < leng
   next_same : (mid : Option Held) → mid ≡ option_map (with_these_files (up_to i after before)) h → (file_at before i).bytes ≡ (file_at after i).bytes
       → mid ≡ option_map (with_these_files (up_to (i + 1) after before)) h
   next_same mid m same =
-      let step : up_to (i + 1) after before ≡ up_to i after before = ap (λ (k : ℕ). up_to k after before) one_more ∙ same_step i after before lt p same in
+      let step : up_to (i + 1) after before ≡ up_to i after before = ap (λ (k : ℕ). up_to k after before) one_more ∙ same_step i after before lt p q same in
       m ∙ ap (λ (files : List FileOf). option_map (with_these_files files) h) (sym step)
 
   module _ (ordered : IsOrdered after) where
@@ -103,7 +113,7 @@ module _ (h : Option Held) (before after : List FileOf) (i : ℕ) (lt : i < leng
     next_written mid now m n =
         let name : List ℕ = (file_at after i).path in
         let text : List ℕ = (file_at after i).bytes in
-        let step : with_bytes name text (up_to i after before) ≡ up_to (i + 1) after before = replaced_step i after before lt p ordered ∙ ap (λ (k : ℕ). up_to k after before) (sym one_more) in
+        let step : with_bytes name text (up_to i after before) ≡ up_to (i + 1) after before = replaced_step i after before lt p q ordered ∙ ap (λ (k : ℕ). up_to k after before) (sym one_more) in
         n ∙ ap (option_map (with_file name text)) m ∙ file_replaced h name text (up_to i after before) ∙ ap (λ (files : List FileOf). option_map (with_these_files files) h) step
 
     pub next_replaced : (mid now : Option Held) → mid ≡ option_map (with_these_files (up_to i after before)) h → HasNew (file_at before i) (file_at after i) mid now
@@ -116,7 +126,7 @@ module _ (h : Option Held) (before after : List FileOf) (i : ℕ) (lt : i < leng
     -- a write that fails leaves the file as before or as after
     pub next_cut : (mid now : Option Held) → mid ≡ option_map (with_these_files (up_to i after before)) h → IsHalfReplaced (file_at after i) mid now → AreBetween before after h now
     next_cut mid now m c = elim c [
-      | inl same ↦ subst (λ (z : Option Held). AreBetween before after h z) (sym (same ∙ m)) (files_between h before after (up_to i after before) (between_up_to i after before p))
+      | inl same ↦ subst (λ (z : Option Held). AreBetween before after h z) (sym (same ∙ m)) (files_between h before after (up_to i after before) (between_up_to i after before p q))
       | inr there ↦ subst (λ (z : Option Held). AreBetween before after h z) (sym (next_written mid now m there))
-          (files_between h before after (up_to (i + 1) after before) (between_up_to (i + 1) after before p))
+          (files_between h before after (up_to (i + 1) after before) (between_up_to (i + 1) after before p q))
     ]

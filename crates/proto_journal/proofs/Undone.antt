@@ -10,7 +10,7 @@ use Rattle.proto_journal_records.specs.declared.fault.JournalFault.{JournalFault
 use Rattle.proto_journal_records.specs.declared.fault.JournalFault.TheVariants as fault
 use Rattle.proto_journal_records.specs.declared.record.Version.{Version}
 use Rattle.proto_journal_records.proofs.Common.{fault_of_refusal, done, opened, CountsFault, IsStoreOrMemory, Over, OverBoth, IsBetween, Keeps, RecordOf, IsJournalIn}
-use Rattle.proto_store.specs.Stores.{Held, HoldsJournal}
+use Rattle.proto_store.specs.Stores.{Held, HoldsJournal, languages_of}
 use Rattle.proto_journal.specs.Common.{EndsIn, IsTornByUndo, IsUndone, IsUndoCut, UndoOutcome, LastOutcome, Passes, Reopens, Shortens, held}
 use Rattle.proto_journal.proofs.Committed.{stays}
 use Rattle.proto_journal.proofs.Recorded.{last_open_there, over_journal, unreadable}
@@ -68,7 +68,7 @@ module _ (journal first last : List ℕ) (version : Version) (edit : Option Aske
   abbrev ends : (then : Held) (l : IsLast) → journal ≡ then.journal → EndsIn version l.0 entry then
   ends then l there = (edit, subst (λ (t : List ℕ). IsJournalIn version t (l.0 ++ done edit entry ∷ [])) there l.1)
 
-  module _ (from made : List FileOf) (same_paths : paths_of made ≡ paths_of from) where
+  module _ (from made : List FileOf) (same_paths : paths_of made ≡ paths_of from) (same_languages : languages_of made ≡ languages_of from) where
     abbrev IsMade : Held → Held → Type 0
     IsMade then now = (v : Version) × (records : List RecordOf) × EndsIn v records entry then × Keeps v made records now
 
@@ -80,6 +80,7 @@ module _ (journal first last : List ℕ) (version : Version) (edit : Option Aske
     turned : (files : List FileOf) → IsBetween from made files → IsBetween made from files
     turned files b = record {
       paths = b.paths ∙ sym same_paths;
+      languages = b.languages ∙ sym same_languages;
       bytes = λ path. (elim (b.bytes path) [
         | inl h ↦ inr h
         | inr h ↦ inl h

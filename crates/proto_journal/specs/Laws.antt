@@ -27,6 +27,8 @@ IsSameRefusal (refusal.Captured path offset) (refusal.Captured file other) =
     (string_bytes path ≡ string_bytes file) × (offset ≡ other)
 IsSameRefusal (refusal.Needed path offset) (refusal.Needed file other) =
     (string_bytes path ≡ string_bytes file) × (offset ≡ other)
+IsSameRefusal (refusal.OptionValue path offset) (refusal.OptionValue file other) =
+    (string_bytes path ≡ string_bytes file) × (offset ≡ other)
 IsSameRefusal r s = r ≡ s
 
 -- two answers are the same

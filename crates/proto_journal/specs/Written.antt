@@ -34,7 +34,7 @@ DifferBy cs [] (g ∷ gs) = ⊥
 DifferBy cs (f ∷ fs) [] = ⊥
 DifferBy [] (f ∷ fs) (g ∷ gs) = (g ≡ f) × DifferBy [] fs gs
 DifferBy (c ∷ cs) (f ∷ fs) (g ∷ gs) =
-    ((c.path ≡ f.path) × (g.path ≡ f.path) × DifferBy cs fs gs)
+    ((c.path ≡ f.path) × (g.path ≡ f.path) × (g.profile ≡ f.profile) × DifferBy cs fs gs)
     ⊎ ((c.path ≢ f.path) × (g ≡ f) × DifferBy (c ∷ cs) fs gs)
 
 -- a file gets its bytes of afterwards where the first of the changes is of its path, and the others

@@ -8,7 +8,7 @@ ghost use Rattle.proto_files.specs.PathFaults.{PathFaults};
 ghost use Rattle.proto_journal.specs.Loads.{ArePathsOf, AreSoundPaths, CountsLoad, IsLoadFault};
 ghost use Rattle.proto_journal_records.specs.Known.{Over};
 ghost use Rattle.proto_store.specs.Reading.{CountsReading};
-ghost use Rattle.proto_store.specs.Stores.{AreInPathOrder, HoldsFiles};
+ghost use Rattle.proto_store.specs.Stores.{AreInPathOrder, HoldsGiven};
 
 use crate::loading::LoadFault;
 use proto_base::SchemaFault;
@@ -62,7 +62,7 @@ fn read_files<S: Store>(
 ) -> Result<Vec<(String, Vec<u8>)>, ReadingFault>
     requires room { S.failure_count store.old < 2 ^ 64 - 1 }
     requires paths { ArePathsOf (S.holds store.old) (map string_bytes paths.items) }
-    ensures files { IfOk result (λ files. HoldsFiles (S.holds store.old) (files_of files.items)) }
+    ensures files { IfOk result (λ files. HoldsGiven (S.holds store.old) files.items) }
     ensures paths { IfOk result (λ files. paths_of (files_of files.items)
         ≡ map string_bytes paths.items) }
     ensures same { S.holds store.new ≡ S.holds store.old }
@@ -85,7 +85,7 @@ pub fn sound_files<S: Store>(
     store: &mut S,
 ) -> Result<Vec<(String, Vec<u8>)>, LoadFault>
     requires { S.failure_count store.old < 2 ^ 64 - 1 }
-    ensures files { IfOk result (λ files. HoldsFiles (S.holds store.old) (files_of files.items)) }
+    ensures files { IfOk result (λ files. HoldsGiven (S.holds store.old) files.items) }
     ensures order { IfOk result (λ _. Over (S.holds store.old)
         (λ held. AreInPathOrder held.files)) }
     ensures sound { IfOk result (λ files. AreSoundPaths (paths_of (files_of files.items))) }

@@ -83,8 +83,9 @@ pub fn load<S: Store>(alloc: Global, store: &mut S) -> Result<Workspace, LoadFau
     ensures same { S.holds store.new ≡ S.holds store.old }
     ensures count { CountsLoad (S.failure_count store.old) (S.failure_count store.new) result }
 {
+    let profile = store.profile();
     let files = sound_files(alloc, store)?;
-    match Workspace::open(alloc, files) {
+    match Workspace::open_as(alloc, files, profile) {
         Ok(workspace) => Ok(workspace),
         Err(fault) => Err(LoadFault::from(fault)),
     }

@@ -99,7 +99,7 @@ module _ (entry : List ChangeOf) (before after : List FileOf) (is : IsEntry entr
   ]
 
   pub comes_back : (files now : List FileOf) → AreInPathOrder before → IsBetween before after files → ArePutBack entry files now → now ≡ before
-  comes_back files now order between back = same_files now before (same_order before now paths order) paths at
+  comes_back files now order between back = same_files now before (same_order before now paths order) paths (back.languages ∙ between.languages) at
     where
       paths : paths_of now ≡ paths_of before
       paths = back.paths ∙ between.paths
@@ -113,6 +113,7 @@ module _ (entry : List ChangeOf) (before after : List FileOf) (is : IsEntry entr
   pub stays_between : (files now : List FileOf) → IsBetween before after files → ArePartlyBack entry files now → IsBetween before after now
   stays_between files now between part = record {
     paths = part.paths ∙ between.paths;
+    languages = part.languages ∙ between.languages;
     bytes = λ path. elim (find_change entry path) [
       | inl c ↦ subst (λ (p : List ℕ). (bytes_at p now ≡ bytes_at p before) ⊎ (bytes_at p now ≡ bytes_at p after)) c.2 (named c.0 c.1 (part.each c.0 c.1))
       | inr none ↦ inl (part.others path none ∙ other_at files path between none)

@@ -3,7 +3,7 @@ use Rattle.std.proofs.Common.{arith, ◌≡◌, ◌≢◌, ◌⊎◌, inl, inr, 
 use Rattle.proto_base.proofs.Common.{Vec, map_more, take-map, cases_Bool, bytes_eq-Decides, contains_cases, contains_head, contains_later, contains_map}
 use Rattle.proto_files.proofs.Common.{FileOf, file_of, files_of, IsBefore, never_before_itself}
 use Rattle.proto_edit_entries.proofs.Common.{AreRising, ChangeOf, contains_none, rises_from}
-use Rattle.proto_store.proofs.Common.{Held, IsListed, bytes_at, with_bytes, with_file, with_journal, bytes_at-with_bytes, bytes_at-with_bytes-other, is_some-with_bytes, paths_of-with_bytes}
+use Rattle.proto_store.proofs.Common.{Held, IsListed, bytes_at, with_bytes, with_file, with_journal, bytes_at-with_bytes, bytes_at-with_bytes-other, is_some-with_bytes, paths_of-with_bytes, languages_of-with_bytes}
 use Rattle.proto_journal_records.specs.Common.{ArePartlyBack, ArePutBack, IsPutBack, IsUnnamed, AreListedInStore, AreOldFiles, ArePartlyIn, GoesBackTo, StaysAt, with_all, with_files}
 
 -- ---- the changes of an entry are of distinct paths
@@ -61,10 +61,10 @@ stays_back c files new s same = record { text = s.text; back = s.text; was = s.t
 -- ---- all of them, and the first ones
 
 nothing_put : (files : List FileOf) → ArePutBack [] files files
-nothing_put files = record { paths = refl; each = λ c k. absurd (contains_none c k); others = λ path none. refl }
+nothing_put files = record { paths = refl; languages = refl; each = λ c k. absurd (contains_none c k); others = λ path none. refl }
 
 nothing_yet : (cs : List ChangeOf) (files : List FileOf) → ArePartlyBack cs files files
-nothing_yet cs files = record { paths = refl; each = λ c k. inl refl; others = λ path none. refl }
+nothing_yet cs files = record { paths = refl; languages = refl; each = λ c k. inl refl; others = λ path none. refl }
 
 pub all_back : (cs : List ChangeOf) (files olds : List FileOf) → AreDistinct cs → AreOldFiles cs files olds → ArePutBack cs files (with_all olds files)
 all_back [] files olds d e = subst (λ (z : List FileOf). ArePutBack [] files (with_all z files)) (sym e) (nothing_put files)
@@ -73,6 +73,7 @@ all_back (c ∷ cs) files olds d (inl (s, rest)) =
     let r : ArePutBack cs files new = all_back cs files olds d.1 rest in
     record {
       paths = r.paths;
+      languages = r.languages;
       each = λ x k. elim (contains_cases c x cs k) [
         | inl same ↦ subst (λ (z : ChangeOf). IsPutBack z files new) same (stays_back c files new s (r.others c.path d.0))
         | inr later ↦ r.each x later
@@ -86,6 +87,7 @@ all_back (c ∷ cs) files olds d (inr (f, more, e, g, rest)) =
     let r : ArePutBack cs mid new = all_back cs mid more d.1 (still f.path f.bytes files cs more unnamed rest) in
     subst (λ (z : List FileOf). ArePutBack (c ∷ cs) files (with_all z files)) (sym e) (record {
       paths = r.paths ∙ paths_of-with_bytes f.path f.bytes files;
+      languages = r.languages ∙ languages_of-with_bytes f.path f.bytes files;
       each = λ x k. elim (contains_cases c x cs k) [
         | inl same ↦ subst (λ (z : ChangeOf). IsPutBack z files new) same (goes_back c files new f g (r.others c.path d.0))
         | inr later ↦ was_back f.path f.bytes files x new (unnamed x later) (r.each x later)
@@ -102,6 +104,7 @@ some_back (suc n) (c ∷ cs) files olds d (inl (s, rest)) =
     let r : ArePartlyBack cs files new = some_back (suc n) cs files olds d.1 rest in
     record {
       paths = r.paths;
+      languages = r.languages;
       each = λ x k. elim (contains_cases c x cs k) [
         | inl same ↦ subst (λ (z : ChangeOf). (bytes_at z.path new ≡ bytes_at z.path files) ⊎ IsPutBack z files new) same (inl (r.others c.path d.0))
         | inr later ↦ r.each x later
@@ -115,6 +118,7 @@ some_back (suc n) (c ∷ cs) files olds d (inr (f, more, e, g, rest)) =
     let r : ArePartlyBack cs mid new = some_back n cs mid more d.1 (still f.path f.bytes files cs more unnamed rest) in
     subst (λ (z : List FileOf). ArePartlyBack (c ∷ cs) files (with_all (take (suc n) z) files)) (sym e) (record {
       paths = r.paths ∙ paths_of-with_bytes f.path f.bytes files;
+      languages = r.languages ∙ languages_of-with_bytes f.path f.bytes files;
       each = λ x k. elim (contains_cases c x cs k) [
         | inl same ↦ subst (λ (z : ChangeOf). (bytes_at z.path new ≡ bytes_at z.path files) ⊎ IsPutBack z files new) same (inr (goes_back c files new f g (r.others c.path d.0)))
         | inr later ↦ elim (r.each x later) [

@@ -79,7 +79,7 @@ pub same_order : (old new : List FileOf) → paths_of new ≡ paths_of old → A
 same_order old new e order = subst (λ (l : List (List ℕ)). IsStrictlySortedBy (slice_cmp nat_cmp) l) (sym e) order
 
 pub put_back_once : (entry : List ChangeOf) (old a b : List FileOf) → IsEntry entry → AreInPathOrder old → ArePutBack entry old a → ArePutBack entry old b → a ≡ b
-put_back_once entry old a b is order x y = same_files a b (same_order old a x.paths order) (x.paths ∙ sym y.paths) at
+put_back_once entry old a b is order x y = same_files a b (same_order old a x.paths order) (x.paths ∙ sym y.paths) (x.languages ∙ sym y.languages) at
   where
     at : (path : List ℕ) → bytes_at path a ≡ bytes_at path b
     at path = elim (find_change entry path) [
@@ -91,6 +91,7 @@ put_back_once entry old a b is order x y = same_files a b (same_order old a x.pa
 pub back_behind : (entry : List ChangeOf) (old mid new : List FileOf) → IsEntry entry → ArePartlyBack entry old mid → ArePutBack entry mid new → ArePutBack entry old new
 back_behind entry old mid new is x y = record {
   paths = y.paths ∙ x.paths;
+  languages = y.languages ∙ x.languages;
   each = λ c k. elim (x.each c k) [
     | inl same ↦ late_back c old mid new same (y.each c k)
     | inr back ↦ twice_back c old mid new (change_in entry is c k) back (y.each c k)

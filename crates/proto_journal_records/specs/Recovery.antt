@@ -12,7 +12,7 @@ use Rattle.proto_journal_records.specs.declared.fault.JournalFault.TheVariants a
 use Rattle.proto_journal_records.specs.declared.record.Version.{Version}
 use Rattle.proto_journal_records.specs.Records.{RecordOf, opened}
 use Rattle.proto_journal_records.specs.Journals.{IsJournalIn}
-use Rattle.proto_store.specs.Stores.{Held, bytes_at}
+use Rattle.proto_store.specs.Stores.{Held, bytes_at, languages_of}
 use Rattle.proto_journal_records.specs.Known.{Over, OverBoth}
 use Rattle.proto_journal_records.specs.ReadJournals.{IsReady, IsUnreadable}
 use Rattle.proto_journal_records.specs.Torn.{IsAsAfter, IsAsBefore, IsEitherWay, IsTorn}
@@ -40,12 +40,14 @@ IsUnnamed entry path = (c : ChangeOf) → Contains entry c → c.path ≢ path
 -- each file of the entry is put back, and no other file changes
 pub record ArePutBack (entry : List ChangeOf) (old new : List FileOf) : Type 0 where
   pub paths : paths_of new ≡ paths_of old
+  pub languages : languages_of new ≡ languages_of old
   pub each : (c : ChangeOf) → Contains entry c → IsPutBack c old new
   pub others : (path : Path) → IsUnnamed entry path → bytes_at path new ≡ bytes_at path old
 
 -- each file of the entry is as it was or is put back, and no other file changes
 pub record ArePartlyBack (entry : List ChangeOf) (old new : List FileOf) : Type 0 where
   pub paths : paths_of new ≡ paths_of old
+  pub languages : languages_of new ≡ languages_of old
   pub each : (c : ChangeOf) → Contains entry c
       → (bytes_at c.path new ≡ bytes_at c.path old) ⊎ IsPutBack c old new
   pub others : (path : Path) → IsUnnamed entry path → bytes_at path new ≡ bytes_at path old

@@ -9,7 +9,7 @@ use Rattle.proto_edit_entries.specs.Entries.{ChangeOf, turned_round}
 use Rattle.proto_journal_records.specs.declared.record.Version.{Version}
 use Rattle.proto_journal_records.specs.Records.{RecordOf, opened}
 use Rattle.proto_journal_records.specs.Journals.{IsJournalIn}
-use Rattle.proto_store.specs.Stores.{Held, bytes_at}
+use Rattle.proto_store.specs.Stores.{Held, bytes_at, languages_of}
 
 -- the store has these files, and its journal is that of these records in this version
 pub record Keeps (version : Version) (files : List FileOf) (records : List RecordOf) (held : Held)
@@ -19,9 +19,10 @@ pub record Keeps (version : Version) (files : List FileOf) (records : List Recor
 
 -- ---- torn between two lists of files
 
--- each file has its bytes from the one list of files or from the other
+-- each file has its bytes from the one list of files or from the other, and its language
 pub record IsBetween (before after files : List FileOf) : Type 0 where
   pub paths : paths_of files ≡ paths_of before
+  pub languages : languages_of files ≡ languages_of before
   pub bytes : (path : Path)
       → (bytes_at path files ≡ bytes_at path before) ⊎ (bytes_at path files ≡ bytes_at path after)
 

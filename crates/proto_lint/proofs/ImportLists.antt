@@ -6,12 +6,13 @@ use Rattle.proto_text.proofs.Common.{IsString, words}
 use Rattle.proto_tree.specs.declared.piece.Statement.{Statement}
 use Rattle.proto_tree.specs.declared.piece.Statement.TheVariants as statement
 use Rattle.proto_tree.specs.declared.tree.Import.{Import}
-use Rattle.proto_tree.proofs.Common.{Reads, Tree, End, Leaf, Block, joined_trees}
+use Rattle.proto_tree.proofs.Common.{Tree, End, Leaf, Block, joined_trees, ReadsIn}
 use Rattle.proto_names_outline.proofs.Common.{Wanted, imports_are_strings}
 use Rattle.proto_names_outline.specs.FromTree as names
 use Rattle.proto_names_imports.proofs.Turned.{take_more}
 use Rattle.proto_ast.proofs.Common.{statements, statements_joined}
 use Rattle.proto_lint.specs.Imports.{import_statements_in, statement_import}
+use Rattle.proto_base.specs.declared.profile.Profile.{Profile}
 
 pub imports_joined : (t u : Tree) → import_statements_in (joined_trees t u) ≡ import_statements_in t ++ import_statements_in u
 imports_joined t u = ap (flat_map statement_import) (statements_joined t u) ∙ flat_map-append statement_import (statements t) (statements u)
@@ -32,8 +33,8 @@ same_imports (Leaf s rest) =
 same_imports (Block h i within j rest) = same_imports rest
 
 -- they name files by strings
-pub paths_are_strings : (text : List ℕ) (tokens : List Token) (tree : Tree) → Reads text tokens tree → (i : Import) → Contains (import_statements_in tree) i → IsString (words text tokens i.path)
-paths_are_strings text tokens tree reads i c = imports_are_strings text tokens tree reads (wanted_as i) (subst (λ (ws : List Wanted). Contains ws (wanted_as i)) (sym (same_imports tree)) (contains_map wanted_as (import_statements_in tree) i c))
+pub paths_are_strings : (profile : Profile) (text : List ℕ) (tokens : List Token) (tree : Tree) → ReadsIn profile text tokens tree → (i : Import) → Contains (import_statements_in tree) i → IsString (words text tokens i.path)
+paths_are_strings profile text tokens tree reads i c = imports_are_strings profile text tokens tree reads (wanted_as i) (subst (λ (ws : List Wanted). Contains ws (wanted_as i)) (sym (same_imports tree)) (contains_map wanted_as (import_statements_in tree) i c))
 
 -- what is found of one import more
 pub finds_more : {A : Type 0} (finds : Import → List A) (xs : List (Bor Import)) (i : ℕ) (d : Bor Import) → i < length xs

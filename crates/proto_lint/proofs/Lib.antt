@@ -1,5 +1,6 @@
 mod FileFindings
 mod FileHeads
+mod FindingsAsWritten
 mod HeadLists
 mod ImportLists
 mod Linters

@@ -22,7 +22,7 @@ three a b c x y z p q r = r ∙ ap (λ (fs : List Found). fs ++ z) (q ∙ ap (λ
 pub moved : (a b : List Found) (f : ℕ → List Found) (n m : ℕ) → n ≡ m → b ≡ a ++ f n → b ≡ a ++ f m
 moved a b f n m e p = p ∙ ap (λ (k : ℕ). a ++ f k) e
 
-module _ (files : List FileOf) (reads : List ReadOf) (are : AreRead files reads) (file : ℕ) (within : file < length files) (r : LintFile) (read : r ≡ read_of_file files reads file) (tree : Tree) (of_file : IsTreeOf (file_at files file).bytes tree) (hs : List Head) (heads_are : hs ≡ heads files reads) where
+module _ (files : List FileOf) (reads : List ReadOf) (are : AreRead files reads) (file : ℕ) (within : file < length files) (r : LintFile) (read : r ≡ read_of_file files reads file) (tree : Tree) (of_file : IsTreeOf (file_at files file) tree) (hs : List Head) (heads_are : hs ≡ heads files reads) where
   head_there : (d : Head) → get_or hs file d ≡ head_of_file files reads file
   head_there d = ap (λ (xs : List Head). get_or xs file d) heads_are ∙ heads_at files reads file d (let n = are.same in omega (arith, n, within))
 

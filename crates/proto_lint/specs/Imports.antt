@@ -50,10 +50,12 @@ is_used w file (Some to) =
     list_any (λ u. u.file == file && is_reached w to (meaning w u)) w.references
 
 -- IMPORT_USED: an import that is not public, where no reference of the file means a symbol of the
--- imported file or of one that is reached from it (a public import is for others, and needs no use)
+-- imported file or of one that is reached from it (a public import is for others, and needs no use);
+-- a file with a custom option passes, since the names of such options may mean symbols, too
 abbrev pub import_used : Workspace → List Path → LintFile → ℕ → Import → List NamedToken
 import_used w paths r file i =
-    import_unless r (is_some i.public || is_used w file (file_with_path paths (import_path r i))) i
+    import_unless r (is_some i.public
+    || (is_used w file (file_with_path paths (import_path r i)) || r.has_custom)) i
 
 -- ---- what they find
 

@@ -1,3 +1,4 @@
+pub mod AsWritten
 pub mod Common
 pub mod Findings
 pub mod Heads

@@ -1,6 +1,6 @@
 //! The imports of a workspace, and their rules.
 
-ghost use Rattle.std.specs.Prelude.{◌≡◌, ◌↔◌, ◌++◌, ℕ, ◌<◌, List, length, flat_map, map, true, option_map, option_to_list, IfOk, OnOk};
+ghost use Rattle.std.specs.Prelude.{◌≡◌, ◌↔◌, ◌++◌, ◌||◌, ℕ, ◌<◌, List, length, flat_map, map, true, option_map, option_to_list, IfOk, OnOk};
 ghost use Rattle.std.specs.List.{All};
 ghost use Rattle.proto_text.specs.Strings.{IsString};
 ghost use Rattle.proto_text.specs.Texts.{word_at};
@@ -208,6 +208,13 @@ fn add_import_no_public(
     Ok(())
 }
 
+// Whether an import passes, by whether it is used. The name of a custom option may use it, too.
+fn passes(reading: &LintFile, is_used: bool) -> bool
+    ensures { result ≡ (is_used || (reading_of reading.now).has_custom) }
+{
+    is_used || reading.has_custom()
+}
+
 fn add_import_used(
     alloc: Global,
     found: &mut Vec<Found>,
@@ -232,12 +239,13 @@ fn add_import_used(
         let is_used = linter
             .imports
             .leads(alloc, linter.files, path.as_str(), marks)?;
+        let passes = passes(reading, is_used);
         add_unless(
             alloc,
             found,
             reading,
             rule,
-            is_used,
+            passes,
             import.keyword,
             path.as_str(),
         )?;

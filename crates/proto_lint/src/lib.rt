@@ -4,10 +4,11 @@
 
 mod heads;
 mod imports;
+pub mod laws;
 mod linting;
 mod packages;
 mod uses;
 
 pub use linting::lint;
 pub use proto_base::NoMemory;
-pub use proto_lint_names::{Finding, Rule, RuleSet, laws};
+pub use proto_lint_names::{Finding, Rule, RuleSet};

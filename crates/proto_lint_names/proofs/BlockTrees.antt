@@ -7,7 +7,7 @@ use Rattle.proto_tree.specs.declared.tree.Block.{Block as Braced}
 use Rattle.proto_tree.specs.declared.tree.EnumItem.{EnumItem}
 use Rattle.proto_tree.specs.declared.tree.EnumItem.TheVariants as enum_item
 use Rattle.proto_tree.specs.declared.tree.Extend.{Extend}
-use Rattle.proto_tree.specs.declared.tree.Field.{Field}
+use Rattle.proto_tree.specs.declared.tree.OneofItem.{OneofItem}
 use Rattle.proto_tree.specs.declared.tree.Member.{Member}
 use Rattle.proto_tree.specs.declared.tree.MethodEnd.{MethodEnd}
 use Rattle.proto_tree.specs.declared.tree.MethodEnd.TheVariants as method_end
@@ -16,13 +16,14 @@ use Rattle.proto_tree.specs.declared.tree.MethodItem.TheVariants as method_item
 use Rattle.proto_tree.specs.declared.tree.ServiceItem.{ServiceItem}
 use Rattle.proto_tree.specs.declared.tree.ServiceItem.TheVariants as service_item
 use Rattle.proto_tree.specs.declared.tree.Signature.{Signature}
-use Rattle.proto_tree.specs.File.{extend_tree, extension_tree}
-use Rattle.proto_tree.proofs.Common.{enum_item_tree, enum_tree, field_tree, member_tree, message_tree, method_by, method_item_tree, oneof_tree, service_item_tree, service_tree, trees, Tree, End, Leaf, Block, joined_trees}
+use Rattle.proto_tree.specs.File.{extend_tree, extension_tree, oneof_item_tree}
+use Rattle.proto_tree.proofs.Common.{enum_item_tree, enum_tree, member_tree, message_tree, method_by, method_item_tree, oneof_tree, service_item_tree, service_tree, trees, Tree, End, Leaf, Block, joined_trees}
 use Rattle.proto_names_rules.specs.Forest.{under}
 use Rattle.proto_lint_names.proofs.Common.{Found, LintFile, reading_of, word_in}
 use Rattle.proto_lint_names.specs.RulesCommon.{Walk, Scoped, scoped_blocks, scope_within, block_finds, walk_finds}
 use Rattle.proto_lint_names.specs.Methods.{methods_finds}
 use Rattle.proto_lint_names.specs.NameRules.{enum_finds, message_finds, oneof_finds, service_finds}
+use Rattle.proto_tree.specs.declared.tree.OneofItem.TheVariants as oneof_item
 
 pub blocks_joined : (r : LintFile) (scope : List ℕ) (t u : Tree) → scoped_blocks r scope (joined_trees t u) ≡ scoped_blocks r scope t ++ scoped_blocks r scope u
 blocks_joined r scope End u = refl
@@ -69,6 +70,10 @@ module _ (w : Walk) where
   none_in_enum scope (enum_item.Reserved x) = refl
   none_in_enum scope (enum_item.Empty i) = refl
 
+  none_in_oneof : (scope : List ℕ) (item : OneofItem) → walk_finds w scope (oneof_item_tree item) ≡ []
+  none_in_oneof scope (oneof_item.Field f) = refl
+  none_in_oneof scope (oneof_item.Option o) = refl
+
   none_in_method : (scope : List ℕ) (item : MethodItem) → walk_finds w scope (method_item_tree item) ≡ []
   none_in_method scope (method_item.Option o) = refl
   none_in_method scope (method_item.Empty i) = refl
@@ -88,9 +93,9 @@ module _ (w : Walk) where
       ≡ message_finds w.rules.now.chosen r scope m.name (trees member_tree m.members.items) ++ walk_finds w (under scope (word_in r m.name)) (trees member_tree m.members.items)
   finds_of_message scope m = finds_of_block scope (header.Message (record { keyword = m.keyword; name = m.name })) m.open (trees member_tree m.members.items) m.close
 
-  pub finds_of_oneof : (scope : List ℕ) (o : Braced Field) → walk_finds w scope (oneof_tree o) ≡ oneof_finds w.rules.now.chosen r scope o.name
+  pub finds_of_oneof : (scope : List ℕ) (o : Braced OneofItem) → walk_finds w scope (oneof_tree o) ≡ oneof_finds w.rules.now.chosen r scope o.name
   finds_of_oneof scope o =
-      finds_of_flat scope (header.Oneof (record { keyword = o.keyword; name = o.name })) o.open (trees field_tree o.members.items) o.close (no_finds field_tree scope (λ f. refl) o.members.items)
+      finds_of_flat scope (header.Oneof (record { keyword = o.keyword; name = o.name })) o.open (trees oneof_item_tree o.members.items) o.close (no_finds oneof_item_tree scope (none_in_oneof scope) o.members.items)
 
   pub finds_of_extend : (scope : List ℕ) (e : Extend) → walk_finds w scope (extend_tree e) ≡ []
   finds_of_extend scope e =

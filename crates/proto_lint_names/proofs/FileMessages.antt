@@ -14,7 +14,7 @@ module _ (files : List FileOf) (reads : List ReadOf) where
       ap (messages_from files reads file) (drop-cons reads file (record { tokens = []; tree = End }) l)
       ∙ ap (λ (n : ℕ). file_messages (read_of_file files reads file) (read_at reads file).tree ++ messages_from files reads n (drop n reads)) one
 
-  pub messages_more : AreRead files reads → (file : ℕ) → file < length files → (r : LintFile) → r ≡ read_of_file files reads file → (tree : Tree) → IsTreeOf (file_at files file).bytes tree
+  pub messages_more : AreRead files reads → (file : ℕ) → file < length files → (r : LintFile) → r ≡ read_of_file files reads file → (tree : Tree) → IsTreeOf (file_at files file) tree
       → (old new all : List (List ℕ)) → new ≡ old ++ outer_messages r tree → old ++ messages_from files reads file (drop file reads) ≡ all → new ++ messages_from files reads (file + 1) (drop (file + 1) reads) ≡ all
   messages_more are file within r is tree of_file old new all added before =
       let rest = messages_from files reads (file + 1) (drop (file + 1) reads) in

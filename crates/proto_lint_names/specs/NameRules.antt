@@ -1,5 +1,5 @@
 -- The rules of names: of messages, fields and oneofs, of enums and their values, and of services.
-use Rattle.std.specs.Prelude.{ℕ, Bool, not, ◌==◌, ◌||◌, ◌&&◌, nat_eq, List, [], ◌∷◌, ◌++◌, flat_map, codes}
+use Rattle.std.specs.Prelude.{ℕ, Bool, false, not, ◌==◌, ◌||◌, ◌&&◌, nat_eq, List, [], ◌∷◌, ◌++◌, flat_map, codes}
 use Rattle.std.specs.List.{starts_with, ends_with}
 use Rattle.std.specs.Str.{bytes_eq}
 use Rattle.proto_base.specs.Ascii as ascii
@@ -16,6 +16,8 @@ use Rattle.proto_lint_rules.specs.declared.rule.Rule.TheVariants as rule
 use Rattle.proto_names_rules.specs.Forest.{under}
 use Rattle.proto_lint_names.specs.Placed.{Found, NamedToken, found_by, unless, unless_word}
 use Rattle.proto_lint_names.specs.Readings.{LintFile, word_in}
+use Rattle.proto_tree.specs.declared.tree.Setting.{Setting}
+use Rattle.proto_tree.specs.declared.tree.Setting.TheVariants as setting
 
 -- ---- messages, with the scope around them
 
@@ -74,12 +76,16 @@ first_not_zero r scope (v ∷ vs) = unless_word r (λ w. is_zero r v) scope v.na
 abbrev pub enum_first_value_zero : LintFile → Text → Tree → List NamedToken
 enum_first_value_zero r scope within = first_not_zero r scope (values_in within)
 
+-- whether an option is `allow_alias = true`
+abbrev pub allows_alias : LintFile → Setting → Bool
+allows_alias r (setting.Plain o) = bytes_eq (word_in r o.name) (codes "allow_alias") && is_true
+    (truth_of (word_in r) o.value)
+allows_alias r (setting.Custom o) = false
+
 -- a statement `option allow_alias = true`, at its `option`, with the enum's full name
 abbrev pub allowed_alias : LintFile → Text → Statement → List NamedToken
 allowed_alias r enum (statement.Option o) = unless
-    (not (bytes_eq (word_in r o.name) (codes "allow_alias") && is_true
-    (truth_of (word_in r) o.value)))
-    o.keyword enum
+    (not (allows_alias r o.setting)) o.keyword enum
 allowed_alias r enum _ = []
 
 -- ENUM_NO_ALLOW_ALIAS: each such statement of an enum

@@ -2,7 +2,6 @@
 
 ghost use Rattle.std.specs.Prelude.{◌≡◌, ◌++◌, ◌||◌, ◌&&◌, not, nat_eq, codes, flat_map, map, IfOk, OnOk};
 ghost use Rattle.std.specs.List.{ends_with, starts_with};
-ghost use Rattle.std.specs.Str.{bytes_eq};
 ghost use Rattle.std.specs.String.{string_bytes};
 ghost use Rattle.proto_tree.specs.File.{enum_item_tree, trees};
 ghost use Rattle.proto_ast.specs.Options.{truth_of, is_true};
@@ -12,7 +11,7 @@ ghost use Rattle.proto_lint_rules.specs.declared.rule.Rule.TheVariants as rule;
 ghost use Rattle.proto_lint_names.specs.Placed.{found_at, found_by, unless_word};
 ghost use Rattle.proto_lint_names.specs.Readings.{reading_of, word_in};
 ghost use Rattle.proto_lint_names.specs.Views.{found_of};
-ghost use Rattle.proto_lint_names.specs.NameRules.{allowed_alias, enum_finds, enum_first_value_zero, enum_no_allow_alias, enum_value_prefix, enum_value_upper_snake_case, enum_zero_value_suffix, is_zero, value_prefix};
+ghost use Rattle.proto_lint_names.specs.NameRules.{allowed_alias, allows_alias, enum_finds, enum_first_value_zero, enum_no_allow_alias, enum_value_prefix, enum_value_upper_snake_case, enum_zero_value_suffix, is_zero, value_prefix};
 
 use crate::found::{Found, add_below_unless, add_unless, under};
 use crate::names::{ScopedName, add_name};
@@ -22,7 +21,7 @@ use crate::{Rule, RuleSet};
 use proto_ast::number_of;
 use proto_base::NoMemory;
 use proto_case::{is_pascal, is_upper_snake, upper};
-use proto_tree::{Constant, Enum, EnumItem, Option_, Value};
+use proto_tree::{Constant, Enum, EnumItem, Setting, Value};
 use std::alloc::Global;
 
 // The loops over items differ in their rule and in what it finds at one item alone; a common loop
@@ -252,12 +251,15 @@ fn is_true(reading: &LintFile, value: &Constant) -> bool
     }
 }
 
-fn allows_alias(reading: &LintFile, option: &Option_) -> bool
-    ensures { result ≡ (bytes_eq (word_in (reading_of reading.now) option.now.name)
-        (codes "allow_alias") && is_true (truth_of (word_in (reading_of reading.now))
-        option.now.value)) }
+fn allows_alias(reading: &LintFile, setting: &Setting) -> bool
+    ensures { result ≡ allows_alias (reading_of reading.now) setting.now }
 {
-    reading.text(option.name) == "allow_alias" && is_true(reading, &option.value)
+    match setting {
+        Setting::Plain(option) => {
+            reading.text(option.name) == "allow_alias" && is_true(reading, &option.value)
+        }
+        Setting::Custom(_) => false,
+    }
 }
 
 // What an item of an enum with this full name allows of aliases.
@@ -276,7 +278,7 @@ fn add_alias(
     match item {
         EnumItem::Option(option) => {
             let rule = Rule::EnumNoAllowAlias;
-            let passes = !allows_alias(reading, option);
+            let passes = !allows_alias(reading, &option.setting);
             add_unless(
                 alloc,
                 found,

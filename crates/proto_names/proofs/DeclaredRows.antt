@@ -27,7 +27,7 @@ module _ (files : List FileOf) (reads : List ReadOf) (are : AreRead files reads)
 
   same_placed : (k : ℕ) → k < length files → (p : Placed) → Contains (placed k) p ↔ Contains (file_placed (items_in (read_at reads k).tree)) p
   same_placed k l p =
-      let s = tree_span (file_at files k).bytes (read_at reads k).tokens (read_at reads k).tree (are.trees k l) in
+      let s = tree_span (file_at files k).profile (file_at files k).bytes (read_at reads k).tokens (read_at reads k).tree (are.trees k l) in
       same_declared (items_in (read_at reads k).tree) s.0 s.1 s.2 p
 
   there : (k : ℕ) → k < length files → FileAt 0 (map names_in reads) k (names_in (read_at reads k))

@@ -3,7 +3,7 @@ use Rattle.std.proofs.Common.{◌≡◌, ℕ, ◌<◌, Bool, List, [], ◌∷◌
 use Rattle.proto_base.proofs.Common.{Vec, map-append, get_or-map as get_or-map_within, All-map, Contains-get_or, contains_map}
 use Rattle.std.proofs.Math.ListN.{get_or-map}
 use Rattle.proto_text.proofs.Common.{one_token_list, words, word_at, Lexeme, lexeme_at, AreTokens}
-use Rattle.proto_tree.proofs.Common.{Reads, dotted}
+use Rattle.proto_tree.proofs.Common.{ReadsIn, dotted}
 use Rattle.proto_text.specs.declared.lexer.Token.{Token}
 use Rattle.proto_files.proofs.Common.{FileOf, file_at, ReadOf, AreRead, read_at, one_reading}
 use Rattle.proto_case.specs.Camel.{entry_name}
@@ -19,11 +19,12 @@ use Rattle.proto_names_outline.specs.declared.listing.Use.{Use}
 use Rattle.proto_base.specs.declared.or_no_memory.OrNoMemory.{OrNoMemory}
 use Rattle.proto_base.specs.declared.or_no_memory.OrNoMemory.TheVariants as or
 use Rattle.proto_names_table.specs.declared.table.Table.{Table}
+use Rattle.proto_base.specs.declared.profile.Profile.{Profile}
 
 -- ---- what is read of a file
 
 abbrev pub IsReadOf : List FileOf → ℕ → ReadOf → Type 0
-IsReadOf files file r = Reads (file_at files file).bytes r.tokens r.tree
+IsReadOf files file r = ReadsIn (file_at files file).profile (file_at files file).bytes r.tokens r.tree
 
 -- ---- the references of a file
 
@@ -94,10 +95,10 @@ module _ (files : List FileOf) (reads : List ReadOf) (file : ℕ) (l : Listing) 
   file_error or.NoMemory h = tt
 
 -- the words of a listing's references are plain
-pub words_plain : (bytes : List ℕ) (r : ReadOf) (l : Listing) → Reads bytes r.tokens r.tree → IsListing r l → All (λ u. ArePlain (map (words bytes r.tokens) (dotted u.reference.now.words))) l.used.items
-words_plain bytes r l x is = λ k d m.
+pub words_plain : (profile : Profile) (bytes : List ℕ) (r : ReadOf) (l : Listing) → ReadsIn profile bytes r.tokens r.tree → IsListing r l → All (λ u. ArePlain (map (words bytes r.tokens) (dotted u.reference.now.words))) l.used.items
+words_plain profile bytes r l x is = λ k d m.
     (let u = get_or l.used.items k d in
-    (uses_plain bytes r.tokens r.tree x (used_by (read l.declared.items) u)
+    (uses_plain profile bytes r.tokens r.tree x (used_by (read l.declared.items) u)
     (subst (λ (z : List (Used ℕ)). Contains z (used_by (read l.declared.items) u)) is.used (contains_map (used_by (read l.declared.items)) l.used.items u (Contains-get_or l.used.items k d m)))).0)
 
 -- with the words of the tokens as another read of the file has them
@@ -107,7 +108,7 @@ module _ (files : List FileOf) (reads : List ReadOf) (are : AreRead files reads)
   reference z = reference_by file (declared_names files reads file) (word_at z)
 
   same_listing : IsListing (read_at reads file) l
-  same_listing = subst (λ (z : ReadOf). IsListing z l) (one_reading (file_at files file).bytes r (read_at reads file) reading (are.trees file within)) is
+  same_listing = subst (λ (z : ReadOf). IsListing z l) (one_reading (file_at files file).profile (file_at files file).bytes r (read_at reads file) reading (are.trees file within)) is
 
   same_words : ls ≡ map (lexeme_at (file_at files file).bytes) (read_at reads file).tokens
   same_words = words_are ∙ ap (λ (z : List ℕ). map (lexeme_at z) tokens) source_is

@@ -149,7 +149,7 @@ module _ (files : List FileOf) (reads : List ReadOf) (are : AreRead files reads)
               | inr less ↦ let n = less.1 in omega (arith, n, number)
             ]
         | inr later ↦
-            let rising = subst (AllPairs (λ x y. x.first < y.first)) b.parts (uses_rising (file_at files file).bytes (read_at reads file).tokens (read_at reads file).tree (are.trees file within)) in
+            let rising = subst (AllPairs (λ x y. x.first < y.first)) b.parts (uses_rising (file_at files file).profile (file_at files file).bytes (read_at reads file).tokens (read_at reads file).tree (are.trees file within)) in
             let behind : b.faulty.first < u.first = pair_behind (λ x y. x.first < y.first) b.before b.behind b.faulty u rising later in
             let first = b.token_is in
             elim before [

@@ -75,6 +75,6 @@ pub uses_are_words : UsesAreWords
 uses_are_words files reads are file within u c r same tokens tokens_are =
     let bytes = (file_at files file).bytes in
     let mine = (read_at reads file).tokens in
-    let plain = (uses_plain bytes mine (read_at reads file).tree (are.trees file within) u c).0 in
+    let plain = (uses_plain (file_at files file).profile bytes mine (read_at reads file).tree (are.trees file within) u c).0 in
     subst (λ z. ArePlain (map (words bytes z) (dotted r.words))) (one_token_list bytes mine tokens (are.tokens file within) tokens_are)
     (subst (λ z. ArePlain (map (words bytes mine) z)) (sym same) plain)

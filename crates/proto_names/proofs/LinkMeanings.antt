@@ -24,7 +24,7 @@ rising_by f g xs ys same rise i j d l m =
 pub tokens_rise : (t : Table) (files : List FileOf) (reads : List ReadOf) → AreRead files reads → (file : ℕ) → file < length files → (ms : List Meant) → AreFileMeant t files reads file ms → AllPairs (λ m n. m.token < n.token) ms
 tokens_rise t files reads are file l ms meant =
     rising_by (λ m. m.token) (λ u. u.first) ms (uses_of reads file) meant.places
-    (uses_rising (file_at files file).bytes (read_at reads file).tokens (read_at reads file).tree (are.trees file l))
+    (uses_rising (file_at files file).profile (file_at files file).bytes (read_at reads file).tokens (read_at reads file).tree (are.trees file l))
 
 pub all_tokens_rise : (t : Table) (files : List FileOf) (reads : List ReadOf) → AreRead files reads → (meant : List (Vec Meant)) → length meant ≡ length files
     → ((k : ℕ) → k < length files → AreFileMeant t files reads k (get_or (map (λ v. v.items) meant) k [])) → All (λ v. AllPairs (λ m n. m.token < n.token) v.items) meant

@@ -3,7 +3,7 @@
 ghost use Rattle.std.specs.Prelude.{◌≡◌, ◌<◌, ℕ, List, [], length, get_or, map, IfOk, IfErr};
 ghost use Rattle.std.specs.List.{All};
 ghost use Rattle.proto_files.specs.GivenFiles.{file_at};
-ghost use Rattle.proto_tree.specs.Reads.{Reads};
+ghost use Rattle.proto_tree.specs.Reads.{ReadsIn};
 ghost use Rattle.proto_names_rules.specs.Faults.{Fault, ReferenceFault};
 ghost use Rattle.proto_names.specs.FileReferences.{AreFileMeant, AreLinked, IsFileReferenceError, IsFileLinked, IsLeastBad};
 ghost use Rattle.proto_files.specs.FilesRead.{ReadOf, AreRead};
@@ -88,7 +88,8 @@ pub(crate) fn file_meanings(
 ) -> Result<Vec<Meant>, ReferenceError>
     requires file { file < length files.now }
     requires table { IsTable table.now }
-    requires listing { (r : ReadOf) × Reads (file_at files.now file).bytes r.tokens r.tree
+    requires listing { (r : ReadOf) × ReadsIn (file_at files.now file).profile
+        (file_at files.now file).bytes r.tokens r.tree
         × IsListing r listing.now }
     requires rows { length rows.now ≡ length listing.now.declared.items }
     requires within { All (λ r. r < length table.now.rows.items) rows.now }

@@ -58,7 +58,7 @@ module _ (files : List FileOf) (reads : List ReadOf) (are : AreRead files reads)
       let last = o.inside in
       let inside : o.k < length files = omega (arith, last, same) in
       let tree = (read_at reads o.k).tree in
-      let span = tree_span (file_at files o.k).bytes (read_at reads o.k).tokens tree (are.trees o.k inside) in
+      let span = tree_span (file_at files o.k).profile (file_at files o.k).bytes (read_at reads o.k).tokens tree (are.trees o.k inside) in
       let listed = (same_declared (items_in tree) span.0 span.1 span.2 o.p).1 o.within in
       let there : Contains (declared_names files reads o.k) (name_of (λ i. text (at o.k i)) entry_name (whole o.p)) = contains_map (λ (p : Placed). name_of (λ i. text (at o.k i)) entry_name (whole p)) (package_first (items_in tree)) o.p listed in
       let name : name_of (λ i. text (at o.k i)) entry_name (whole o.p) ≡ s.name = sym (name_in text o.k (whole o.p)) ∙ ap (λ (z : Symbol). z.name) is in

@@ -253,7 +253,7 @@ else_none p b e = by (p b) refl e
 
 -- ---- as a file is read
 
-pub fields_read : (files : List FileOf) (reads : List ReadOf) → AreRead files reads → (file : ℕ) → file < length files → (scene : Scene) → IsReadAs files reads file scene → (tree : Tree) → IsTreeOf (file_at files file).bytes tree → (token : ℕ) (blocks : List BlockOf) → blocks ≡ holders_in tree
+pub fields_read : (files : List FileOf) (reads : List ReadOf) → AreRead files reads → (file : ℕ) → file < length files → (scene : Scene) → IsReadAs files reads file scene → (tree : Tree) → IsTreeOf (file_at files file) tree → (token : ℕ) (blocks : List BlockOf) → blocks ≡ holders_in tree
     → first_field (text_in scene) token blocks ≡ first_field (λ t. text_of files reads (at file t)) token (blocks_in (read_at reads file).tree)
 fields_read files reads are file within scene as_read tree of_file token blocks is =
     ap (first_field (text_in scene) token) is

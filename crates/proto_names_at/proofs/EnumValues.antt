@@ -12,7 +12,7 @@ use Rattle.proto_resolved.specs.SceneOf.{is_enum_at, lexemes_of}
 use Rattle.proto_resolved.proofs.Holders.{found_in_holders}
 use Rattle.proto_names_at.specs.Defaults.{value_in, value_of_enum}
 
-module _ (files : List FileOf) (reads : List ReadOf) (are : AreRead files reads) (file : ℕ) (within : file < length files) (tree : Tree) (of_file : IsTreeOf (file_at files file).bytes tree) (token : ℕ) (blocks : List BlockOf) (is : blocks ≡ holders_in tree) where
+module _ (files : List FileOf) (reads : List ReadOf) (are : AreRead files reads) (file : ℕ) (within : file < length files) (tree : Tree) (of_file : IsTreeOf (file_at files file) tree) (token : ℕ) (blocks : List BlockOf) (is : blocks ≡ holders_in tree) where
   -- the enum is the first at the token of all blocks
   enum_is : find (λ b. is_enum_at token b.header) blocks ≡ find (λ b. is_enum_at token b.header) (blocks_in (read_at reads file).tree)
   enum_is =

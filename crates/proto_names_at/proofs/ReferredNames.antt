@@ -2,7 +2,7 @@
 use Rattle.std.proofs.Common.{◌≡◌, ◌≢◌, ◌↔◌, ℕ, ◌+◌, ◌<◌, ◌==◌, Bool, true, false, List, [], ◌∷◌, ◌++◌, length, get_or, map, Option, Some, None, option_map, refl, sym, ap, subst, ◌∙◌, inl, inr, arith, append_assoc, append-nil, Contains, eqb-true, eq-eqb, if◌then◌else◌}
 use Rattle.proto_base.proofs.Common.{append_cancel_right, cases_Bool, cond-true, cond-false, contains_cases, contains_head, contains_later, contains_map, from_flat_map, length-map, to_flat_map, none-some, option_or, same_Some, Contains-append_left, Contains-append_right}
 use Rattle.proto_case.specs.Camel.{entry_name}
-use Rattle.proto_tree.proofs.Common.{dotted, Reads, Tree}
+use Rattle.proto_tree.proofs.Common.{dotted, ReadsIn, Tree}
 use Rattle.proto_files.proofs.Common.{HasNoFault, FileOf, file_at, ReadOf, AreRead, read_at, one_reading}
 use Rattle.proto_names_outline.proofs.Common.{file_names, used_by}
 use Rattle.proto_names_outline.specs.declared.listing.Use.{Use}
@@ -232,10 +232,10 @@ module _ (files : List FileOf) (reads : List ReadOf) (are : AreRead files reads)
           no_use us (get_or l.meant file []) all_meant e o.v (subst (λ z. Contains z o.v) (sym uses) o.within) o.word
 
 -- the references of a listing are those of the file as it is read
-pub uses_are : (files : List FileOf) (reads : List ReadOf) → AreRead files reads → (file : ℕ) → file < length files → (tree : Tree) → Reads (file_at files file).bytes (read_at reads file).tokens tree → (file_names tree).used ≡ uses_of reads file
+pub uses_are : (files : List FileOf) (reads : List ReadOf) → AreRead files reads → (file : ℕ) → file < length files → (tree : Tree) → ReadsIn (file_at files file).profile (file_at files file).bytes (read_at reads file).tokens tree → (file_names tree).used ≡ uses_of reads file
 uses_are files reads are file within tree r =
     let own : ReadOf = record { tokens = (read_at reads file).tokens; tree = tree } in
-    ap (λ (z : ReadOf). (names_in z).used) (one_reading (file_at files file).bytes own (read_at reads file) r (are.trees file within))
+    ap (λ (z : ReadOf). (names_in z).used) (one_reading (file_at files file).profile (file_at files file).bytes own (read_at reads file) r (are.trees file within))
 
 -- ---- for the answers
 

@@ -3,8 +3,9 @@ use Rattle.std.proofs.Common.{◌≡◌, ◌↔◌, ◌⊎◌, ℕ, ◌+◌, ◌
 use Rattle.proto_base.proofs.Common.{Vec, get_or-map as get_or-map_within, Contains-get_or, cases_eq, contains_map, from_map, length-map}
 use Rattle.std.proofs.Math.ListN.{get_or-map}
 use Rattle.proto_text.proofs.Common.{AreTokens, Lexeme, lexeme_at, one_token_list, word_at, words}
+use Rattle.proto_base.specs.declared.profile.Profile.{Profile}
 use Rattle.proto_text.specs.declared.lexer.Token.{Token}
-use Rattle.proto_tree.proofs.Common.{Reads, dotted}
+use Rattle.proto_tree.proofs.Common.{ReadsIn, dotted}
 use Rattle.proto_tree.specs.Tree.{End}
 use Rattle.proto_files.proofs.Common.{AreRead, FileOf, ReadOf, file_at, one_reading, read_at}
 use Rattle.proto_case.specs.Camel.{entry_name}
@@ -92,20 +93,20 @@ module _ (files : List FileOf) (reads : List ReadOf) (file : ℕ) (l : Listing) 
           }
 
 -- the words of a listing's references are plain
-pub words_plain : (bytes : List ℕ) (r : ReadOf) (l : Listing) → Reads bytes r.tokens r.tree → IsListing r l → All (λ u. ArePlain (map (words bytes r.tokens) (dotted u.reference.now.words))) l.used.items
-words_plain bytes r l x is = λ k d m.
+pub words_plain : (profile : Profile) (bytes : List ℕ) (r : ReadOf) (l : Listing) → ReadsIn profile bytes r.tokens r.tree → IsListing r l → All (λ u. ArePlain (map (words bytes r.tokens) (dotted u.reference.now.words))) l.used.items
+words_plain profile bytes r l x is = λ k d m.
     (let u = get_or l.used.items k d in
-    (uses_plain bytes r.tokens r.tree x (used_by (read l.declared.items) u)
+    (uses_plain profile bytes r.tokens r.tree x (used_by (read l.declared.items) u)
     (subst (λ (z : List (Used ℕ)). Contains z (used_by (read l.declared.items) u)) is.used (contains_map (used_by (read l.declared.items)) l.used.items u (Contains-get_or l.used.items k d m)))).0)
 
 -- with the words of the tokens as another read of the file has them
-module _ (files : List FileOf) (reads : List ReadOf) (are : AreRead files reads) (file : ℕ) (within : file < length files) (r : ReadOf) (reading : Reads (file_at files file).bytes r.tokens r.tree) (l : Listing) (is : IsListing r l)
+module _ (files : List FileOf) (reads : List ReadOf) (are : AreRead files reads) (file : ℕ) (within : file < length files) (r : ReadOf) (reading : ReadsIn (file_at files file).profile (file_at files file).bytes r.tokens r.tree) (l : Listing) (is : IsListing r l)
     (tokens : List Token) (tokens_are : AreTokens (file_at files file).bytes tokens) (ls : List Lexeme) (words_are : ls ≡ map (lexeme_at (file_at files file).bytes) tokens) where
   abbrev reference : List Lexeme → Use → Reference
   reference z = reference_by file (declared_names files reads file) (word_at z)
 
   same_listing : IsListing (read_at reads file) l
-  same_listing = subst (λ (z : ReadOf). IsListing z l) (one_reading (file_at files file).bytes r (read_at reads file) reading (are.trees file within)) is
+  same_listing = subst (λ (z : ReadOf). IsListing z l) (one_reading (file_at files file).profile (file_at files file).bytes r (read_at reads file) reading (are.trees file within)) is
 
   same_words : ls ≡ map (lexeme_at (file_at files file).bytes) (read_at reads file).tokens
   same_words = words_are

@@ -6,7 +6,7 @@ ghost use Rattle.proto_files.specs.Faults.{HasNoFault, fault_at};
 ghost use Rattle.proto_files.specs.FilesRead.{AreRead, ReadOf};
 ghost use Rattle.proto_files.specs.GivenFiles.{file_at};
 ghost use Rattle.proto_text.specs.Texts.{word_at};
-ghost use Rattle.proto_tree.specs.Reads.{Reads};
+ghost use Rattle.proto_tree.specs.Reads.{ReadsIn};
 ghost use Rattle.proto_tree.specs.References.{dotted};
 ghost use Rattle.proto_names_imports.specs.Links.{AreListings, IsListing, link_skeleton, text_of};
 ghost use Rattle.proto_names_outline.specs.Listing.{needs};
@@ -124,8 +124,8 @@ fn add_file_flaws(
 ) -> Result<(), NoMemory>
     requires file { view.now.file < length files.now }
     requires table { IsTable view.now.table.now }
-    requires listing { (r : ReadOf)
-        × Reads (file_at files.now view.now.file).bytes r.tokens r.tree × IsListing r listing.now }
+    requires listing { (r : ReadOf) × ReadsIn (file_at files.now view.now.file).profile
+        (file_at files.now view.now.file).bytes r.tokens r.tree × IsListing r listing.now }
     requires rows { length view.now.rows.now ≡ length listing.now.declared.items }
     requires within { All (λ r. r < length view.now.table.now.rows.items) view.now.rows.now }
     ensures { OnOk result ((reads : List ReadOf) → AreRead files.now reads

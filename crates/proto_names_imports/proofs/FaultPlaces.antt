@@ -82,17 +82,17 @@ module _ (files : List FileOf) (reads : List ReadOf) (are_read : AreRead files r
   import_there : (text : At → List ℕ) (a : AskedImport) → Contains (all_wanted text 0 reads) a → IsThere a.place
   import_there text a c =
       in_files (Imports a.place) a.place
-      (λ k l h. subst IsThere h.2 (l, import_here (file_at files k).bytes (read_at reads k).tokens (read_at reads k).tree (are_read.trees k l) h.0 h.1)) (imports_from text 0 reads a c)
+      (λ k l h. subst IsThere h.2 (l, import_here (file_at files k).profile (file_at files k).bytes (read_at reads k).tokens (read_at reads k).tree (are_read.trees k l) h.0 h.1)) (imports_from text 0 reads a c)
 
   declared_there : (d : Declared At) → Contains (link_skeleton files reads).declared d → IsThere (place_of d)
   declared_there d c =
       in_files (Declares (place_of d)) (place_of d)
-      (λ k l h. subst IsThere h.2 (l, name_here (file_at files k).bytes (read_at reads k).tokens (read_at reads k).tree (are_read.trees k l) h.0 h.1)) (declared_from 0 reads d c)
+      (λ k l h. subst IsThere h.2 (l, name_here (file_at files k).profile (file_at files k).bytes (read_at reads k).tokens (read_at reads k).tree (are_read.trees k l) h.0 h.1)) (declared_from 0 reads d c)
 
   use_there : (u : Used At) → Contains (link_skeleton files reads).used u → IsThere u.first
   use_there u c =
       in_files (Refers u.first) u.first
-      (λ k l h. subst IsThere h.2 (l, use_here (file_at files k).bytes (read_at reads k).tokens (read_at reads k).tree (are_read.trees k l) h.0 h.1)) (used_from 0 reads u c)
+      (λ k l h. subst IsThere h.2 (l, use_here (file_at files k).profile (file_at files k).bytes (read_at reads k).tokens (read_at reads k).tree (are_read.trees k l) h.0 h.1)) (used_from 0 reads u c)
 
   -- a fault of a phase, at a token that is there
   pub record IsFoundIn (phase : ℕ) (f : Fault) : Type 0 where

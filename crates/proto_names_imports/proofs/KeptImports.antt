@@ -2,7 +2,7 @@
 use Rattle.std.proofs.Common.{◌≡◌, ℕ, zero, suc, ◌+◌, ◌<◌, List, [], ◌∷◌, ◌++◌, length, map, option_map, Option, Some, None, refl, sym, ◌∙◌, ap, subst, inl, inr, arith, Contains, filter_map}
 use Rattle.proto_base.proofs.Common.{Contains-append_left, Contains-append_right, Contains-append_cases, cons_option, contains_cases, contains_head, contains_later, from_map, filter_map-append, length-map, none-some, or_nothing, same_Some}
 use Rattle.proto_text.proofs.Common.{value_of, words}
-use Rattle.proto_tree.specs.Reads.{Reads}
+use Rattle.proto_tree.specs.Reads.{ReadsIn}
 use Rattle.proto_files.proofs.Common.{FileOf, file_at, paths_of, ReadOf, read_at, AreRead, one_reading}
 use Rattle.proto_names_outline.proofs.Common.{Wanted, imports_in}
 use Rattle.proto_names_rules.specs.Faults as all
@@ -151,8 +151,8 @@ module _ (files : List FileOf) (reads : List ReadOf) (are : AreRead files reads)
 -- a file that is the same in both is read alike
 read_alike : (before files : List FileOf) (had reads : List ReadOf) → AreRead before had → AreRead files reads → (k : ℕ) → k < length before → k < length files → file_at before k ≡ file_at files k → read_at had k ≡ read_at reads k
 read_alike before files had reads x y k l m same =
-    one_reading (file_at files k).bytes (read_at had k) (read_at reads k)
-    (subst (λ (f : FileOf). Reads f.bytes (read_at had k).tokens (read_at had k).tree) same (x.trees k l)) (y.trees k m)
+    one_reading (file_at files k).profile (file_at files k).bytes (read_at had k) (read_at reads k)
+    (subst (λ (f : FileOf). ReadsIn f.profile f.bytes (read_at had k).tokens (read_at had k).tree) same (x.trees k l)) (y.trees k m)
 
 abbrev own_of : FileOf → ReadOf → ℕ → List AskedImport
 own_of f r file = map (λ (w : Wanted). let a : AskedImport = record { place = at file w.path; path = or_nothing (value_of (words f.bytes r.tokens w.path)); is_public = w.is_public } in a) (imports_in r.tree)

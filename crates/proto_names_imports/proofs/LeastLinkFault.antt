@@ -11,6 +11,7 @@ use Rattle.proto_names_rules.proofs.Common.{Fault, fault, FaultIsBefore, IsLeast
 use Rattle.proto_names_imports.specs.LinkErrors.{IsLinkError}
 use Rattle.proto_names_imports.specs.Links.{text_of, all_wanted, link_skeleton, FaultStandsAt, LinkFaults, of_import, of_name, of_reference}
 use Rattle.proto_names_imports.proofs.FaultPlaces.{IsFoundIn, import_found, name_found, reference_found}
+use Rattle.proto_files.specs.GivenFiles.{no_file}
 
 offset_rises : (text : List ℕ) (tokens : List Token) (i j : ℕ) → AreTokens text tokens → i < j → j < length tokens → offset_at tokens i < offset_at tokens j
 offset_rises text tokens i j lexed lt within =
@@ -34,7 +35,7 @@ one_token text tokens i j lexed li lj e = elim (cases_order i j) [
 
 module _ (files : List FileOf) (are_files : AreWorkspaceFiles files) where
   path_rises : (i j : ℕ) → i < j → j < length files → PathIsBefore (file_at files i).path (file_at files j).path
-  path_rises i j lt within = are_files.ordered i j (record { path = []; bytes = [] }) lt within
+  path_rises i j lt within = are_files.ordered i j no_file lt within
 
   pub file_before : (i j : ℕ) → i < length files → PathIsBefore (file_at files i).path (file_at files j).path → i < j
   file_before i j within h = elim (cases_order i j) [

@@ -3,6 +3,7 @@ pub mod Common
 mod CycleFaults
 pub mod FaultPlaces
 pub mod FileUses
+pub mod FilesAsWritten
 mod FilesAsked
 mod FoundImports
 mod ImportFaults

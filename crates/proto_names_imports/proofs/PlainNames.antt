@@ -120,4 +120,4 @@ names_are_plain files reads are s c =
     (declared_plain (text_of files reads) 0 reads (λ k l q cq t e.
     let m = are.same in
     let z : k ≡ 0 + k = omega arith in
-    subst (λ i. IsPlain (text_of files reads (at i t))) z (placed_plain (file_at files k).bytes (read_at reads k).tokens (read_at reads k).tree (are.trees k (omega (arith, l, m))) q cq t e)) d.0 d.1)
+    subst (λ i. IsPlain (text_of files reads (at i t))) z (placed_plain (file_at files k).profile (file_at files k).bytes (read_at reads k).tokens (read_at reads k).tree (are.trees k (omega (arith, l, m))) q cq t e)) d.0 d.1)

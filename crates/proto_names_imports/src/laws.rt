@@ -1,5 +1,6 @@
 //! Laws of imports, for the layers above. None of these does anything.
 
+ghost use Rattle.proto_names_imports.specs.AsWritten.{CoreFilesLink, NamesAskNoLanguage};
 ghost use Rattle.proto_names_imports.specs.Laws.{KeptImportsAreEqual, KeptImportsAreSound, ListedImportsAreSound, ListedImportsAreThese};
 
 /// Where each file is as it was, or names by its imports the files that it named, all known and
@@ -14,4 +15,11 @@ pub fn kept_imports_stay()
 pub fn listed_imports_are_known()
     ensures these { ListedImportsAreThese }
     ensures sound { ListedImportsAreSound }
+{}
+
+/// The names, imports and references of files do not ask for the files' language; and files of the
+/// core language that have no fault of these have none as written.
+pub fn names_ask_no_language()
+    ensures same { NamesAskNoLanguage }
+    ensures clean { CoreFilesLink }
 {}

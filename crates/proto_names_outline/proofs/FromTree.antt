@@ -24,10 +24,11 @@ use Rattle.proto_tree.specs.declared.context.Context.{Context}
 use Rattle.proto_tree.specs.declared.context.Context.TheVariants as context
 use Rattle.proto_tree.specs.declared.context.Kind.TheVariants as kind
 use Rattle.proto_text.specs.Tokens.{Lexeme}
-use Rattle.proto_tree.proofs.Common.{classes, Mark, Fit, mark, one, name, only, flat_option, flat_all, flat_behind, flat_type, flat_settings, flat_separated, flat_package, flat_field, flat_map_field, flat_value, flat_signed, flat_method_type, flat_signature, flat_statement, flat_heading, flat_header, Tree, End, Leaf, Block, flat, allows, after, statement_kind, header_kind, IsWellFormed, Spells, dotted}
+use Rattle.proto_tree.proofs.Common.{Mark, Fit, mark, one, name, only, flat_option, flat_all, flat_behind, flat_type, flat_settings, flat_separated, flat_package, flat_field, flat_map_field, flat_value, flat_signed, flat_method_type, flat_signature, flat_statement, flat_heading, flat_header, Tree, End, Leaf, Block, flat, allows, after, statement_kind, header_kind, IsWellFormed, Spells, dotted, classes_in}
 use Rattle.proto_names_rules.specs.declared.kind.Kind.TheVariants.{Message, Service, Method}
 use Rattle.proto_names_rules.proofs.Common.{Source, Token, Used, Member, field, map_field, oneof, message, enum, service, extend, Members, no_members, member, Items, no_items, packaged, item, Placed, place, placed, all_placed, package_of, prefixes, items_placed, file_placed, Spans, AllSpan, Rises, ItemsSpan, IsGrown, prefix_whole, package_within}
 use Rattle.proto_names_outline.specs.FromTree.{field_names, value_names, method_names, no_names, block_names, picked, add_statement, add_block, members_in, file_statement, file_block, items_in, statement_uses, type_uses, used_as, signature_uses, header_uses, flat_uses, block_uses, member_uses, item_uses, file_names}
+use Rattle.proto_base.specs.declared.profile.Profile.{Profile}
 
 -- the indices of the marks are those from n on, in order
 abbrev pub IsNumbered : ℕ → List Mark → Type 0
@@ -454,16 +455,16 @@ items_scoped (Block whole i within j rest) path u c = items_scoped rest path u c
 
 -- ---- a file
 
-numbered_from : (n : ℕ) (ms : List Mark) (ls : List Lexeme) → Fit ms (classes n ls) → IsNumbered n ms
-numbered_from n [] ls h = tt
-numbered_from n (m ∷ ms) [] h = absurd h
-numbered_from n (m ∷ ms) (l ∷ ls) h = let e : n + 1 ≡ suc n = omega arith in (sym h.1, subst (λ k. IsNumbered k ms) (sym e) (numbered_from (suc n) ms ls h.2))
+numbered_from : (profile : Profile) (n : ℕ) (ms : List Mark) (ls : List Lexeme) → Fit ms (classes_in profile n ls) → IsNumbered n ms
+numbered_from profile n [] ls h = tt
+numbered_from profile n (m ∷ ms) [] h = absurd h
+numbered_from profile n (m ∷ ms) (l ∷ ls) h = let e : n + 1 ≡ suc n = omega arith in (sym h.1, subst (λ k. IsNumbered k ms) (sym e) (numbered_from profile (suc n) ms ls h.2))
 
-pub tree_grown : (t : Tree) (ls : List Lexeme) → Spells t (classes 0 ls) → IsGrown (file_names t)
-tree_grown t ls s = record {
+pub tree_grown : (profile : Profile) (t : Tree) (ls : List Lexeme) → Spells t (classes_in profile 0 ls) → IsGrown (file_names t)
+tree_grown profile t ls s = record {
   low = 0;
   high = length (flat t);
-  span = items_span t context.Start 0 (length (flat t)) s.well_formed (numbered_from 0 (flat t) ls s.fits) (omega arith);
+  span = items_span t context.Start 0 (length (flat t)) s.well_formed (numbered_from profile 0 (flat t) ls s.fits) (omega arith);
   scopes = λ u c ne. elim (items_scoped t (map (λ i. Token i) (package_of (items_in t))) u c) [
     | inl e ↦ package_scope (package_of (items_in t)) refl u e ne
     | inr p ↦ p

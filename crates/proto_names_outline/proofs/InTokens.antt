@@ -6,8 +6,8 @@ use Rattle.proto_text.proofs.Common.{lexeme_at, length_map}
 use Rattle.proto_tree.specs.declared.class.Class.TheVariants as class
 use Rattle.proto_tree.specs.declared.class.Expected.{Expected}
 use Rattle.proto_tree.specs.declared.class.Expected.TheVariants as want
-use Rattle.proto_tree.proofs.Common.{Mark, Numbered, Reads, Tree, flat, trees_are_numbered}
-use Rattle.proto_tree.proofs.MarkLaws.{fit_length}
+use Rattle.proto_tree.proofs.Common.{Mark, Numbered, Tree, flat, ReadsIn, trees_are_numbered_in}
+use Rattle.proto_tree.proofs.MarkLaws.{fit_length_in}
 use Rattle.proto_names_rules.proofs.Common.{Source, Token, EntryOf, Given, Used, Member, field, map_field, oneof, message, enum, service, extend, Members, no_members, member, Items, no_items, packaged, item, Placed, place, placed, all_placed, prefixes, items_placed, package_of, file_placed, key_word, value_word, place_from, rising_each}
 use Rattle.proto_names_rules.specs.declared.kind.Kind.{Kind}
 use Rattle.proto_names_outline.specs.Common.{Wanted, imports_in, items_in, file_names, whole, last_token, later}
@@ -17,6 +17,7 @@ use Rattle.proto_names_outline.proofs.MarkedNames.{declared_worded}
 use Rattle.proto_names_outline.proofs.MarkedUses.{Uses, items_rise, imports_rise, words_past}
 use Rattle.proto_names_outline.proofs.PackageFirst.{same_declared}
 use Rattle.proto_names_outline.proofs.ReadTrees.{tree_span}
+use Rattle.proto_base.specs.declared.profile.Profile.{Profile}
 
 -- ---- the token that a declaration stands at
 
@@ -81,7 +82,7 @@ has_last is p c = All-contains HasLast (file_placed is) p (All-from_recursion Ha
 
 -- ---- a tree that was read
 
-module _ (text : List ℕ) (tokens : List TextToken) (tree : Tree) (reads : Reads text tokens tree) where
+module _ (profile : Profile) (text : List ℕ) (tokens : List TextToken) (tree : Tree) (reads : ReadsIn profile text tokens tree) where
   abbrev Here : ℕ → Type 0
   Here i = i < length tokens
 
@@ -94,7 +95,7 @@ module _ (text : List ℕ) (tokens : List TextToken) (tree : Tree) (reads : Read
   known _ i l = tt
 
   as_long : length (flat tree) ≡ length tokens
-  as_long = fit_length 0 (flat tree) (map (lexeme_at text) tokens) reads.spells.fits ∙ length_map (lexeme_at text) tokens
+  as_long = fit_length_in profile 0 (flat tree) (map (lexeme_at text) tokens) reads.spells.fits ∙ length_map (lexeme_at text) tokens
 
   are_marked : (n : ℕ) (ms : List Mark) → Numbered n ms → n + length ms ≤ length tokens → Are Here Here Here n ms
   are_marked n [] num le = tt
@@ -103,7 +104,7 @@ module _ (text : List ℕ) (tokens : List TextToken) (tree : Tree) (reads : Read
       (num.0, known m.want m.at (omega (arith, num.0, le)), subst (λ (k : ℕ). Are Here Here Here k ms) e (are_marked (suc n) ms num.1 (omega (arith, le))))
 
   are : Are Here Here Here 0 (flat tree)
-  are = are_marked 0 (flat tree) (trees_are_numbered tree (map (lexeme_at text) tokens) reads.spells) (omega (arith, as_long))
+  are = are_marked 0 (flat tree) (trees_are_numbered_in profile tree (map (lexeme_at text) tokens) reads.spells) (omega (arith, as_long))
 
   pub import_here : (w : Wanted) → Contains (imports_in tree) w → w.path < length tokens
   import_here = rising_each (λ w. w.path) (λ w. Here w.path) (imports_in tree) 0 (length (flat tree)) (imports_rise Here Here Here tree 0 (length (flat tree)) are (omega arith))
@@ -121,7 +122,7 @@ module _ (text : List ℕ) (tokens : List TextToken) (tree : Tree) (reads : Read
 
   pub name_here : (p : Placed) → Contains (file_placed (items_in tree)) p → place_from 0 (whole p) < length tokens
   name_here p c =
-      let span = tree_span text tokens tree reads in
+      let span = tree_span profile text tokens tree reads in
       let last = has_last (items_in tree) p c in
       let at : place_from 0 (whole p) ≡ last.0 = place_is 0 (whole p) ∙ ap (or_at 0) last.1 in
       let here : last.0 < length tokens = declared_worded Here Here Here tree 0 are p ((same_declared (items_in tree) span.0 span.1 span.2 p).1 c) last.0 last.1 in

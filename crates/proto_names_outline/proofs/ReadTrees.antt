@@ -11,7 +11,7 @@ use Rattle.proto_tree.specs.declared.class.Class.{Class}
 use Rattle.proto_tree.specs.declared.class.Class.TheVariants as class
 use Rattle.proto_tree.specs.declared.class.Expected.{Expected}
 use Rattle.proto_tree.specs.declared.class.Expected.TheVariants as want
-use Rattle.proto_tree.proofs.Common.{is_word, is_text, fits, Mark, Reads, Tree, flat, Listed, class_in, marks, class_by, trees_are_numbered, marks_fit, word_is_word, words_only, place_of_word}
+use Rattle.proto_tree.proofs.Common.{is_word, is_text, fits, Mark, Tree, flat, Listed, class_in, marks, class_by, word_is_word, words_only, place_of_word, ReadsIn, trees_are_numbered_in, marks_fit_in}
 use Rattle.proto_names_outline.specs.Common.{Wanted, items_in, imports_in, file_names, whole, last_token, package_first}
 use Rattle.proto_names_rules.proofs.Common.{IsPlain, ArePlain, Token as TokenOf, Used, Placed, ItemsSpan, package_of, file_placed, rising_each, rising_pairs}
 use Rattle.proto_names_rules.specs.declared.kind.Kind.TheVariants.{Package}
@@ -20,6 +20,9 @@ use Rattle.proto_names_outline.proofs.MarkedNames.{declared_worded, declared_asc
 use Rattle.proto_names_outline.proofs.MarkedTokens.{Are, are_from, Known}
 use Rattle.proto_names_outline.proofs.MarkedUses.{Uses, items_rise, Imports, imports_rise, uses_each, uses_firsts}
 use Rattle.proto_names_outline.proofs.PackageFirst.{same_declared}
+use Rattle.proto_base.specs.declared.profile.Profile.{Profile}
+use Rattle.proto_base.specs.declared.profile.Profile.TheVariants.{AsWritten, Core}
+use Rattle.proto_tree.specs.Words.{class_as}
 
 -- ---- words hold no point
 
@@ -61,7 +64,7 @@ text_only Text w h = refl
 text_only Word w h = absurd (no_word_text (class_by Word w) h (word_is_word w))
 text_only Number w h = absurd cc
 text_only Punctuation w h =
-    absurd (differ (sym (no_text_in marks class.Other w (refl, (refl, (refl, (refl, (refl, (refl, (refl, (refl, (refl, (refl, (refl, (refl, (refl, tt))))))))))))) refl) ∙ h))
+    absurd (differ (sym (no_text_in marks class.Other w (refl, (refl, (refl, (refl, (refl, (refl, (refl, (refl, (refl, (refl, (refl, (refl, (refl, (refl, tt)))))))))))))) refl) ∙ h))
 
 pub word_is : (ls : List Lexeme) (i : ℕ) (other : Lexeme) → i < length ls → word_at ls i ≡ (get_or ls i other).text
 word_is [] i other lt = absurd (omega (arith, lt))
@@ -74,7 +77,19 @@ plain_all text (t ∷ ts) h = (h.0, plain_all text ts h.1)
 
 -- ---- a tree that was read
 
-module _ (text : List ℕ) (tokens : List Token) (tree : Tree) (reads : Reads text tokens tree) where
+-- ---- a class in the language as written
+
+pub same_word : (profile : Profile) (c : Class) → is_word (class_as profile c) ≡ is_word c
+same_word AsWritten class.LeftParenthesis = refl
+same_word AsWritten _ = refl
+same_word Core c = refl
+
+pub same_text : (profile : Profile) (c : Class) → is_text (class_as profile c) ≡ is_text c
+same_text AsWritten class.LeftParenthesis = refl
+same_text AsWritten _ = refl
+same_text Core c = refl
+
+module _ (profile : Profile) (text : List ℕ) (tokens : List Token) (tree : Tree) (reads : ReadsIn profile text tokens tree) where
   abbrev W : ℕ → Type 0
   W i = IsPlain (words text tokens i)
 
@@ -85,8 +100,11 @@ module _ (text : List ℕ) (tokens : List Token) (tree : Tree) (reads : Reads te
     abbrev l : Lexeme
     l = get_or (map (lexeme_at text) tokens) m.at other
 
-    fit : (m.at < length (map (lexeme_at text) tokens)) × (fits m.want (class_by l.kind l.text) ≡ true)
-    fit = marks_fit tree (map (lexeme_at text) tokens) m other reads.spells c
+    abbrev k : Class
+    k = class_as profile (class_by l.kind l.text)
+
+    fit : (m.at < length (map (lexeme_at text) tokens)) × (fits m.want k ≡ true)
+    fit = marks_fit_in profile tree (map (lexeme_at text) tokens) m other reads.spells c
 
     text_is : words text tokens m.at ≡ l.text
     text_is = word_is (map (lexeme_at text) tokens) m.at other fit.0
@@ -94,17 +112,17 @@ module _ (text : List ℕ) (tokens : List Token) (tree : Tree) (reads : Reads te
     lexeme : IsLexeme (Solid l.kind) l.text
     lexeme = tokens_are_lexemes text tokens reads.tokens_are m.at other fit.0
 
-    as_word : is_word (class_by l.kind l.text) ≡ true → W m.at
-    as_word h = subst IsPlain (sym text_is) (run_is_plain l.text (subst (λ (k : TokenKind). IsLexeme (Solid k) l.text) (words_only l.kind l.text h) lexeme))
+    as_word : is_word k ≡ true → W m.at
+    as_word h = subst IsPlain (sym text_is) (run_is_plain l.text (subst (λ (t : TokenKind). IsLexeme (Solid t) l.text) (words_only l.kind l.text (sym (same_word profile (class_by l.kind l.text)) ∙ h)) lexeme))
 
-    as_text : is_text (class_by l.kind l.text) ≡ true → S m.at
-    as_text h = subst IsString (sym text_is) (subst (λ (k : TokenKind). IsLexeme (Solid k) l.text) (text_only l.kind l.text h) lexeme)
+    as_text : is_text k ≡ true → S m.at
+    as_text h = subst IsString (sym text_is) (subst (λ (t : TokenKind). IsLexeme (Solid t) l.text) (text_only l.kind l.text (sym (same_text profile (class_by l.kind l.text)) ∙ h)) lexeme)
 
-    as_wanted : (w : Expected) → fits w (class_by l.kind l.text) ≡ true → Known W W S w m.at
-    as_wanted (want.One class.Name) f = as_word (place_of_word (want.One class.Name) class.Name (class_by l.kind l.text) refl f refl)
+    as_wanted : (w : Expected) → fits w k ≡ true → Known W W S w m.at
+    as_wanted (want.One class.Name) f = as_word (place_of_word (want.One class.Name) class.Name k refl f refl)
     as_wanted want.Word f = as_word f
     as_wanted want.Name f = as_word f
-    as_wanted want.ValueName f = as_word (place_of_word want.ValueName class.Name (class_by l.kind l.text) refl f refl)
+    as_wanted want.ValueName f = as_word (place_of_word want.ValueName class.Name k refl f refl)
     as_wanted want.Text f = as_text f
     as_wanted _ f = tt
 
@@ -112,12 +130,12 @@ module _ (text : List ℕ) (tokens : List Token) (tree : Tree) (reads : Reads te
     known = as_wanted m.want fit.1
 
   are : Are W W S 0 (flat tree)
-  are = are_from W W S 0 (flat tree) (trees_are_numbered tree (map (lexeme_at text) tokens) reads.spells) (λ m. known m (record { kind = Word; text = [] }))
+  are = are_from W W S 0 (flat tree) (trees_are_numbered_in profile tree (map (lexeme_at text) tokens) reads.spells) (λ m. known m (record { kind = Word; text = [] }))
 
   -- ---- declarations
 
   pub tree_span : (low high : ℕ) × ItemsSpan low high (items_in tree)
-  tree_span = let g = tree_grown tree (map (lexeme_at text) tokens) reads.spells in (g.low, g.high, g.span)
+  tree_span = let g = tree_grown profile tree (map (lexeme_at text) tokens) reads.spells in (g.low, g.high, g.span)
 
   -- a declaration is named by a word
   pub names_plain : (p : Placed) → Contains (package_first (items_in tree)) p → (t : ℕ) → last_token (whole p) ≡ Some t → IsPlain (words text tokens t)

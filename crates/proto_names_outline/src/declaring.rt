@@ -4,7 +4,8 @@ ghost use Rattle.std.specs.Prelude.{◌≡◌, ◌≢◌, ◌++◌, ◌∷◌, �
 ghost use Rattle.std.specs.List.{All, Contains};
 ghost use Rattle.proto_text.specs.Tokens.{Lexeme};
 ghost use Rattle.proto_tree.specs.Tree.{Tree, Spells};
-ghost use Rattle.proto_tree.specs.Words.{classes};
+ghost use Rattle.proto_base.specs.declared.profile.Profile.{Profile};
+ghost use Rattle.proto_tree.specs.Words.{classes_in};
 ghost use Rattle.proto_names_outline.specs.FromTree.{file_names};
 ghost use Rattle.proto_names_outline.specs.Roles.{DeclaredTokensAreNames, NamesAreNoUses, TokensAreUsedOnce, UsedTokensRefer, UsedWordsStandApart};
 ghost use Rattle.proto_names_rules.specs.Names.{Import};
@@ -65,7 +66,8 @@ pub fn links()
 /// The tokens of what a file declares are in order, and each of its references stands in one of its
 /// declarations.
 pub fn file_trees()
-    ensures { (t : Tree) (ls : List Lexeme) → Spells t (classes 0 ls) → IsGrown (file_names t) }
+    ensures { (profile : Profile) (t : Tree) (ls : List Lexeme)
+        → Spells t (classes_in profile 0 ls) → IsGrown (file_names t) }
 {}
 
 /// A token that names a declaration is no word of a reference. A token is one word of one

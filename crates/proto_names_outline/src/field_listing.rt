@@ -1,7 +1,7 @@
 //! Listing the fields of a message, and its oneofs.
 
 ghost use Rattle.std.specs.Prelude.{◌<◌, ◌≤◌, ◌++◌, length, [], ◌∷◌, map, OnOk};
-ghost use Rattle.proto_tree.specs.File.{trees, field_tree};
+ghost use Rattle.proto_tree.specs.File.{oneof_item_tree, trees};
 ghost use Rattle.proto_names_outline.specs.FromTree.{field_names, no_names, picked, type_uses, flat_uses};
 ghost use Rattle.proto_names_outline.specs.Listing.{Adds, needs};
 ghost use Rattle.proto_names_outline.specs.declared.listing.Above.TheVariants.{Below};
@@ -11,7 +11,7 @@ ghost use Rattle.proto_names_rules.specs.Tree.{place, placed, beside, key_word, 
 use crate::listing::{Above, LastWord, Listed, Listing};
 use proto_base::NoMemory;
 use proto_names_rules::Kind;
-use proto_tree::{Field, FieldType, MapField, Oneof};
+use proto_tree::{Field, FieldType, MapField, Oneof, OneofItem};
 
 /// The reference of a type, if it is one.
 pub(crate) fn list_type<'a>(
@@ -95,26 +95,44 @@ pub(crate) fn list_oneof<'a>(
     requires { scope < length listing.old.declared.items }
     ensures { OnOk result (Adds listing.old listing.new (Below scope)
         (λ path. beside path oneof.now.name Kind.Oneof Kind.Field
-        (picked field_names no_names (trees field_tree oneof.now.members.items)))
-        (λ path. flat_uses path (trees field_tree oneof.now.members.items))) }
+        (picked field_names no_names (trees oneof_item_tree oneof.now.members.items)))
+        (λ path. flat_uses path (trees oneof_item_tree oneof.now.members.items))) }
 {
     listing.name(Above::Below(scope), oneof.name, Kind::Oneof)?;
-    list_fields(listing, scope, &oneof.members)
+    list_oneof_items(listing, scope, &oneof.members)
 }
 
-fn list_fields<'a>(
+/// What stands in a oneof: a field, or an option, which declares nothing.
+fn list_oneof_item<'a>(
     listing: &mut Listing<'a>,
     scope: usize,
-    fields: &'a [Field],
+    item: &'a OneofItem,
 ) -> Result<(), NoMemory>
     requires { scope < length listing.old.declared.items }
     ensures { OnOk result (Adds listing.old listing.new (Below scope)
         (λ path. map (λ i. place path (Token i) Kind.Field)
-        (picked field_names no_names (trees field_tree fields.now)))
-        (λ path. flat_uses path (trees field_tree fields.now))) }
+        (picked field_names no_names (oneof_item_tree item.now)))
+        (λ path. flat_uses path (oneof_item_tree item.now))) }
 {
-    for field in fields {
-        list_field(listing, scope, field)?;
+    match item {
+        OneofItem::Field(field) => list_field(listing, scope, field),
+        OneofItem::Option(_) => Ok(()),
+    }
+}
+
+fn list_oneof_items<'a>(
+    listing: &mut Listing<'a>,
+    scope: usize,
+    items: &'a [OneofItem],
+) -> Result<(), NoMemory>
+    requires { scope < length listing.old.declared.items }
+    ensures { OnOk result (Adds listing.old listing.new (Below scope)
+        (λ path. map (λ i. place path (Token i) Kind.Field)
+        (picked field_names no_names (trees oneof_item_tree items.now)))
+        (λ path. flat_uses path (trees oneof_item_tree items.now))) }
+{
+    for item in items {
+        list_oneof_item(listing, scope, item)?;
     }
     Ok(())
 }

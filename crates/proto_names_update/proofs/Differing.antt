@@ -3,7 +3,7 @@ use Rattle.std.proofs.Common.{◌≡◌, ℕ, ◌+◌, ◌<◌, List, [], ◌∷
 use Rattle.proto_base.proofs.Common.{contains_map, from_map, length-map}
 use Rattle.proto_case.specs.Camel.{entry_name}
 use Rattle.proto_text.specs.Texts.{words}
-use Rattle.proto_tree.specs.Reads.{Reads}
+use Rattle.proto_tree.specs.Reads.{ReadsIn}
 use Rattle.proto_files.proofs.Common.{FileOf, ReadOf, file_at, one_reading, read_at}
 use Rattle.proto_names_rules.proofs.Common.{At, FileAt, FileNames, Placed, Reference, Source, Symbol, Token, EntryOf, Given, Used, all_declared, all_used, at, declared_to, declares, file_placed, name_of, reference_of, shifted_source, symbol_of, used_in}
 use Rattle.proto_names_rules.proofs.Files.{declared_from}
@@ -43,8 +43,8 @@ module _ (places : List ℕ) (before : List FileOf) (was : List ReadOf) (files :
 
     pub same_reading : read_at was k ≡ read_at reads k
     same_reading =
-        let there : Reads (file_at before k).bytes (read_at was k).tokens (read_at was k).tree = is.were_read.trees k (omega (arith, l, as_many)) in
-        one_reading (file_at files k).bytes (read_at was k) (read_at reads k) (subst (λ (f : FileOf). Reads f.bytes (read_at was k).tokens (read_at was k).tree) same_file there) (is.are_read.trees k l)
+        let there : ReadsIn (file_at before k).profile (file_at before k).bytes (read_at was k).tokens (read_at was k).tree = is.were_read.trees k (omega (arith, l, as_many)) in
+        one_reading (file_at files k).profile (file_at files k).bytes (read_at was k) (read_at reads k) (subst (λ (f : FileOf). ReadsIn f.profile f.bytes (read_at was k).tokens (read_at was k).tree) same_file there) (is.are_read.trees k l)
 
     pub same_text : (i : ℕ) → text_of files reads (at k i) ≡ text_of before was (at k i)
     same_text i = ap₂ (λ (f : FileOf) (r : ReadOf). words f.bytes r.tokens i) (sym same_file) (sym same_reading)

@@ -3,7 +3,7 @@ use Rattle.std.proofs.Common.{◌≡◌, ℕ, ◌<◌, false, List, [], ◌∷�
 use Rattle.proto_base.proofs.Common.{map-append, Contains-get_or, get_or-map, length-map, or_nothing, contains_map}
 use Rattle.proto_text.specs.declared.lexer.Token.{Token}
 use Rattle.proto_text.proofs.Common.{IsString, word_at, words, Lexeme, value_of}
-use Rattle.proto_tree.proofs.Common.{Reads, Tree}
+use Rattle.proto_tree.proofs.Common.{ReadsIn, Tree}
 use Rattle.proto_files.proofs.Common.{FileOf, file_at, ReadOf, AreRead, read_at, AreWordsAt, IsTreeOf, same_tree, same_words}
 use Rattle.proto_names_outline.proofs.Common.{Wanted, file_names, imports_in, items_in, IsSound, last_token, package_first, path_at, read, read_on, seen, uses_in, wanted_of, whole, names_plain, declared_rising, packages_first, imports_are_strings, imports_rising}
 use Rattle.proto_names_rules.proofs.Common.{At, at, Token as TokenOf, Placed, place, map_map}
@@ -16,6 +16,7 @@ use Rattle.proto_names_outline.specs.declared.listing.Listed.{Listed}
 use Rattle.proto_names_outline.specs.declared.listing.Listing.{Listing}
 use Rattle.proto_names_table.specs.declared.spelled.Spelled.{Spelled}
 use Rattle.proto_names_outline.specs.declared.wanted.Wanted.{Wanted as WantedAt}
+use Rattle.proto_base.specs.declared.profile.Profile.{Profile}
 
 -- lists with the same images agree at each place
 pub same_at : {X Y Z : Type 0} (f : X → Z) (g : Y → Z) (xs : List X) (ys : List Y) → map f xs ≡ map g ys → (k : ℕ) (d : X) (e : Y) → k < length xs → (k < length ys) × (f (get_or xs k d) ≡ g (get_or ys k e))
@@ -27,10 +28,10 @@ same_at {Z = Z} f g xs ys h k d e l =
 -- ---- imports
 
 -- they name files by strings
-wanted_strings : (text : List ℕ) (tokens : List Token) (tree : Tree) → Reads text tokens tree → (wanted : List WantedAt) → map wanted_of wanted ≡ imports_in tree → All (λ w. IsString (words text tokens w.path)) wanted
-wanted_strings text tokens tree reads wanted e k d l =
+wanted_strings : (profile : Profile) (text : List ℕ) (tokens : List Token) (tree : Tree) → ReadsIn profile text tokens tree → (wanted : List WantedAt) → map wanted_of wanted ≡ imports_in tree → All (λ w. IsString (words text tokens w.path)) wanted
+wanted_strings profile text tokens tree reads wanted e k d l =
     let c : Contains (imports_in tree) (wanted_of (get_or wanted k d)) = subst (λ (ws : List Wanted). Contains ws (wanted_of (get_or wanted k d))) e (contains_map wanted_of wanted (get_or wanted k d) (Contains-get_or wanted k d l)) in
-    imports_are_strings text tokens tree reads (wanted_of (get_or wanted k d)) c
+    imports_are_strings profile text tokens tree reads (wanted_of (get_or wanted k d)) c
 
 asked_here : (text : At → List ℕ) (file : ℕ) (wanted : List WantedAt) (ws : List WrittenImport) → AreWritten (λ i. text (at file i)) wanted ws → map (asked_by file) ws ≡ map (asked_as text file) (map wanted_of wanted)
 asked_here text file [] [] h = refl
@@ -49,12 +50,12 @@ asked_here text file (w ∷ wanted) (x ∷ ws) h =
 no_import : Wanted
 no_import = record { path = 0; is_public = false }
 
-written_rising : (text : List ℕ) (tokens : List Token) (tree : Tree) → Reads text tokens tree → (wanted : List WantedAt) (ws : List WrittenImport) → map wanted_of wanted ≡ imports_in tree → map (λ i. i.token) ws ≡ map (λ w. w.path) wanted → TokensAreRising ws
-written_rising text tokens tree reads wanted ws e t = λ i j d l m.
+written_rising : (profile : Profile) (text : List ℕ) (tokens : List Token) (tree : Tree) → ReadsIn profile text tokens tree → (wanted : List WantedAt) (ws : List WrittenImport) → map wanted_of wanted ≡ imports_in tree → map (λ i. i.token) ws ≡ map (λ w. w.path) wanted → TokensAreRising ws
+written_rising profile text tokens tree reads wanted ws e t = λ i j d l m.
     (let same : map (λ x. x.token) ws ≡ map (λ w. w.path) (imports_in tree) = t ∙ sym (map_map wanted_of (λ w. w.path) wanted) ∙ ap (map (λ w. w.path)) e in
     let a = same_at (λ x. x.token) (λ w. w.path) ws (imports_in tree) same i d no_import (omega (arith, l, m)) in
     let b = same_at (λ x. x.token) (λ w. w.path) ws (imports_in tree) same j d no_import m in
-    subst (λ (n : ℕ). n < (get_or ws j d).token) (sym a.1) (subst (λ (n : ℕ). (get_or (imports_in tree) i no_import).path < n) (sym b.1) (imports_rising text tokens tree reads i j no_import l b.0)))
+    subst (λ (n : ℕ). n < (get_or ws j d).token) (sym a.1) (subst (λ (n : ℕ). (get_or (imports_in tree) i no_import).path < n) (sym b.1) (imports_rising profile text tokens tree reads i j no_import l b.0)))
 
 -- ---- declarations
 
@@ -69,9 +70,9 @@ kinds_kept before (e ∷ es) =
 nothing : Placed
 nothing = place [] (TokenOf 0) Package
 
-listed : (text : List ℕ) (tokens : List Token) (tree : Tree) → Reads text tokens tree → (es : List Listed) → read es ≡ package_first (items_in tree)
+listed : (profile : Profile) (text : List ℕ) (tokens : List Token) (tree : Tree) → ReadsIn profile text tokens tree → (es : List Listed) → read es ≡ package_first (items_in tree)
     → map (λ e. Some e.token) es ≡ map (λ p. last_token (whole p)) (read es) → AreListed (words text tokens) es
-listed text tokens tree reads es r t =
+listed profile text tokens tree reads es r t =
     let ps : List Placed = package_first (items_in tree) in
     let last : map (λ e. Some e.token) es ≡ map (λ p. last_token (whole p)) ps = t ∙ ap (map (λ p. last_token (whole p))) r in
     let kinds : map (λ e. e.kind) es ≡ map (λ p. p.kind) ps = sym (kinds_kept [] es) ∙ ap (map (λ p. p.kind)) r in
@@ -82,18 +83,18 @@ listed text tokens tree reads es r t =
     record {
       plain = λ k d l.
           (let a = token_at k d l in
-          names_plain text tokens tree reads (get_or ps k nothing) (Contains-get_or ps k nothing a.0) (get_or es k d).token (sym a.1));
+          names_plain profile text tokens tree reads (get_or ps k nothing) (Contains-get_or ps k nothing a.0) (get_or es k d).token (sym a.1));
       packages = λ i j d l m h.
-          (kind_at i d (omega (arith, l, m)) ∙ packages_first text tokens tree reads i j nothing l (token_at j d m).0 (sym (kind_at j d m) ∙ h));
+          (kind_at i d (omega (arith, l, m)) ∙ packages_first profile text tokens tree reads i j nothing l (token_at j d m).0 (sym (kind_at j d m) ∙ h));
       rising = λ i j d l m h.
           (let a = token_at i d (omega (arith, l, m)) in
           let b = token_at j d m in
-          declared_rising text tokens tree reads i j nothing l b.0 (λ e. h (kind_at i d (omega (arith, l, m)) ∙ e)) (get_or es i d).token (get_or es j d).token (sym a.1) (sym b.1));
+          declared_rising profile text tokens tree reads i j nothing l b.0 (λ e. h (kind_at i d (omega (arith, l, m)) ∙ e)) (get_or es i d).token (get_or es j d).token (sym a.1) (sym b.1));
     }
 
 -- ---- a file
 
-pub listing_at : (files : List FileOf) (reads : List ReadOf) (k : ℕ) (tree : Tree) (l : Listing) → AreRead files reads → k < length files → IsTreeOf (file_at files k).bytes tree
+pub listing_at : (files : List FileOf) (reads : List ReadOf) (k : ℕ) (tree : Tree) (l : Listing) → AreRead files reads → k < length files → IsTreeOf (file_at files k) tree
     → IsSound l → read l.declared.items ≡ package_first (items_in tree) → uses_in l ≡ (file_names tree).used → IsListing (read_at reads k) l
 listing_at files reads k tree l are within t sound declared used =
     let same : tree ≡ (read_at reads k).tree = sym (same_tree files reads k tree are within t) in
@@ -106,12 +107,12 @@ listing_at files reads k tree l are within t sound declared used =
 module _ (files : List FileOf) (k : ℕ) (tokens : List Token) (ls : List Lexeme) (f : AreWordsAt files k tokens ls) where
   -- ---- its imports
 
-  module _ (tree : Tree) (t : IsTreeOf (file_at files k).bytes tree) (wanted : List WantedAt) (e : map wanted_of wanted ≡ imports_in tree) where
+  module _ (tree : Tree) (t : IsTreeOf (file_at files k) tree) (wanted : List WantedAt) (e : map wanted_of wanted ≡ imports_in tree) where
     pub strings_at : All (λ w. IsString (word_at ls w.path)) wanted
-    strings_at = subst (λ (x : List Lexeme). All (λ w. IsString (word_at x w.path)) wanted) (sym f.words) (wanted_strings (file_at files k).bytes tokens tree (t tokens f.tokens_are) wanted e)
+    strings_at = subst (λ (x : List Lexeme). All (λ w. IsString (word_at x w.path)) wanted) (sym f.words) (wanted_strings (file_at files k).profile (file_at files k).bytes tokens tree (t tokens f.tokens_are) wanted e)
 
     pub rising_at : (ws : List WrittenImport) → AreWritten (word_at ls) wanted ws → TokensAreRising ws
-    rising_at ws h = written_rising (file_at files k).bytes tokens tree (t tokens f.tokens_are) wanted ws e h.tokens
+    rising_at ws h = written_rising (file_at files k).profile (file_at files k).bytes tokens tree (t tokens f.tokens_are) wanted ws e h.tokens
 
     pub asked_at : (reads : List ReadOf) → AreRead files reads → (ws : List WrittenImport) → AreWritten (word_at ls) wanted ws → map (asked_by k) ws ≡ map (asked_as (text_of files reads) k) (imports_in (read_at reads k).tree)
     asked_at reads are ws h =
@@ -125,7 +126,7 @@ module _ (files : List FileOf) (k : ℕ) (tokens : List Token) (ls : List Lexeme
     listed_at =
         let text : List ℕ = (file_at files k).bytes in
         subst (λ (x : List Lexeme). AreListed (word_at x) l.declared.items) (sym (same_words files reads k tokens ls are f))
-        (listed text (read_at reads k).tokens (read_at reads k).tree (are.trees k f.within) l.declared.items listing.declared listing.sound.tokens)
+        (listed (file_at files k).profile text (read_at reads k).tokens (read_at reads k).tree (are.trees k f.within) l.declared.items listing.declared listing.sound.tokens)
 
     pub named_at : (ss : List Spelled) → named_in k ss ≡ map (named_as k (word_at ls)) (read l.declared.items) → named_in k ss ≡ map (named_as k (λ i. text_of files reads (at k i))) (package_first (items_in (read_at reads k).tree))
     named_at ss h =

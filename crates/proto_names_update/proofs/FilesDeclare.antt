@@ -144,7 +144,7 @@ module _ (files : List FileOf) (reads : List ReadOf) (are : AreRead files reads)
       let r : ReadOf = record { tokens = []; tree = End } in
       let in_files : k < length files = omega (arith, m, are.same) in
       subst (λ (f : FileNames). (low high : ℕ) × ItemsSpan low high f.items) (sym (get_or-map names_in reads k r d m))
-      (tree_span (file_at files k).bytes (read_at reads k).tokens (read_at reads k).tree (are.trees k in_files))
+      (tree_span (file_at files k).profile (file_at files k).bytes (read_at reads k).tokens (read_at reads k).tree (are.trees k in_files))
 
   pub index_to_files : (t : Table) → IsIndexOf t (map symbol_named all) → IsIndexOf t (names_of_files files reads).symbols
   index_to_files t index =

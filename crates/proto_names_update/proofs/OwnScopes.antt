@@ -16,7 +16,7 @@ module _ (files : List FileOf) (reads : List ReadOf) (are : AreRead files reads)
   own_scope : (k : ℕ) → k < length reads → (u : Used ℕ) → Contains (names_in (read_at reads k)).used u → IsScopeOf (names_of_files files reads) k (name_of (text_of files reads) entry_name (map (shifted_source (at k)) u.scope))
   own_scope k l u c long =
       let text = text_of files reads in
-      let grown : IsGrown (names_in (read_at reads k)) = tree_grown (read_at reads k).tree (map (lexeme_at (file_at files k).bytes) (read_at reads k).tokens) (are.trees k (omega (arith, l, are.same))).spells in
+      let grown : IsGrown (names_in (read_at reads k)) = tree_grown (file_at files k).profile (read_at reads k).tree (map (lexeme_at (file_at files k).bytes) (read_at reads k).tokens) (are.trees k (omega (arith, l, are.same))).spells in
       let p = grown.scopes u c (λ none. omega (arith, long, ap (λ z. length (name_of text entry_name (map (shifted_source (at k)) z))) none)) in
       let here : 0 + k ≡ k = omega arith in
       let there : FileAt 0 (map names_in reads) k (names_in (read_at reads k)) = subst (λ (m : ℕ). FileAt 0 (map names_in reads) m (names_in (read_at reads k))) here (file_there 0 reads k l) in (

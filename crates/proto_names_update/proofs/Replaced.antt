@@ -20,7 +20,7 @@ use Rattle.proto_names_table.specs.declared.table.Row.{Row}
 use Rattle.proto_names_table.specs.declared.table.Symbol.{Symbol as Declaration}
 use Rattle.proto_names_table.specs.declared.table.Table.{Table}
 use Rattle.proto_text.specs.Texts.{words}
-use Rattle.proto_tree.specs.Reads.{Reads}
+use Rattle.proto_tree.specs.Reads.{ReadsIn}
 use Rattle.proto_names_update.specs.Forgetting.{AreForgotten, AreLeft, Goes}
 use Rattle.proto_names_update.specs.NamesOfFiles.{AreNamesOf, RowIsDeclaredIn, WereNames, declared_by, declared_names}
 use Rattle.proto_names_update.specs.RenewedNames.{AreFilesAgain, AreRenewed, AreRowsAgain, rows_at, rows_with}
@@ -88,8 +88,8 @@ module _ (places : List ℕ) (before : List FileOf) (was : List ReadOf) (files :
 
   pub same_reading : (k : ℕ) → k < length files → (Contains places k → ⊥) → read_at was k ≡ read_at reads k
   same_reading k l out =
-      one_reading (file_at files k).bytes (read_at was k) (read_at reads k)
-      (subst (λ (f : FileOf). Reads f.bytes (read_at was k).tokens (read_at was k).tree) (same.others k l out) (were.trees k (omega (arith, l, many)))) (are.trees k l)
+      one_reading (file_at files k).profile (file_at files k).bytes (read_at was k) (read_at reads k)
+      (subst (λ (f : FileOf). ReadsIn f.profile f.bytes (read_at was k).tokens (read_at was k).tree) (same.others k l out) (were.trees k (omega (arith, l, many)))) (are.trees k l)
 
   pub same_declared : (k : ℕ) → k < length files → (Contains places k → ⊥) → declared_by before was k ≡ declared_by files reads k
   same_declared k l out = ap (λ (f : FileOf). declares_at f (read_at was k) k) (same.others k l out) ∙ ap (λ (r : ReadOf). declares_at (file_at files k) r k) (same_reading k l out)

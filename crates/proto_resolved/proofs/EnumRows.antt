@@ -7,7 +7,7 @@ use Rattle.proto_text.specs.Tokens.{Lexeme}
 use Rattle.proto_tree.specs.declared.tree.Block.{Block as Braced}
 use Rattle.proto_tree.specs.declared.tree.EnumItem.{EnumItem}
 use Rattle.proto_tree.specs.declared.tree.Extend.{Extend}
-use Rattle.proto_tree.specs.declared.tree.Field.{Field}
+use Rattle.proto_tree.specs.declared.tree.OneofItem.{OneofItem}
 use Rattle.proto_tree.specs.declared.tree.Member.{Member}
 use Rattle.proto_tree.proofs.Common.{enum_item_tree, trees, Tree, End}
 use Rattle.proto_files.proofs.Common.{FileOf, Each, ReadOf, AreRead}
@@ -34,7 +34,7 @@ module _ (lexemes : List Lexeme) (proto3 : Bool) where
   pub message_added : {S : Type 0} → (blocks : List BlockOf) (m : Braced Member) (rows : IndexMap ℕ EnumRow S) → AreEnumsOf lexemes proto3 blocks rows → AreEnumsOf lexemes proto3 (blocks ++ message_block m ∷ []) rows
   message_added blocks m rows h token = h token ∙ ap (option_map here) (found_before (is_it token) blocks (message_block m) refl)
 
-  pub oneof_added : {S : Type 0} → (blocks : List BlockOf) (o : Braced Field) (rows : IndexMap ℕ EnumRow S) → AreEnumsOf lexemes proto3 blocks rows → AreEnumsOf lexemes proto3 (blocks ++ oneof_block o ∷ []) rows
+  pub oneof_added : {S : Type 0} → (blocks : List BlockOf) (o : Braced OneofItem) (rows : IndexMap ℕ EnumRow S) → AreEnumsOf lexemes proto3 blocks rows → AreEnumsOf lexemes proto3 (blocks ++ oneof_block o ∷ []) rows
   oneof_added blocks o rows h token = h token ∙ ap (option_map here) (found_before (is_it token) blocks (oneof_block o) refl)
 
   pub extend_added : {S : Type 0} → (blocks : List BlockOf) (x : Extend) (rows : IndexMap ℕ EnumRow S) → AreEnumsOf lexemes proto3 blocks rows → AreEnumsOf lexemes proto3 (blocks ++ extend_block x ∷ []) rows

@@ -4,3 +4,4 @@ pub mod Holders
 pub mod MeantEnums
 pub mod MeantPlaces
 pub mod ReadScenes
+pub mod ScenesAsWritten

@@ -6,9 +6,9 @@ use Rattle.proto_tree.specs.declared.piece.Header.TheVariants as header
 use Rattle.proto_tree.specs.declared.tree.Block.{Block as Braced}
 use Rattle.proto_tree.specs.declared.tree.EnumItem.{EnumItem}
 use Rattle.proto_tree.specs.declared.tree.Extend.{Extend}
-use Rattle.proto_tree.specs.declared.tree.Field.{Field}
+use Rattle.proto_tree.specs.declared.tree.OneofItem.{OneofItem}
 use Rattle.proto_tree.specs.declared.tree.Member.{Member}
-use Rattle.proto_tree.specs.File.{enum_item_tree, extension_tree, field_tree, member_tree, trees}
+use Rattle.proto_tree.specs.File.{enum_item_tree, extension_tree, oneof_item_tree, member_tree, trees}
 use Rattle.proto_tree.specs.Tree.{Tree}
 use Rattle.proto_ast.specs.Parts.{BlockOf, blocks_in}
 use Rattle.proto_resolved.specs.declared.blocks.BlockAt.{BlockAt}
@@ -35,10 +35,10 @@ message_block m = record {
 }
 
 -- a oneof as a block
-abbrev pub oneof_block : Braced Field → BlockOf
+abbrev pub oneof_block : Braced OneofItem → BlockOf
 oneof_block o = record {
   header = header.Oneof (record { keyword = o.keyword; name = o.name });
-  within = trees field_tree o.members.items;
+  within = trees oneof_item_tree o.members.items;
 }
 
 -- an enum as a block

@@ -1,5 +1,5 @@
--- What is read of each file of a workspace: its tokens, its version, and what each of its
--- references means.
+-- What is read of each file of a workspace: its tokens, its language and version, and what each of
+-- its references means.
 use Rattle.std.specs.Prelude.{ℕ, Bool, false, not, ◌==◌, List, [], ◌∷◌, map, find, slice_get, Option, Some, None, option_map}
 use Rattle.std.specs.Option.{option_and_then}
 use Rattle.proto_text.specs.Tokens.{Lexeme, lexeme_at}
@@ -105,6 +105,7 @@ abbrev pub scene_of : Option ℕ → List FileOf → List ReadOf → ℕ → Sce
 scene_of cap files reads file = record {
   lexemes = lexemes_of files reads file;
   cap = cap;
+  profile = (file_at files file).profile;
   is_proto3 = is_proto3_file files reads file;
   means = means_of files reads file;
 }

@@ -1,5 +1,5 @@
-//! Files of a link as checks and descriptors read them: their tokens, their version, and what each
-//! reference means.
+//! Files of a link as checks and descriptors read them: their tokens, their language and version,
+//! and what each reference means.
 #![tactic(auto)]
 
 mod blocks;

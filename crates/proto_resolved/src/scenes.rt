@@ -83,7 +83,7 @@ pub fn scene<'a>(
     let words = Words::new(files, file);
     let is_proto3 = is_proto3(&words, files.tree(file));
     let means = means(alloc, link, table, file)?;
-    Ok(Scene::new(words, is_proto3, means))
+    Ok(Scene::new(words, files.profile(file), is_proto3, means))
 }
 
 /// Each file as checks and descriptors read it, in the order of their paths. The link is that of

@@ -1,8 +1,8 @@
 //! All faults of a workspace of the phases of paths, texts, the grammar and checks: what is listed, counted by hand.
 
 use crate::calls::*;
-use proto_all_faults::faults;
-use proto_base::{Fault, NoMemory};
+use proto_all_faults::{faults, faults_as};
+use proto_base::{Fault, NoMemory, Profile};
 use std::alloc::Global;
 use std::fmt::Write;
 use std::process::Abort;
@@ -23,6 +23,11 @@ fn listed(alloc: Global, given: &Given) -> Result<String, NoMemory> {
 
 fn listed_of(alloc: Global, texts: &str) -> Result<String, NoMemory> {
     listed(alloc, &given_files(alloc, texts)?)
+}
+
+fn listed_as(alloc: Global, texts: &str, profile: Profile) -> Result<String, NoMemory> {
+    let given = given_files(alloc, texts)?;
+    faults_text(alloc, &faults_as(alloc, &given, profile)?)
 }
 
 fn expect_listed<R: AllocGlobal + Abort>(rt: &R, rows: &[(&str, &str)]) {
@@ -92,6 +97,46 @@ fn all_faults_are_listed(rt: HostRuntime) {
     expect_listed(&rt, TEXTS);
     expect_listed(&rt, GRAMMAR);
     expect_listed(&rt, CHECKS);
+}
+
+/// Texts, what is listed of them in the core language, and what is listed as written.
+const LANGUAGES: &[(&str, &str, &str)] = &[
+    ("a.proto option (x) = { a: 1 };", "a.proto:16: 3;", ""),
+    (
+        "b.proto option (x) = { # };|a.proto option (x) = { a: 1 };",
+        "a.proto:16: 3;b.proto:15: 3;",
+        "b.proto:15: 3;",
+    ),
+    (
+        "c.proto option () = 1;|b.proto option (x) = 1;|a.proto message M { option (x) = ; }",
+        "a.proto:12: 8;b.proto:0: 8;c.proto:0: 8;",
+        "a.proto:12: 8;c.proto:0: 8;",
+    ),
+    // In a oneof only custom options may stand.
+    (
+        "a.proto message M { oneof o { option deprecated = true; } }",
+        "a.proto:22: 8;",
+        "a.proto:22: 8;",
+    ),
+    // Custom options may be set again, and what they set is not looked up.
+    (
+        "a.proto option (x) = { a: 1 }; option foo = 1; option (x) = 2; option foo = 2;",
+        "a.proto:16: 3;",
+        "a.proto:30: 27;a.proto:62: 27;",
+    ),
+];
+
+fn expect_as<R: AllocGlobal + Abort>(rt: &R, texts: &str, profile: Profile, wanted: &str) {
+    let found = listed_as(rt.alloc(), texts, profile).expect(rt, "memory");
+    expect_text(rt, found.as_str(), wanted);
+}
+
+#[test]
+fn faults_of_both_languages_are_listed(rt: HostRuntime) {
+    for (texts, core, written) in LANGUAGES {
+        expect_as(&rt, texts, Profile::Core, core);
+        expect_as(&rt, texts, Profile::AsWritten, written);
+    }
 }
 
 // So many files, the first of which is given twice.

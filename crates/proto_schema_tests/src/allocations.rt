@@ -2,7 +2,7 @@
 //! In a run that refuses one allocation this test still passes, whichever it is.
 
 use crate::calls::*;
-use proto_base::{NoMemory, SchemaFault};
+use proto_base::{NoMemory, Profile, SchemaFault};
 use proto_desc::{Schema, to_json};
 use proto_lint::{Finding, RuleSet, lint};
 use std::alloc::Global;
@@ -100,7 +100,7 @@ pub(crate) fn expect_kept<R: AllocGlobal + Abort>(rt: &R, schema: &Schema, row: 
 
 fn expect_opened<R: AllocGlobal + Abort>(rt: &R, row: Row) -> Result<(), SchemaFault> {
     let files = given_files(rt.alloc(), row.0)?;
-    compiled_json(rt, files, Some(row))?;
+    compiled_json(rt, Profile::Core, files, Some(row))?;
     Ok(())
 }
 

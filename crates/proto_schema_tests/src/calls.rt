@@ -1,7 +1,7 @@
 //! Compiling, with what tests say of the answers.
 
 use crate::allocations::{Row, expect_kept};
-use proto_base::{NoMemory, SchemaFault};
+use proto_base::{NoMemory, Profile, SchemaFault};
 use proto_desc::{Schema, to_json};
 use std::alloc::Global;
 use std::process::Abort;
@@ -31,13 +31,14 @@ pub(crate) fn given_files(alloc: Global, texts: &str) -> Result<Given, NoMemory>
     Ok(files)
 }
 
-/// The descriptors of files as JSON. Where a row is given, it holds of them: here alone a schema is owned.
+/// The descriptors of files of a language as JSON. Where a row is given, it holds of them: here alone a schema is owned.
 pub(crate) fn compiled_json<R: AllocGlobal + Abort>(
     rt: &R,
+    profile: Profile,
     files: Given,
     row: Option<Row>,
 ) -> Result<String, SchemaFault> {
-    let schema = Schema::open(rt.alloc(), files)?;
+    let schema = Schema::open_as(rt.alloc(), files, profile)?;
     expect_kept(rt, &schema, row);
     let json = to_json(rt.alloc(), schema.descriptors());
     schema.release();
@@ -59,12 +60,21 @@ pub(crate) fn fault_text(alloc: Global, fault: SchemaFault) -> Result<String, No
     }
 }
 
-/// The descriptors of files as JSON, or their fault.
-pub(crate) fn answer<R: AllocGlobal + Abort>(rt: &R, files: Given) -> Result<String, NoMemory> {
-    match compiled_json(rt, files, None) {
+/// The descriptors of files of a language as JSON, or their fault.
+pub(crate) fn answer_in<R: AllocGlobal + Abort>(
+    rt: &R,
+    profile: Profile,
+    files: Given,
+) -> Result<String, NoMemory> {
+    match compiled_json(rt, profile, files, None) {
         Ok(json) => Ok(json),
         Err(fault) => fault_text(rt.alloc(), fault),
     }
+}
+
+/// The same of files of the core language.
+pub(crate) fn answer<R: AllocGlobal + Abort>(rt: &R, files: Given) -> Result<String, NoMemory> {
+    answer_in(rt, Profile::Core, files)
 }
 
 /// Ends the test unless this was found.

@@ -10,16 +10,16 @@ ghost use Rattle.proto_files.specs.GivenFiles.{file_at, paths_of};
 ghost use Rattle.proto_names.specs.LinkOfFiles.{IsLinkOf};
 ghost use Rattle.proto_names_imports.specs.Links.{LinkFaults};
 ghost use Rattle.proto_tree.specs.File.{tree_of_file};
-ghost use Rattle.proto_tree.specs.Reads.{Reads};
+ghost use Rattle.proto_tree.specs.Reads.{ReadsIn};
 
 use crate::calls::{Given, add};
 use crate::names::calls::read;
-use proto_base::{NoMemory, SchemaFault};
+use proto_base::{NoMemory, Profile, SchemaFault};
 use proto_desc::{Descriptors, Schema, check};
 use proto_files::Files;
 use proto_names::Link;
-use proto_text::{Source, Token, lex};
-use proto_tree::{File, parse};
+use proto_text::{Source, Token, lex_as};
+use proto_tree::{File, parse_as};
 use std::alloc::Global;
 use std::process::Abort;
 
@@ -38,18 +38,18 @@ fn many_files<R: AllocGlobal>(rt: &R) -> Result<Files, SchemaFault> {
     read(rt, given(rt.alloc())?)
 }
 
-// The text that one of them gets, in which its message has another name.
-fn other_text(alloc: Global) -> Result<(Source, Vec<Token>, File), NoMemory>
-    ensures { IfOk result (λ r. Reads r.0 r.1.items (tree_of_file r.2)) }
+// The text that one of them gets, of its language, in which its message has another name.
+fn other_text(alloc: Global, profile: Profile) -> Result<(Source, Vec<Token>, File), NoMemory>
+    ensures { IfOk result (λ r. ReadsIn profile r.0 r.1.items (tree_of_file r.2)) }
 {
     let bytes = Vec::from_slice(alloc, b"message Other {}")?;
     let Ok(source) = Source::new(bytes) else {
         return Err(NoMemory);
     };
-    let Ok(tokens) = lex(alloc, &source) else {
+    let Ok(tokens) = lex_as(alloc, &source, profile) else {
         return Err(NoMemory);
     };
-    match parse(alloc, &source, &tokens) {
+    match parse_as(alloc, &source, &tokens, profile) {
         Ok(tree) => Ok((source, tokens, tree)),
         Err(_fault) => Err(NoMemory),
     }
@@ -58,7 +58,7 @@ fn other_text(alloc: Global) -> Result<(Source, Vec<Token>, File), NoMemory>
 // Gives the file at place 128 this text. Takes no memory.
 fn put(files: &mut Files, source: Source, tokens: Vec<Token>, tree: File)
     requires place { 128 < length files.old }
-    requires read { Reads source tokens.items (tree_of_file tree) }
+    requires read { ReadsIn (file_at files.old 128).profile source tokens.items (tree_of_file tree) }
     ensures len { length files.new ≡ length files.old }
     ensures paths { paths_of files.old ≡ paths_of files.new }
     ensures others { (file : ℕ) → file ≢ 128 → file_at files.old file ≡ file_at files.new file }
@@ -74,7 +74,7 @@ fn edit(alloc: Global, files: &mut Files) -> Result<(), NoMemory>
     ensures paths { paths_of files.old ≡ paths_of files.new }
     ensures others { (file : ℕ) → file ≢ 128 → file_at files.old file ≡ file_at files.new file }
 {
-    let (source, tokens, tree) = other_text(alloc)?;
+    let (source, tokens, tree) = other_text(alloc, files.profile(128))?;
     put(files, source, tokens, tree);
     Ok(())
 }

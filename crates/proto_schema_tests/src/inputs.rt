@@ -1,7 +1,7 @@
 //! Truncated and largest input.
 
 use crate::calls::*;
-use proto_base::SchemaFault;
+use proto_base::{Profile, SchemaFault};
 use std::process::Abort;
 
 const WHOLE: &str = "syntax = \"proto3\"; message A { string b_c = 1; }";
@@ -62,7 +62,7 @@ const CUT: &[&str] = &[
 
 // Whether a front compiles, or has a fault that stands inside it or at its end.
 fn is_placed<R: AllocGlobal + Abort>(rt: &R, text: &str, count: usize) -> bool {
-    match compiled_json(rt, front(rt, text, count), None) {
+    match compiled_json(rt, Profile::Core, front(rt, text, count), None) {
         Ok(_json) => true,
         Err(SchemaFault::Schema(fault)) => {
             fault.path.as_str() == "a.proto" && fault.offset as usize <= count

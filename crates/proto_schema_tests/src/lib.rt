@@ -6,6 +6,8 @@ mod all_faults;
 #[cfg(test)]
 mod allocations;
 #[cfg(test)]
+mod as_written;
+#[cfg(test)]
 mod calls;
 #[cfg(test)]
 mod checks;

@@ -1,7 +1,7 @@
 -- Public for the crates above. Files after one of them was replaced, and files that are told by their bytes.
 use Rattle.std.proofs.Common.{◌≡◌, ℕ, Bool, true, false, cond, List, [], ◌∷◌, Some, None, refl, sym, ap, ◌∙◌, subst, IsSome, is_some, bytes_eq, nat_cmp}
 use Rattle.proto_base.proofs.Common.{AllByRecursion, IsStrictlySortedBy, slice_cmp, Less, bytes_eq-Decides, FileOf, paths_of}
-use Rattle.proto_store.specs.Stores.{AreInPathOrder, bytes_at, with_bytes}
+use Rattle.proto_store.specs.Stores.{AreInPathOrder, languages_of, bytes_at, with_bytes}
 use Rattle.proto_store.proofs.PathOrder.{differs_if_less, equal_itself}
 
 -- the paths stay
@@ -13,6 +13,16 @@ paths_of-with_bytes path bytes (file ∷ files) = go (paths_of-with_bytes path b
         → paths_of (cond b (record file { bytes = bytes } ∷ files) (file ∷ with_bytes path bytes files)) ≡ file.path ∷ paths_of files
     go rest true = refl
     go rest false = ap (λ l. file.path ∷ l) rest
+
+-- the languages stay
+pub languages_of-with_bytes : (path bytes : List ℕ) (files : List FileOf) → languages_of (with_bytes path bytes files) ≡ languages_of files
+languages_of-with_bytes path bytes [] = refl
+languages_of-with_bytes path bytes (file ∷ files) = go (languages_of-with_bytes path bytes files) (bytes_eq path file.path)
+  where
+    go : languages_of (with_bytes path bytes files) ≡ languages_of files → (b : Bool)
+        → languages_of (cond b (record file { bytes = bytes } ∷ files) (file ∷ with_bytes path bytes files)) ≡ file.profile ∷ languages_of files
+    go rest true = refl
+    go rest false = ap (λ l. file.profile ∷ l) rest
 
 -- a path that is listed has the new bytes
 pub bytes_at-with_bytes : (path bytes : List ℕ) (files : List FileOf) → IsSome (bytes_at path files) → bytes_at path (with_bytes path bytes files) ≡ Some bytes
@@ -63,10 +73,10 @@ is_some-with_bytes path bytes other (file ∷ files) = go (is_some-with_bytes pa
     go rest true = at (bytes_eq other file.path) bytes file.bytes files files refl
     go rest false = at (bytes_eq other file.path) file.bytes file.bytes (with_bytes path bytes files) files rest
 
-head_of : (x y : List ℕ) (xs ys : List (List ℕ)) → x ∷ xs ≡ y ∷ ys → x ≡ y
+head_of : {A : Type 0} (x y : A) (xs ys : List A) → x ∷ xs ≡ y ∷ ys → x ≡ y
 head_of x y xs ys e = cc
 
-tail_of : (x y : List ℕ) (xs ys : List (List ℕ)) → x ∷ xs ≡ y ∷ ys → xs ≡ ys
+tail_of : {A : Type 0} (x y : A) (xs ys : List A) → x ∷ xs ≡ y ∷ ys → xs ≡ ys
 tail_of x y xs ys e = cc
 
 -- a path before all of the files is not listed
@@ -81,25 +91,26 @@ rest_at file files path differs = ap (λ b. cond b (Some file.bytes) (bytes_at p
 first_at : (file : FileOf) (files : List FileOf) → bytes_at file.path (file ∷ files) ≡ Some file.bytes
 first_at file files = ap (λ b. cond b (Some file.bytes) (bytes_at file.path files)) (equal_itself file.path)
 
--- files in path order with the same paths and the same bytes at each are the same
-pub same_files : (xs ys : List FileOf) → AreInPathOrder xs → paths_of xs ≡ paths_of ys → ((path : List ℕ) → bytes_at path xs ≡ bytes_at path ys) → xs ≡ ys
+-- files in path order with the same paths and languages and the same bytes at each are the same
+pub same_files : (xs ys : List FileOf) → AreInPathOrder xs → paths_of xs ≡ paths_of ys → languages_of xs ≡ languages_of ys → ((path : List ℕ) → bytes_at path xs ≡ bytes_at path ys) → xs ≡ ys
 unfolding IsStrictlySortedBy
-same_files [] [] order paths bytes = refl
-same_files [] (y ∷ ys) order paths bytes = cc
-same_files (x ∷ xs) [] order paths bytes = cc
-same_files (x ∷ xs) (y ∷ ys) order paths bytes =
+same_files [] [] order paths languages bytes = refl
+same_files [] (y ∷ ys) order paths languages bytes = cc
+same_files (x ∷ xs) [] order paths languages bytes = cc
+same_files (x ∷ xs) (y ∷ ys) order paths languages bytes =
     let path : x.path ≡ y.path = head_of x.path y.path (paths_of xs) (paths_of ys) paths in
     let rest : paths_of xs ≡ paths_of ys = tail_of x.path y.path (paths_of xs) (paths_of ys) paths in
     let here : Some x.bytes ≡ Some y.bytes = sym (first_at x xs) ∙ bytes x.path ∙ ap (λ p. bytes_at p (y ∷ ys)) path ∙ first_at y ys in
-    let first : x ≡ y = of_parts path (of_some x.bytes y.bytes here) in
-    let others : xs ≡ ys = same_files xs ys order.1 rest (λ p. below order.0 path rest p (bytes_eq p x.path) refl) in
+    let language : x.profile ≡ y.profile = head_of _ _ (languages_of xs) (languages_of ys) languages in
+    let first : x ≡ y = of_parts path (of_some x.bytes y.bytes here) language in
+    let others : xs ≡ ys = same_files xs ys order.1 rest (tail_of _ _ (languages_of xs) (languages_of ys) languages) (λ p. below order.0 path rest p (bytes_eq p x.path) refl) in
     λ i. first i ∷ others i
   where
     of_some : (a b : List ℕ) → Some a ≡ Some b → a ≡ b
     of_some a b e = cc
 
-    of_parts : x.path ≡ y.path → x.bytes ≡ y.bytes → x ≡ y
-    of_parts p q = λ i. record { path = p i; bytes = q i }
+    of_parts : x.path ≡ y.path → x.bytes ≡ y.bytes → x.profile ≡ y.profile → x ≡ y
+    of_parts p q l = λ i. record { path = p i; bytes = q i; profile = l i }
 
     below : AllByRecursion (λ q. slice_cmp nat_cmp x.path q ≡ Less) (paths_of xs) → x.path ≡ y.path → paths_of xs ≡ paths_of ys
         → (p : List ℕ) (b : Bool) → bytes_eq p x.path ≡ b → bytes_at p xs ≡ bytes_at p ys

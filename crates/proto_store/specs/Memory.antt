@@ -3,19 +3,22 @@ use Rattle.std.specs.Prelude.{◌≡◌, ◌⊎◌, ℕ, ◌+◌, ◌-◌, ◌�
 use Rattle.std.specs.Global.{Vec, Global}
 use Rattle.std.specs.BTreeMap.{BTreeMap}
 use Rattle.proto_base.specs.Texts.{Path}
-use Rattle.proto_base.specs.GivenFiles.{FileOf, files_of}
+use Rattle.proto_base.specs.GivenFiles.{FileOf, files_of_as}
+use Rattle.proto_base.specs.declared.profile.Profile.{Profile}
 use Rattle.proto_store.specs.Stores.{Held, bytes_at}
 use Rattle.proto_store.specs.declared.memory.PlannedFailure.{PlannedFailure}
 use Rattle.proto_store.specs.declared.memory.Turn.{Turn}
 use Rattle.proto_store.specs.declared.memory.Turn.TheVariants.{Works, Fails, Lands}
 
--- the files that a map from paths to bytes stands for, in the order of their paths
-abbrev pub files_in : BTreeMap (String Global) (Vec ℕ) → List FileOf
-files_in files = files_of files.entries
+-- the files of a language that a map from paths to bytes stands for, in the order of their paths
+abbrev pub files_in : Profile → BTreeMap (String Global) (Vec ℕ) → List FileOf
+files_in p files = files_of_as p files.entries
 
--- what it holds, how many calls have failed, and the failure that is to come
+-- what it holds, the language of its files, how many calls have failed, and the failure that is to
+-- come
 pub record MemoryOf : Type 0 where
   pub held : Held
+  pub profile : Profile
   pub failures : ℕ
   pub planned : Option PlannedFailure
 
@@ -51,6 +54,7 @@ one_call_later (Some failure) =
 abbrev pub after_call : {T E : Type 0} → Held → MemoryOf → Result T E → MemoryOf
 after_call held s result = record {
   held = held;
+  profile = s.profile;
   failures = if is_err result then s.failures + 1 else s.failures;
   planned = one_call_later s.planned;
 }

@@ -1,11 +1,13 @@
 -- What a store of files holds, lists, reads and replaces (the choice of this program).
-use Rattle.std.specs.Prelude.{◌≡◌, ℕ, ◌+◌, List, [], ◌∷◌, IsSome, MatchResult, Some, None, Option, Result, if◌then◌else◌}
+use Rattle.std.specs.Prelude.{◌≡◌, ℕ, ◌+◌, String, List, [], ◌∷◌, map, IsSome, MatchResult, Some, None, Option, Result, if◌then◌else◌}
 use Rattle.std.specs.List.Sorted.{IsPermutation, IsStrictlySortedBy}
 use Rattle.std.specs.Cmp.Lexicographic.{slice_cmp}
 use Rattle.std.specs.Ordering.{nat_cmp}
 use Rattle.std.specs.Str.{bytes_eq}
 use Rattle.proto_base.specs.Texts.{Path, Text}
-use Rattle.proto_base.specs.GivenFiles.{FileOf, paths_of}
+use Rattle.std.specs.Global.{Vec, Global}
+use Rattle.proto_base.specs.GivenFiles.{AreInLanguage, FileOf, files_of_as, paths_of}
+use Rattle.proto_base.specs.declared.profile.Profile.{Profile}
 
 -- the files of a store, in the order of their paths, each path once, and the bytes of its journal
 pub record Held : Type 0 where
@@ -20,6 +22,10 @@ unknown = None
 abbrev pub Over : Option Held → (Held → Type 0) → Type 0
 Over None P = Unit {0}
 Over (Some held) P = P held
+
+-- the languages of files, in order
+abbrev pub languages_of : List FileOf → List Profile
+languages_of files = map (λ f. f.profile) files
 
 -- the path of each file comes before that of the next, so that none comes twice
 abbrev pub AreInPathOrder : List FileOf → Type 0
@@ -67,6 +73,14 @@ HoldsBytes (Some held) path bytes = bytes_at path held.files ≡ Some bytes
 abbrev pub HoldsFiles : Option Held → List FileOf → Type 0
 HoldsFiles None files = Unit {0}
 HoldsFiles (Some held) files = files ≡ held.files
+
+-- its files are all of the language; of unknown files nothing is said
+abbrev pub AreOf : Profile → Option Held → Type 0
+AreOf p held = Over held (λ there. AreInLanguage p there.files)
+
+-- all its files, in the order of their paths, in the language that they are of
+abbrev pub HoldsGiven : Option Held → List (String Global × Vec ℕ) → Type 0
+HoldsGiven held given = (p : Profile) → AreOf p held → HoldsFiles held (files_of_as p given)
 
 -- the bytes of the journal
 abbrev pub HoldsJournal : Option Held → Text → Type 0

@@ -1,9 +1,8 @@
 //! All files of a store.
 
 ghost use Rattle.std.specs.Prelude.{◌≡◌, ◌-◌, ◌^◌, ◌<◌, IfOk};
-ghost use Rattle.proto_base.specs.GivenFiles.{files_of};
 ghost use Rattle.proto_store.specs.Reading.{CountsReading};
-ghost use Rattle.proto_store.specs.Stores.{AreInPathOrder, HoldsFiles, Over};
+ghost use Rattle.proto_store.specs.Stores.{AreInPathOrder, HoldsGiven, Over};
 
 use crate::store::{Store, StoreFault};
 use std::alloc::{AllocFailed, Global};
@@ -41,14 +40,15 @@ impl<T: Drop> From<AllocFailed<T>> for ReadingFault {
     }
 }
 
-/// All files of the store, in the order of their paths. It ends with `Store` at the first call of
+/// All files of the store, in the order of their paths, each of the language that its files are
+/// of. It ends with `Store` at the first call of
 /// the store that fails, and with `NoMemory` where memory runs out. The store is as before.
 pub fn all_files<S: Store>(
     alloc: Global,
     store: &mut S,
 ) -> Result<Vec<(String, Vec<u8>)>, ReadingFault>
     requires { S.failure_count store.old < 2 ^ 64 - 1 }
-    ensures files { IfOk result (λ files. HoldsFiles (S.holds store.old) (files_of files.items)) }
+    ensures files { IfOk result (λ files. HoldsGiven (S.holds store.old) files.items) }
     ensures order { IfOk result (λ _. Over (S.holds store.old)
         (λ held. AreInPathOrder held.files)) }
     ensures same { S.holds store.new ≡ S.holds store.old }

@@ -2,7 +2,8 @@
 
 ghost use Rattle.std.specs.Prelude.{◌≡◌, ◌⊎◌, ◌+◌, ◌-◌, ◌^◌, ◌<◌, [], IfOk, IsErr, OnErr, OnOk, map, option_map};
 ghost use Rattle.std.specs.String.{string_bytes};
-ghost use Rattle.proto_store.specs.Stores.{Counts, HoldsBytes, HoldsJournal, ListsPaths, unknown, with_file, with_journal};
+ghost use Rattle.proto_base.specs.declared.profile.Profile.TheVariants.{AsWritten, Core};
+ghost use Rattle.proto_store.specs.Stores.{AreOf, Counts, HoldsBytes, HoldsJournal, ListsPaths, unknown, with_file, with_journal};
 
 mod foreseeing;
 mod walking;
@@ -15,7 +16,7 @@ use crate::replacing::{
 };
 use crate::store::{Store, StoreFault};
 use crate::ways::Way;
-use proto_base::{MAX_JOURNAL_LEN, MAX_LEN};
+use proto_base::{MAX_JOURNAL_LEN, MAX_LEN, Profile};
 use std::alloc::Global;
 use std::collections::{BTreeMap, BTreeSet};
 use std::fs::{File, Metadata, TryLockError};
@@ -42,6 +43,8 @@ const JOURNAL: &str = ".protoref-journal";
 pub struct FolderStore<'a, R: Files + AllocGlobal> {
     rt: &'a R,
     root: &'a str,
+    // The language of its files.
+    profile: Profile,
     failures: u64,
     // The folder while it is locked.
     locked: Option<File>,
@@ -71,14 +74,34 @@ enum Seen {
 }
 
 impl<'a, R: Files + Clock + AllocGlobal> FolderStore<'a, R> {
-    /// The store of the folder at this path.
+    /// The store of the folder at this path, whose files are of the core language.
     pub fn new(rt: &'a R, root: &'a str) -> FolderStore<'a, R>
         ensures root { result.root.now ≡ root.now }
         ensures failures { result.failures ≡ 0 }
+        ensures language { result.profile ≡ Core }
+    {
+        FolderStore::of_language(rt, root, Profile::Core)
+    }
+
+    /// The store of the folder at this path, whose files are of the language as written.
+    pub fn as_written(rt: &'a R, root: &'a str) -> FolderStore<'a, R>
+        ensures root { result.root.now ≡ root.now }
+        ensures failures { result.failures ≡ 0 }
+        ensures language { result.profile ≡ AsWritten }
+    {
+        FolderStore::of_language(rt, root, Profile::AsWritten)
+    }
+
+    // The store of the folder at this path, whose files are of a language.
+    fn of_language(rt: &'a R, root: &'a str, profile: Profile) -> FolderStore<'a, R>
+        ensures root { result.root.now ≡ root.now }
+        ensures failures { result.failures ≡ 0 }
+        ensures language { result.profile ≡ profile }
     {
         FolderStore {
             rt,
             root,
+            profile,
             failures: 0,
             locked: None,
             keeps_digests: false,
@@ -105,6 +128,7 @@ impl<'a, R: Files + Clock + AllocGlobal> FolderStore<'a, R> {
             ≡ ⟦<FolderStore<'a, R> as Store>⟧.holds self.old }
         ensures nowhere { self.old.root.now ≡ [] → IsErr result }
         ensures root { self.new.root.now ≡ self.old.root.now }
+        ensures language { self.new.profile ≡ self.old.profile }
         ensures count { Counts self.old.failures self.new.failures result }
     {
         match self.remove_leftovers() {
@@ -120,6 +144,7 @@ impl<'a, R: Files + Clock + AllocGlobal> FolderStore<'a, R> {
     fn fault(&mut self) -> StoreFault
         requires { self.old.failures < 2 ^ 64 - 1 }
         ensures root { self.new.root.now ≡ self.old.root.now }
+        ensures language { self.new.profile ≡ self.old.profile }
         ensures count { self.new.failures ≡ self.old.failures + 1 }
     {
         self.failures += 1;
@@ -129,6 +154,7 @@ impl<'a, R: Files + Clock + AllocGlobal> FolderStore<'a, R> {
     // Notes what is known of a path.
     fn note(&mut self, path: &str, seen: Seen) -> io::Result<()>
         ensures root { self.new.root.now ≡ self.old.root.now }
+        ensures language { self.new.profile ≡ self.old.profile }
         ensures failures { self.new.failures ≡ self.old.failures }
     {
         note_seen(self.rt.alloc(), &mut self.seen, path, seen)
@@ -143,6 +169,7 @@ impl<'a, R: Files + Clock + AllocGlobal> FolderStore<'a, R> {
     ) -> Result<(), StoreFault>
         requires { self.old.failures < 2 ^ 64 - 1 }
         ensures root { self.new.root.now ≡ self.old.root.now }
+        ensures language { self.new.profile ≡ self.old.profile }
         ensures count { Counts self.old.failures self.new.failures result }
     {
         let known = match stamp {
@@ -209,6 +236,7 @@ impl<'a, R: Files + Clock + AllocGlobal> FolderStore<'a, R> {
     fn listed(&mut self) -> io::Result<Vec<String>>
         ensures nowhere { self.old.root.now ≡ [] → IsErr result }
         ensures root { self.new.root.now ≡ self.old.root.now }
+        ensures language { self.new.profile ≡ self.old.profile }
         ensures failures { self.new.failures ≡ self.old.failures }
     {
         let walk = self.walk_folders()?;
@@ -223,6 +251,7 @@ impl<'a, R: Files + Clock + AllocGlobal> FolderStore<'a, R> {
     // has changed is walked again, since what is no schema may have come or gone.
     fn check_list(&mut self) -> io::Result<()>
         ensures root { self.new.root.now ≡ self.old.root.now }
+        ensures language { self.new.profile ≡ self.old.profile }
         ensures failures { self.new.failures ≡ self.old.failures }
     {
         if !self.are_unchanged(self.folders.as_slice())? {
@@ -330,6 +359,7 @@ impl<'a, R: Files + Clock + AllocGlobal> FolderStore<'a, R> {
     fn put_bytes(&mut self, path: &str, bytes: &[u8]) -> io::Result<Stamp>
         ensures nowhere { self.old.root.now ≡ [] → IsErr result }
         ensures root { self.new.root.now ≡ self.old.root.now }
+        ensures language { self.new.profile ≡ self.old.profile }
         ensures failures { self.new.failures ≡ self.old.failures }
     {
         self.check_list()?;
@@ -385,6 +415,7 @@ impl<'a, R: Files + Clock + AllocGlobal> FolderStore<'a, R> {
     fn put_journal(&mut self, bytes: &[u8]) -> io::Result<Stamp>
         ensures nowhere { self.old.root.now ≡ [] → IsErr result }
         ensures root { self.new.root.now ≡ self.old.root.now }
+        ensures language { self.new.profile ≡ self.old.profile }
         ensures failures { self.new.failures ≡ self.old.failures }
     {
         self.check_list()?;
@@ -401,6 +432,7 @@ impl<'a, R: Files + Clock + AllocGlobal> FolderStore<'a, R> {
     // Brings the folders to the disk in which files were replaced.
     fn sync_folders(&mut self) -> io::Result<()>
         ensures root { self.new.root.now ≡ self.old.root.now }
+        ensures language { self.new.profile ≡ self.old.profile }
         ensures failures { self.new.failures ≡ self.old.failures }
     {
         for folder in self.unsynced.iter() {
@@ -424,6 +456,7 @@ impl<'a, R: Files<File = File> + Clock + AllocGlobal> FolderStore<'a, R> {
             ≡ ⟦<FolderStore<'a, R> as Store>⟧.holds self.old }
         ensures nowhere { self.old.root.now ≡ [] → IsErr result }
         ensures root { self.new.root.now ≡ self.old.root.now }
+        ensures language { self.new.profile ≡ self.old.profile }
         ensures count { Counts self.old.failures self.new.failures result }
     {
         match self.folder_locked() {
@@ -519,11 +552,20 @@ impl<R: Files + Clock + AllocGlobal> Store for FolderStore<'_, R> {
 
     ghost failure_count = { λ s. s.failures };
 
+    /// The language that it was made for.
+    fn profile(&self) -> Profile
+        ensures profile { result ≡ self.now.profile }
+        ensures files { AreOf result unknown }
+    {
+        self.profile
+    }
+
     fn list(&mut self) -> Result<Vec<String>, StoreFault>
         requires { self.old.failures < 2 ^ 64 - 1 }
         ensures paths { IfOk result (λ paths. ListsPaths unknown (map string_bytes paths.items)) }
         ensures nowhere { self.old.root.now ≡ [] → IsErr result }
         ensures root { self.new.root.now ≡ self.old.root.now }
+        ensures language { self.new.profile ≡ self.old.profile }
         ensures count { Counts self.old.failures self.new.failures result }
     {
         match self.listed() {
@@ -537,6 +579,7 @@ impl<R: Files + Clock + AllocGlobal> Store for FolderStore<'_, R> {
         ensures bytes { IfOk result (λ bytes. HoldsBytes unknown path.now bytes.items) }
         ensures nowhere { self.old.root.now ≡ [] → IsErr result }
         ensures root { self.new.root.now ≡ self.old.root.now }
+        ensures language { self.new.profile ≡ self.old.profile }
         ensures count { Counts self.old.failures self.new.failures result }
     {
         match self.file_bytes(path) {
@@ -560,6 +603,7 @@ impl<R: Files + Clock + AllocGlobal> Store for FolderStore<'_, R> {
             (unknown ≡ option_map (with_file path.now bytes.now) unknown)) }
         ensures nowhere { self.old.root.now ≡ [] → IsErr result }
         ensures root { self.new.root.now ≡ self.old.root.now }
+        ensures language { self.new.profile ≡ self.old.profile }
         ensures count { Counts self.old.failures self.new.failures result }
     {
         match self.put_bytes(path, bytes) {
@@ -575,6 +619,7 @@ impl<R: Files + Clock + AllocGlobal> Store for FolderStore<'_, R> {
         requires { self.old.failures < 2 ^ 64 - 1 }
         ensures nowhere { self.old.root.now ≡ [] → IsErr result }
         ensures root { self.new.root.now ≡ self.old.root.now }
+        ensures language { self.new.profile ≡ self.old.profile }
         ensures count { Counts self.old.failures self.new.failures result }
     {
         match self.foresee(paths) {
@@ -590,6 +635,7 @@ impl<R: Files + Clock + AllocGlobal> Store for FolderStore<'_, R> {
         ensures bytes { IfOk result (λ bytes. HoldsJournal unknown bytes.items) }
         ensures nowhere { self.old.root.now ≡ [] → IsErr result }
         ensures root { self.new.root.now ≡ self.old.root.now }
+        ensures language { self.new.profile ≡ self.old.profile }
         ensures count { Counts self.old.failures self.new.failures result }
     {
         match self.journal_bytes() {
@@ -611,6 +657,7 @@ impl<R: Files + Clock + AllocGlobal> Store for FolderStore<'_, R> {
             (unknown ≡ option_map (with_journal bytes.now) unknown)) }
         ensures nowhere { self.old.root.now ≡ [] → IsErr result }
         ensures root { self.new.root.now ≡ self.old.root.now }
+        ensures language { self.new.profile ≡ self.old.profile }
         ensures count { Counts self.old.failures self.new.failures result }
     {
         match self.put_journal(bytes) {

@@ -3,12 +3,14 @@
 ghost use Rattle.std.specs.Prelude.{◌≡◌, ◌⊎◌, ◌-◌, ◌^◌, ◌<◌, ◌+◌, IfOk, IfSome, IsErr, OnOk, OnErr, None, Some, map};
 ghost use Rattle.std.specs.String.{string_bytes};
 ghost use Rattle.std.specs.List.Sorted.{IsPermutation};
-ghost use Rattle.proto_base.specs.GivenFiles.{files_of, paths_of};
+ghost use Rattle.proto_base.specs.GivenFiles.{files_of, files_of_as, paths_of};
+ghost use Rattle.proto_base.specs.declared.profile.Profile.{Profile};
+ghost use Rattle.proto_base.specs.declared.profile.Profile.TheVariants.{AsWritten, Core};
 ghost use Rattle.proto_store.specs.Memory.{IsDue, IsTurn, KeepsLatest, Replaces, after_call, files_in, one_call_later};
-ghost use Rattle.proto_store.specs.Stores.{AreInPathOrder, Counts, HoldsBytes, HoldsJournal, IsListed, ListsPaths, bytes_at, with_bytes, with_file, with_journal};
+ghost use Rattle.proto_store.specs.Stores.{AreInPathOrder, AreOf, Counts, HoldsBytes, HoldsJournal, IsListed, ListsPaths, bytes_at, with_bytes, with_file, with_journal};
 
 use crate::store::{Store, StoreFault};
-use proto_base::NoMemory;
+use proto_base::{NoMemory, Profile};
 use std::alloc::Global;
 use std::collections::BTreeMap;
 use std::marker::Model;
@@ -18,6 +20,7 @@ use std::marker::Model;
 #[derive(Drop)]
 pub struct MemoryStore {
     alloc: Global,
+    profile: Profile,
     files: BTreeMap<String, Vec<u8>>,
     journal: Vec<u8>,
     failures: u64,
@@ -47,15 +50,16 @@ impl Model for MemoryStore {
     ghost Value = { MemoryOf };
 
     ghost view = { λ s. record {
-      held = record { files = files_in s.files; journal = s.journal.items };
+      held = record { files = files_in s.profile s.files; journal = s.journal.items };
+      profile = s.profile;
       failures = s.failures;
       planned = s.planned;
     } };
 }
 
 impl MemoryStore {
-    /// A store of these files, the later of two with one
-    /// path, and this journal. No call of it is to fail yet.
+    /// A store of these files of the core language, the later of two
+    /// with one path, and this journal. No call of it is to fail yet.
     pub fn new(
         alloc: Global,
         files: Vec<(String, Vec<u8>)>,
@@ -67,6 +71,46 @@ impl MemoryStore {
             (⟦<MemoryStore as Store>⟧.holds s) journal.items) }
         ensures failures { IfOk result (λ s. ⟦<MemoryStore as Store>⟧.failure_count s ≡ 0) }
         ensures planned { IfOk result (λ s. s.planned ≡ None) }
+        ensures language { IfOk result (λ s. (s.profile ≡ Core)
+            × AreOf Core (⟦<MemoryStore as Store>⟧.holds s)) }
+    {
+        MemoryStore::of_language(alloc, Profile::Core, files, journal)
+    }
+
+    /// A store of these files of the language as written, the later of two
+    /// with one path, and this journal. No call of it is to fail yet.
+    pub fn as_written(
+        alloc: Global,
+        files: Vec<(String, Vec<u8>)>,
+        journal: Vec<u8>,
+    ) -> Result<MemoryStore, NoMemory>
+        ensures files { IfOk result (λ s. KeepsLatest
+            (⟦<MemoryStore as Store>⟧.holds s) (files_of_as AsWritten files.items)) }
+        ensures journal { IfOk result (λ s. HoldsJournal
+            (⟦<MemoryStore as Store>⟧.holds s) journal.items) }
+        ensures failures { IfOk result (λ s. ⟦<MemoryStore as Store>⟧.failure_count s ≡ 0) }
+        ensures planned { IfOk result (λ s. s.planned ≡ None) }
+        ensures language { IfOk result (λ s. (s.profile ≡ AsWritten)
+            × AreOf AsWritten (⟦<MemoryStore as Store>⟧.holds s)) }
+    {
+        MemoryStore::of_language(alloc, Profile::AsWritten, files, journal)
+    }
+
+    // A store of these files of a language.
+    fn of_language(
+        alloc: Global,
+        profile: Profile,
+        files: Vec<(String, Vec<u8>)>,
+        journal: Vec<u8>,
+    ) -> Result<MemoryStore, NoMemory>
+        ensures files { IfOk result (λ s. KeepsLatest
+            (⟦<MemoryStore as Store>⟧.holds s) (files_of_as profile files.items)) }
+        ensures journal { IfOk result (λ s. HoldsJournal
+            (⟦<MemoryStore as Store>⟧.holds s) journal.items) }
+        ensures failures { IfOk result (λ s. ⟦<MemoryStore as Store>⟧.failure_count s ≡ 0) }
+        ensures planned { IfOk result (λ s. s.planned ≡ None) }
+        ensures language { IfOk result (λ s. (s.profile ≡ profile)
+            × AreOf profile (⟦<MemoryStore as Store>⟧.holds s)) }
     {
         let mut by_path = BTreeMap::new(alloc);
         for (path, bytes) in files {
@@ -74,6 +118,7 @@ impl MemoryStore {
         }
         Ok(MemoryStore {
             alloc,
+            profile,
             files: by_path,
             journal,
             failures: 0,
@@ -156,8 +201,8 @@ impl MemoryStore {
 }
 
 fn paths_in(alloc: Global, files: &BTreeMap<String, Vec<u8>>) -> Result<Vec<String>, NoMemory>
-    ensures { IfOk result (λ paths. AreInPathOrder (files_in files.now)
-        × IsPermutation (map string_bytes paths.items) (paths_of (files_in files.now))) }
+    ensures { IfOk result (λ paths. (p : Profile) → AreInPathOrder (files_in p files.now)
+        × IsPermutation (map string_bytes paths.items) (paths_of (files_in p files.now))) }
 {
     let mut paths = Vec::with_capacity(alloc, files.len())?;
     for path in files.keys() {
@@ -168,7 +213,8 @@ fn paths_in(alloc: Global, files: &BTreeMap<String, Vec<u8>>) -> Result<Vec<Stri
 
 // The file at the path gets the bytes.
 fn put_bytes(files: &mut BTreeMap<String, Vec<u8>>, path: &str, bytes: Vec<u8>)
-    ensures { files_in files.new ≡ with_bytes path.now bytes.items (files_in files.old) }
+    ensures { (p : Profile) → files_in p files.new
+        ≡ with_bytes path.now bytes.items (files_in p files.old) }
 {
     if let Some(held) = files.get_mut(path) {
         *held = bytes;
@@ -179,6 +225,14 @@ impl Store for MemoryStore {
     ghost holds = { λ s. Some s.held };
 
     ghost failure_count = { λ s. s.failures };
+
+    /// The language that it was made for.
+    fn profile(&self) -> Profile
+        ensures profile { result ≡ self.now.profile }
+        ensures files { AreOf result (Some self.now.held) }
+    {
+        self.profile
+    }
 
     /// The paths of all files, in their order. The call that
     /// is to fail fails; any other only where memory runs out.

@@ -3,8 +3,9 @@
 ghost use Rattle.std.specs.Prelude.{◌≡◌, ◌⊎◌, ℕ, ◌-◌, ◌^◌, ◌<◌, IfOk, OnOk, OnErr, codes, map, option_map};
 ghost use Rattle.std.specs.declared.option.Option.{Option};
 ghost use Rattle.std.specs.String.{string_bytes};
-ghost use Rattle.proto_store.specs.Stores.{Counts, Held, HoldsBytes, HoldsJournal, IsListed, ListsPaths, with_file, with_journal};
+ghost use Rattle.proto_store.specs.Stores.{AreOf, Counts, Held, HoldsBytes, HoldsJournal, IsListed, ListsPaths, with_file, with_journal};
 
+use proto_base::Profile;
 use thiserror::Error;
 
 /// Why a call of a store has no answer.
@@ -40,6 +41,10 @@ pub trait Store {
 
     /// How many calls have failed.
     ghost failure_count: { Self → ℕ };
+
+    /// The language that all its files are of.
+    fn profile(&self) -> Profile
+        ensures files { AreOf result (holds self.now) };
 
     /// The paths of all files, each once, in any order.
     fn list(&mut self) -> Result<Vec<String>, StoreFault>

@@ -1,9 +1,10 @@
 -- Groups are pieces, and pieces are groups.
 use Rattle.std.proofs.Common.{◌≡◌, ℕ, Bool, true, false, List, [], ◌∷◌, ◌++◌, refl, sym, ap, subst, ◌∙◌, append_assoc, append-nil}
-use Rattle.proto_text.specs.Common.{PieceKind, Blank, LineComment, BlockComment, Solid, TokenKind, Word, Number, Text, Punctuation, Stops, class_of, extends_word, is_identifier, Piece, IsLexeme, EndsBefore, ArePieces, pieces_text}
-use Rattle.proto_text.specs.Grouping.{IsTrivium, AreTrivia, Group, groups_text, TakesIdentifiers, BeginsIdentifier, IsApart, AreGroups, pieces_of, GroupsArePieces, PiecesAreGroups, OneGrouping}
+use Rattle.proto_text.specs.Common.{PieceKind, Blank, LineComment, BlockComment, Solid, TokenKind, Word, Number, Text, Punctuation, Stops, class_of, extends_word, is_identifier, Piece, IsLexeme, EndsBefore, ArePieces, IsMadeOf, AreAllowed, Profile, pieces_text}
+use Rattle.proto_text.specs.Grouping.{IsTrivium, AreTrivia, Group, groups_text, TakesIdentifiers, BeginsIdentifier, IsApart, AreGroups, IsMadeOfGroups, pieces_of, GroupsArePiecesIn, PiecesAreGroupsIn, OneGroupingIn}
 use Rattle.proto_text.proofs.Segments.{text_append, pieces_join}
-use Rattle.proto_text.proofs.Sequence.{same_front, end_is_stuck}
+use Rattle.proto_text.proofs.Sequence.{same_front, end_is_stuck, all_allowed}
+use Rattle.proto_base.specs.declared.profile.Profile.TheVariants as profile
 use Rattle.proto_text.proofs.WordChange.{not_empty}
 
 groups_text_is : (gs : List Group) → pieces_text (pieces_of gs) ≡ groups_text gs
@@ -65,12 +66,15 @@ groups_are (g ∷ gs) h =
       pieces_join g.behind (pieces_of gs) [] (trivia_are g.behind (pieces_text (pieces_of gs) ++ []) (subst (AreTrivia g.behind) (sym rest) h.1)) (groups_are gs h.3),
     )
 
-pub groups_are_pieces : GroupsArePieces
-groups_are_pieces text first gs h =
+groups_make : (text : List ℕ) (first : List Piece) (gs : List Group) → IsMadeOfGroups text first gs → IsMadeOf text (first ++ pieces_of gs)
+groups_make text first gs h =
     let rest : pieces_text (pieces_of gs) ++ [] ≡ groups_text gs = append-nil (pieces_text (pieces_of gs)) ∙ groups_text_is gs in (
       pieces_join first (pieces_of gs) [] (trivia_are first (pieces_text (pieces_of gs) ++ []) (subst (AreTrivia first) (sym rest) h.trivia)) (groups_are gs h.tokens),
       h.whole ∙ ap (λ (t : List ℕ). pieces_text first ++ t) (sym (groups_text_is gs)) ∙ sym (text_append first (pieces_of gs)) ∙ sym (append-nil (pieces_text (first ++ pieces_of gs))),
     )
+
+pub groups_are_pieces : (p : Profile) → GroupsArePiecesIn p
+groups_are_pieces p text first gs h = (groups_make text first gs h.0, h.1)
 
 -- ---- pieces are groups
 
@@ -127,18 +131,11 @@ grouped : (ps : List Piece) → ArePieces ps [] → Grouped ps
 grouped [] h = record { first = []; groups = []; trivia = tt; tokens = tt; parts = refl }
 grouped (p ∷ ps) h = grouped_step p.kind p.bytes ps h.0 h.1 (grouped ps h.2)
 
-pub pieces_are_groups : PiecesAreGroups
-pieces_are_groups text ps is =
-    let g = grouped ps is.0 in (
-      g.first,
-      g.groups,
-      record {
-        trivia = g.trivia;
-        tokens = g.tokens;
-        whole = is.1 ∙ append-nil (pieces_text ps) ∙ ap pieces_text g.parts ∙ text_append g.first (pieces_of g.groups) ∙ ap (λ (t : List ℕ). pieces_text g.first ++ t) (groups_text_is g.groups);
-      },
-      g.parts,
-    )
+pub pieces_are_groups : (p : Profile) → PiecesAreGroupsIn p
+pieces_are_groups p text ps is =
+    let g = grouped ps is.0.0 in
+    let whole = is.0.1 ∙ append-nil (pieces_text ps) ∙ ap pieces_text g.parts ∙ text_append g.first (pieces_of g.groups) ∙ ap (λ (t : List ℕ). pieces_text g.first ++ t) (groups_text_is g.groups) in
+    (g.first, g.groups, (record { trivia = g.trivia; tokens = g.tokens; whole = whole }, subst (AreAllowed p) g.parts is.1), g.parts)
 
 -- ---- one grouping
 
@@ -193,9 +190,9 @@ same_groups (r ∷ ps) [] [] (k ∷ gs) (l ∷ hs) t g u h x y =
     let more = same_groups ps k.behind l.behind gs hs g.1 g.3 h.1 h.3 (tails r (token_piece k) ps (k.behind ++ pieces_of gs) x) (tails r (token_piece l) ps (l.behind ++ pieces_of hs) y) in
     (refl, ap (λ (z : Group). z ∷ gs) (same_group k l head.0 head.1 more.0) ∙ ap (λ (z : List Group). l ∷ z) more.1)
 
-pub one_grouping : OneGrouping
-one_grouping text a b gs hs x y =
-    let p = groups_are_pieces text a gs x in
-    let q = groups_are_pieces text b hs y in
-    let same = (same_front (a ++ pieces_of gs) (b ++ pieces_of hs) [] [] p.0 q.0 (sym p.1 ∙ q.1) end_is_stuck end_is_stuck).0 in
-    same_groups (a ++ pieces_of gs) a b gs hs x.trivia x.tokens y.trivia y.tokens refl same
+pub one_grouping : (p : Profile) → OneGroupingIn p
+one_grouping language text a b gs hs x y =
+    let p = groups_make text a gs x.0 in
+    let q = groups_make text b hs y.0 in
+    let same = (same_front profile.AsWritten (a ++ pieces_of gs) (b ++ pieces_of hs) [] [] p.0 q.0 (all_allowed (a ++ pieces_of gs)) (all_allowed (b ++ pieces_of hs)) (sym p.1 ∙ q.1) (end_is_stuck profile.AsWritten) (end_is_stuck profile.AsWritten)).0 in
+    same_groups (a ++ pieces_of gs) a b gs hs x.0.trivia x.0.tokens y.0.trivia y.0.tokens refl same

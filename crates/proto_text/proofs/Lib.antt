@@ -1,6 +1,7 @@
 pub mod Begins
 mod CloseLoop
 pub mod Common
+pub mod CoreTokens
 pub mod EditLaws
 mod EndLoop
 mod Ends

@@ -1,14 +1,25 @@
 -- A text has one list of tokens, and edits put one text (for the crates above).
 use Rattle.std.proofs.Common.{◌≡◌, ℕ, ◌+◌, List, [], ◌∷◌, ◌++◌, length, refl, sym, ap, subst, ◌∙◌, arith, length-append}
-use Rattle.proto_text.specs.Common.{Edit, Puts, old_len, new_len, OneTokenList, NoFaultWithTokens}
+use Rattle.proto_text.specs.Common.{Edit, Puts, old_len, new_len, Profile, OneTokenList, NoFaultWithTokens, NoFaultWithTokensIn, TokensOfText, TokensAreWritten}
 use Rattle.proto_text.proofs.EditLaws.{cut}
-use Rattle.proto_text.proofs.Sequence.{only_tokens, no_fault}
+use Rattle.proto_base.specs.declared.profile.Profile.TheVariants as profile
+use Rattle.proto_text.proofs.Sequence.{all_allowed, only_tokens, no_fault}
 
 pub one_token_list : OneTokenList
-one_token_list text a b x y = only_tokens text a y.0 x y.1 ∙ sym y.2
+one_token_list text a b x y = only_tokens profile.AsWritten text a y.0 (x.0, (x.1, all_allowed x.0), x.2) (y.1, all_allowed y.0) ∙ sym y.2
+
+pub no_fault_with_tokens_in : (p : Profile) → NoFaultWithTokensIn p
+no_fault_with_tokens_in p text tokens offset fault are at = no_fault p text are.0 offset fault are.1 at
 
 pub no_fault_with_tokens : NoFaultWithTokens
-no_fault_with_tokens text tokens offset fault are at = no_fault text are.0 offset fault are.1 at
+no_fault_with_tokens = no_fault_with_tokens_in profile.Core
+
+-- tokens of a language are the tokens of the text
+pub tokens_of_text : TokensOfText
+tokens_of_text p text tokens h = (h.0, h.1.0, h.2)
+
+pub tokens_are_written : TokensAreWritten
+tokens_are_written text tokens h = (h.0, (h.1, all_allowed h.0), h.2)
 
 pub puts_once : (from : ℕ) (text a b : List ℕ) (es : List Edit) → Puts from text es a → Puts from text es b → a ≡ b
 puts_once from text a b [] p q = p ∙ sym q

@@ -1,7 +1,7 @@
 -- A text is cut between its tokens, and segments are put in.
 use Rattle.std.proofs.Common.{◌≡◌, ℕ, zero, suc, ◌+◌, ◌-◌, ◌<◌, ◌≤◌, ◌⊎◌, inl, inr, Bool, true, false, not, eqb, List, [], ◌∷◌, ◌++◌, length, take, drop, map, refl, sym, ap, subst, ◌∙◌, arith, append_assoc, IsUtf8, IsCharBoundary, append-nil, length-append, take_at, drop_at}
 use Rattle.std.proofs.lemmas.Str.{IsUtf8-append, IsUtf8-take, IsUtf8-drop}
-use Rattle.proto_text.specs.Common.{Class, Space, Letter, Digit, Quote, Mark, PieceKind, Blank, LineComment, BlockComment, Solid, TokenKind, Word, Number, Text, Punctuation, Token, Stops, class_of, Piece, is_in_line, IsLexeme, EndsBefore, ArePieces, IsPieces, pieces_text, offset_at, Lexeme, lexeme_at, lexeme_if, lexemes, token_at, tokens_from, AreTokens, EndsByItself, IsSeam, end_before, IsPlace, SegmentsJoin, bytes_between, BetweenPlaces, RunsAreReplaced}
+use Rattle.proto_text.specs.Common.{Class, Space, Letter, Digit, Quote, Mark, PieceKind, Blank, LineComment, BlockComment, Solid, TokenKind, Word, Number, Text, Punctuation, Token, Stops, class_of, Piece, is_in_line, IsLexeme, EndsBefore, ArePieces, IsMadeOf, pieces_text, offset_at, Lexeme, lexeme_at, lexeme_if, lexemes, token_at, tokens_from, AreTokens, EndsByItself, IsSeam, end_before, IsPlace, SegmentsJoin, bytes_between, BetweenPlaces, RunsAreReplaced}
 use Rattle.proto_text.proofs.OneEdit.{length_map}
 use Rattle.proto_text.proofs.Reading.{tokens_read_pieces}
 use Rattle.proto_text.proofs.Spans.{boundary}
@@ -302,7 +302,7 @@ runs_are_replaced text tokens i j from to new ls lexed a b le seg =
     c.whole ∙ ap (λ (t : List ℕ). t ++ (pieces_text c.mid ++ pieces_text c.back)) (sym front)
     ∙ ap (λ (t : List ℕ). take from text ++ (t ++ pieces_text c.back)) (sym mid)
     ∙ ap (λ (t : List ℕ). take from text ++ (bytes_between text from to ++ t)) (sym back) in
-    let is_pieces : IsPieces (pieces_text qs) qs = (are, sym (append-nil (pieces_text qs))) in
+    let is_pieces : IsMadeOf (pieces_text qs) qs = (are, sym (append-nil (pieces_text qs))) in
     let start = boundary text (pieces_text c.front) (c.mid ++ c.back) (pieces_join c.mid c.back [] (c.mid_stays (pieces_text c.back ++ [])) c.back_is) (c.whole ∙ ap (λ (t : List ℕ). pieces_text c.front ++ t) (sym (text_append c.mid c.back))) in
     let stop = boundary text (pieces_text c.front ++ pieces_text c.mid) c.back c.back_is (c.whole ∙ sym (append_assoc (pieces_text c.front) (pieces_text c.mid) (pieces_text c.back))) in
     let at_start = subst (IsCharBoundary text) (sym c.at_from) start in

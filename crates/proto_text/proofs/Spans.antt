@@ -1,7 +1,7 @@
 -- Tokens begin and end between characters (for the crates above).
 use Rattle.std.proofs.Common.{◌≡◌, ℕ, ◌+◌, ◌<◌, ◌≤◌, false, ◌||◌, eqb, List, [], ◌∷◌, ◌++◌, length, get_or, All, refl, sym, ap, subst, ◌∙◌, arith, inl, inr, append_assoc, Result, Ok, Err, IfOk, IsCharBoundary, append-nil, length-append}
 use Rattle.proto_base.proofs.Common.{Vec, AllByRecursion, cases_lt, nat_tests, get_or_at, All-from_recursion, IsCharBoundary-end, IsCharBoundary-before_ascii}
-use Rattle.proto_text.specs.Common.{TextFault, Class, Space, Letter, Digit, Quote, Mark, Other, Word, Number, Text, Punctuation, PieceKind, Blank, LineComment, BlockComment, Solid, Token, class_of, is_space, is_letter, is_digit, is_mark, Piece, IsLexeme, pieces_text, ArePieces, token_at, tokens_from, AreTokens, IsLexed, IsSpan}
+use Rattle.proto_text.specs.Common.{TextFault, Class, Space, Letter, Digit, Quote, Mark, Other, Word, Number, Text, Punctuation, PieceKind, Blank, LineComment, BlockComment, Solid, Token, class_of, is_space, is_letter, is_digit, is_mark, Piece, IsLexeme, pieces_text, ArePieces, token_at, tokens_from, AreTokens, IsLexed, IsSpan, Profile}
 use Rattle.proto_text.proofs.WordChange.{not_empty}
 
 no_space : (b : ℕ) → 128 ≤ b → is_space b ≡ false
@@ -94,6 +94,6 @@ token_spans text tokens are =
     let whole : text ≡ [] ++ pieces_text are.0 = are.1.1 ∙ append-nil (pieces_text are.0) in
     All-from_recursion (λ t. IsSpan text t.span) tokens (subst (AllByRecursion (λ t. IsSpan text t.span)) (sym are.2) (spans text [] are.0 are.1.0 whole))
 
-pub result_spans : (text : List ℕ) (result : Result (Vec Token) TextFault) → IsLexed text result → IfOk result (λ tokens. All (λ t. IsSpan text t.span) tokens.items)
-result_spans text (Ok tokens) h = token_spans text tokens.items h
-result_spans text (Err e) h = tt
+pub result_spans : (profile : Profile) (text : List ℕ) (result : Result (Vec Token) TextFault) → IsLexed profile text result → IfOk result (λ tokens. All (λ t. IsSpan text t.span) tokens.items)
+result_spans profile text (Ok tokens) h = token_spans text tokens.items (h.0, h.1.0, h.2)
+result_spans profile text (Err e) h = tt

@@ -1,9 +1,9 @@
 -- Words in place of words (for the crates above).
 use Rattle.std.proofs.Common.{◌≡◌, ℕ, zero, suc, ◌+◌, ◌<◌, true, arith, List, [], ◌∷◌, ◌++◌, ◌⊎◌, inl, inr, length, map, Option, Some, None, refl, sym, ap, subst, ◌∙◌, append-nil, take_at, drop_at, IsUtf8, slice_index}
 use Rattle.std.proofs.lemmas.Str.{IsUtf8-append, IsUtf8-nil, IsUtf8-take, IsUtf8-drop, IsUtf8-from_ascii}
-use Rattle.proto_text.specs.Common.{Class, Space, Digit, Quote, Mark, Slash, Other, class_of, extends_word, is_identifier, EachByte, Letter, PieceKind, Blank, LineComment, BlockComment, Solid, TokenKind, Word, Token, Edit, Puts, Piece, IsRun, IsLexeme, ArePieces, IsPieces, pieces_text, text_at, Lexeme, lexeme_at, lexeme_if, lexemes, token_at, tokens_from, IsWord, SameButWords, piece_after, edits_from, or_word, changed, edit_if, token_edits, AreWords, IsReworded, WordsArePut}
+use Rattle.proto_text.specs.Common.{Class, Space, Digit, Quote, Mark, Slash, Other, class_of, extends_word, is_identifier, EachByte, Letter, PieceKind, Blank, LineComment, BlockComment, Solid, TokenKind, Word, Token, Edit, Puts, Piece, IsRun, IsLexeme, ArePieces, IsMadeOf, pieces_text, text_at, Lexeme, lexeme_at, lexeme_if, lexemes, token_at, tokens_from, IsWord, SameButWords, piece_after, edits_from, or_word, changed, edit_if, token_edits, AreWords, IsReworded, WordsArePut}
 use Rattle.proto_text.proofs.Spans.{boundary, classed_is_low}
-use Rattle.proto_text.proofs.WordChange.{words_may_change}
+use Rattle.proto_text.proofs.WordChange.{made_again}
 use Rattle.proto_text.proofs.PieceEdits.{edits_change_pieces}
 use Rattle.proto_text.proofs.Reading.{tokens_read_pieces}
 
@@ -167,12 +167,12 @@ utf8_after c n (p ∷ ps) u w =
     IsUtf8-append _ _ step.0 (utf8_after c (next_of p.kind n) ps u.1 step.1)
 
 -- the edit, over pieces of the text
-pub reworded : (text : List ℕ) (c : Change) (ps : List Piece) → IsPieces text ps → AreWords c 0 (lexemes ps)
+pub reworded : (text : List ℕ) (c : Change) (ps : List Piece) → IsMadeOf text ps → AreWords c 0 (lexemes ps)
     → IsReworded text (tokens_from 0 ps) c (pieces_text (pieces_after c 0 ps)) (tokens_from 0 (pieces_after c 0 ps))
 reworded text c ps is w =
     let qs = pieces_after c 0 ps in
     let same = same_but_words c 0 ps is.0 w in
-    let new_pieces = words_may_change text ps qs is same in
+    let new_pieces = made_again text ps qs is same in
     let whole : pieces_text (map (λ (x : Piece × Option (List ℕ)). x.0) (changes c 0 ps)) ≡ text = ap pieces_text (firsts c 0 ps) ∙ sym (is.1 ∙ append-nil (pieces_text ps)) in
     let read = tokens_read_pieces text ps is in
     let put_0 = edits_change_pieces (changes c 0 ps) in

@@ -1,6 +1,6 @@
 -- A word in a word's place leaves the other pieces as they are (for the crates above).
 use Rattle.std.proofs.Common.{◌≡◌, ℕ, Bool, true, false, not, eqb, List, [], ◌∷◌, ◌++◌, ◌⊎◌, inl, inr, refl, sym, ap, subst, ◌∙◌, append-nil, append_assoc, eqb-true}
-use Rattle.proto_text.specs.Common.{Space, Letter, PieceKind, Blank, LineComment, BlockComment, Solid, Word, Number, Text, Punctuation, class_of, is_identifier, extends_word, Piece, IsRun, is_in_line, IsLexeme, EndsBefore, pieces_text, ArePieces, IsWord, SameButWords, WordsMayChange}
+use Rattle.proto_text.specs.Common.{Space, Letter, PieceKind, Blank, LineComment, BlockComment, Solid, Word, Number, Text, Punctuation, class_of, is_identifier, extends_word, Piece, IsRun, is_in_line, IsLexeme, EndsBefore, pieces_text, ArePieces, IsMadeOf, IsWord, SameButWords}
 
 -- what may follow a piece is determined by its first byte
 ends_at : (kind : PieceKind) (b : ℕ) (x y : List ℕ) → EndsBefore kind (b ∷ x) → EndsBefore kind (b ∷ y)
@@ -84,5 +84,5 @@ pieces_again (p ∷ ps) (q ∷ qs) rest h s =
     let one = one_again p q (pieces_text ps ++ rest) (pieces_text qs ++ rest) (λ kind ends. ends_again kind ps qs rest h.2 s.1 ends) s.0 h.0 h.1 in
     (one.0, one.1, pieces_again ps qs rest h.2 s.1)
 
-pub words_may_change : WordsMayChange
-words_may_change text ps qs is same = (pieces_again ps qs [] is.0 same, sym (append-nil (pieces_text qs)))
+pub made_again : (text : List ℕ) (ps qs : List Piece) → IsMadeOf text ps → SameButWords ps qs → IsMadeOf (pieces_text qs) qs
+made_again text ps qs is same = (pieces_again ps qs [] is.0 same, sym (append-nil (pieces_text qs)))

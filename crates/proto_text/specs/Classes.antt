@@ -19,12 +19,12 @@ is_letter b =
 abbrev pub is_digit : ℕ → Bool
 is_digit b = nat_le ascii.zero b && nat_le b ascii.nine
 
--- one of ( ) , - . ; < = > [ ] { }
+-- one of ( ) , - . : ; < = > [ ] { } (`:` in the language as written alone)
 abbrev pub is_mark : ℕ → Bool
 is_mark b =
     b == ascii.open_parenthesis || b == ascii.close_parenthesis || b == ascii.comma
-    || b == ascii.hyphen || b == ascii.dot || b == ascii.semicolon || b == ascii.less
-    || b == ascii.equals || b == ascii.greater || b == ascii.open_bracket
+    || b == ascii.hyphen || b == ascii.dot || b == ascii.colon || b == ascii.semicolon
+    || b == ascii.less || b == ascii.equals || b == ascii.greater || b == ascii.open_bracket
     || b == ascii.close_bracket || b == ascii.open_brace || b == ascii.close_brace
 
 -- the one class of a byte

@@ -1,6 +1,8 @@
 -- The pieces of a text in groups: trivia, token, trivia, .., token, trivia, as the language
 -- specification describes a file.
 use Rattle.std.specs.Prelude.{◌≡◌, ℕ, true, List, [], ◌∷◌, ◌++◌}
+use Rattle.proto_base.specs.declared.profile.Profile.{Profile}
+use Rattle.proto_base.specs.declared.profile.Profile.TheVariants as profile
 use Rattle.proto_text.specs.declared.class.Class.TheVariants.{Space}
 use Rattle.proto_text.specs.declared.kind.PieceKind.{PieceKind}
 use Rattle.proto_text.specs.declared.kind.PieceKind.TheVariants.{Blank, LineComment, BlockComment, Solid}
@@ -8,7 +10,8 @@ use Rattle.proto_text.specs.declared.kind.TokenKind.{TokenKind}
 use Rattle.proto_text.specs.declared.kind.TokenKind.TheVariants.{Word, Number, Text, Punctuation}
 use Rattle.proto_text.specs.Bytes.{Stops}
 use Rattle.proto_text.specs.Classes.{is_identifier}
-use Rattle.proto_text.specs.Pieces.{Piece, IsOne, IsLineComment, IsBlockComment, IsLexeme, IsPieces, is_in_line, pieces_text}
+use Rattle.proto_text.specs.Pieces.{Piece, IsOne, IsLineComment, IsBlockComment, IsLexeme, is_in_line, pieces_text}
+use Rattle.proto_text.specs.Profiles.{AreAllowed, IsPiecesIn}
 
 -- one white-space byte, a block comment through its first `*/`, or a line comment up to a line feed
 -- or the end of the text
@@ -60,8 +63,9 @@ AreGroups (g ∷ gs) =
     IsLexeme (Solid g.kind) g.bytes × AreTrivia g.behind (groups_text gs)
     × IsApart g gs × AreGroups gs
 
--- the text is this trivia, and then these groups
-pub record IsGrouped (text : List ℕ) (first : List Piece) (groups : List Group) : Type 0 where
+-- the text is this trivia, and then these groups, which either language may have
+pub record IsMadeOfGroups (text : List ℕ) (first : List Piece) (groups : List Group)
+    : Type 0 where
   pub trivia : AreTrivia first (groups_text groups)
   pub tokens : AreGroups groups
   pub whole : text ≡ pieces_text first ++ groups_text groups
@@ -72,21 +76,42 @@ pieces_of [] = []
 pieces_of (g ∷ gs) =
     record { kind = Solid g.kind; bytes = g.bytes } ∷ (g.behind ++ pieces_of gs)
 
+-- the same, and the language has each of the pieces
+abbrev pub IsGroupedIn : Profile → List ℕ → List Piece → List Group → Type 0
+IsGroupedIn p text first groups =
+    IsMadeOfGroups text first groups × AreAllowed p (first ++ pieces_of groups)
+
+-- the same in the core language
+abbrev pub IsGrouped : List ℕ → List Piece → List Group → Type 0
+IsGrouped text first groups = IsGroupedIn profile.Core text first groups
+
 -- A text in groups is a text in pieces.
+abbrev pub GroupsArePiecesIn : Profile → Type 0
+GroupsArePiecesIn p =
+    (text : List ℕ) (first : List Piece) (groups : List Group) → IsGroupedIn p text first groups
+    → IsPiecesIn p text (first ++ pieces_of groups)
+
+-- the same in the core language
 abbrev pub GroupsArePieces : Type 0
-GroupsArePieces =
-    (text : List ℕ) (first : List Piece) (groups : List Group) → IsGrouped text first groups
-    → IsPieces text (first ++ pieces_of groups)
+GroupsArePieces = GroupsArePiecesIn profile.Core
 
 -- A text in pieces is a text in groups of the same pieces.
-abbrev pub PiecesAreGroups : Type 0
-PiecesAreGroups =
-    (text : List ℕ) (ps : List Piece) → IsPieces text ps
-    → (first : List Piece) × (groups : List Group) × IsGrouped text first groups
+abbrev pub PiecesAreGroupsIn : Profile → Type 0
+PiecesAreGroupsIn p =
+    (text : List ℕ) (ps : List Piece) → IsPiecesIn p text ps
+    → (first : List Piece) × (groups : List Group) × IsGroupedIn p text first groups
     × (ps ≡ first ++ pieces_of groups)
 
+-- the same in the core language
+abbrev pub PiecesAreGroups : Type 0
+PiecesAreGroups = PiecesAreGroupsIn profile.Core
+
 -- A text is grouped in one way at most.
+abbrev pub OneGroupingIn : Profile → Type 0
+OneGroupingIn p =
+    (text : List ℕ) (a b : List Piece) (gs hs : List Group) → IsGroupedIn p text a gs
+    → IsGroupedIn p text b hs → (a ≡ b) × (gs ≡ hs)
+
+-- the same in the core language
 abbrev pub OneGrouping : Type 0
-OneGrouping =
-    (text : List ℕ) (a b : List Piece) (gs hs : List Group) → IsGrouped text a gs
-    → IsGrouped text b hs → (a ≡ b) × (gs ≡ hs)
+OneGrouping = OneGroupingIn profile.Core

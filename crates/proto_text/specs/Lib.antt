@@ -7,6 +7,7 @@ pub mod First
 pub mod Grouping
 pub mod Lines
 pub mod Pieces
+pub mod Profiles
 pub mod Renames
 pub mod Scan
 pub mod Segments

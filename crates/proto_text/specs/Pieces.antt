@@ -102,9 +102,9 @@ ArePieces (p ∷ ps) rest =
 abbrev pub IsFront : List ℕ → List Piece → List ℕ → Type 0
 IsFront text ps rest = ArePieces ps rest × (text ≡ pieces_text ps ++ rest)
 
--- the text is these pieces
-abbrev pub IsPieces : List ℕ → List Piece → Type 0
-IsPieces text ps = IsFront text ps []
+-- the text is made of these pieces, which either language may have
+abbrev pub IsMadeOf : List ℕ → List Piece → Type 0
+IsMadeOf text ps = IsFront text ps []
 
 -- no whole and allowed piece begins, and why
 abbrev pub IsFault : LexFault → List ℕ → Type 0

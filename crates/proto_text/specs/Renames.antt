@@ -1,11 +1,14 @@
 -- Pieces that differ in words alone, and edits at pieces.
 use Rattle.std.specs.Prelude.{◌≡◌, ℕ, ◌+◌, List, [], ◌∷◌, ◌++◌, ◌⊎◌, length, map, Option, Some, None}
 use Rattle.proto_base.specs.Texts.{Text}
+use Rattle.proto_base.specs.declared.profile.Profile.{Profile}
+use Rattle.proto_base.specs.declared.profile.Profile.TheVariants as profile
 use Rattle.proto_text.specs.Edits.{Edit, Puts}
 use Rattle.proto_text.specs.declared.class.Class.TheVariants.{Letter}
 use Rattle.proto_text.specs.declared.kind.PieceKind.TheVariants.{Solid}
 use Rattle.proto_text.specs.declared.kind.TokenKind.TheVariants.{Word}
-use Rattle.proto_text.specs.Pieces.{Piece, IsRun, IsPieces, pieces_text}
+use Rattle.proto_text.specs.Pieces.{Piece, IsRun, pieces_text}
+use Rattle.proto_text.specs.Profiles.{IsPiecesIn}
 use Rattle.proto_text.specs.Texts.{edit_if}
 
 -- a piece that is a word token
@@ -20,10 +23,14 @@ SameButWords (p ∷ ps) [] = ⊥
 SameButWords (p ∷ ps) (q ∷ qs) = ((p ≡ q) ⊎ (IsWord p × IsWord q)) × SameButWords ps qs
 
 -- Pieces with other words in place of words are pieces.
+abbrev pub WordsMayChangeIn : Profile → Type 0
+WordsMayChangeIn p =
+    (text : List ℕ) (ps qs : List Piece) → IsPiecesIn p text ps → SameButWords ps qs
+    → IsPiecesIn p (pieces_text qs) qs
+
+-- the same in the core language
 abbrev pub WordsMayChange : Type 0
-WordsMayChange =
-    (text : List ℕ) (ps qs : List Piece) → IsPieces text ps → SameButWords ps qs
-    → IsPieces (pieces_text qs) qs
+WordsMayChange = WordsMayChangeIn profile.Core
 
 -- a piece, and the bytes that come in its place, if others do
 abbrev pub piece_after : Piece × Option Text → Piece

@@ -38,8 +38,20 @@ pub fn class_of_byte(byte: u8) -> Class
     }
     match byte {
         b'"' | b'\'' => Class::Quote,
-        b'(' | b')' | b',' | b'-' | b'.' | b';' | b'<' | b'=' | b'>' | b'[' | b']' | b'{' | b'}' =>
-            Class::Mark,
+        b'('
+        | b')'
+        | b','
+        | b'-'
+        | b'.'
+        | b':'
+        | b';'
+        | b'<'
+        | b'='
+        | b'>'
+        | b'['
+        | b']'
+        | b'{'
+        | b'}' => Class::Mark,
         b'/' => Class::Slash,
         _ => Class::Other,
     }

@@ -1,11 +1,12 @@
 //! Laws of the definitions, for the layers above. None of these does anything.
 
+ghost use Rattle.proto_base.specs.declared.profile.Profile.{Profile};
 ghost use Rattle.proto_text.specs.Edits.{InverseLeadsBack, PutsLength, EditsPutOnce};
-ghost use Rattle.proto_text.specs.Grouping.{GroupsArePieces, OneGrouping, PiecesAreGroups};
-ghost use Rattle.proto_text.specs.Renames.{EditsChangePieces, WordsMayChange};
+ghost use Rattle.proto_text.specs.Grouping.{GroupsArePieces, GroupsArePiecesIn, OneGrouping, OneGroupingIn, PiecesAreGroups, PiecesAreGroupsIn};
+ghost use Rattle.proto_text.specs.Renames.{EditsChangePieces, WordsMayChange, WordsMayChangeIn};
 ghost use Rattle.proto_text.specs.Segments.{BetweenPlaces, DecimalIsNumber, QuotedStandsForItself, RunsAreReplaced, SegmentsJoin, SpaceIsSegment, TokenBeforeSegment, TokenIsSegment, TokensAreInOrder, TokensAreLexemes, TokensAreMoved};
 ghost use Rattle.proto_text.specs.Texts.{CountStays, OneWordIsOneEdit, OtherWordsStay, WordsAreChanged, WordsArePut, WordsStandAtSpans};
-ghost use Rattle.proto_text.specs.Tokens.{NoFaultWithTokens, OneTokenList, TokensReadPieces};
+ghost use Rattle.proto_text.specs.Tokens.{TokensAreWritten, CoreTokensHaveNoColon, NoFaultWithTokens, NoFaultWithTokensIn, OneTokenList, TokensOfText, TokensReadPieces, TokensWithoutColon};
 ghost use Rattle.proto_text.specs.Values.{OneValue, StringsHaveValues, ValueIsValueOf};
 
 /// Pieces, and groups of a token and the trivia behind it, say the same; a text is grouped in one
@@ -14,6 +15,9 @@ pub fn groups_are_pieces()
     ensures pieces { GroupsArePieces }
     ensures groups { PiecesAreGroups }
     ensures one { OneGrouping }
+    ensures pieces_in { (p : Profile) → GroupsArePiecesIn p }
+    ensures groups_in { (p : Profile) → PiecesAreGroupsIn p }
+    ensures one_in { (p : Profile) → OneGroupingIn p }
 {}
 
 /// The texts at the tokens of a text are those of its pieces.
@@ -21,15 +25,26 @@ pub fn tokens_read_pieces()
     ensures { TokensReadPieces }
 {}
 
-/// A text has one list of tokens, and where it has tokens it has no fault.
+/// A text has one list of tokens, and where it has tokens of a language it has no fault in it.
 pub fn tokens_are_one()
     ensures one { OneTokenList }
     ensures no_fault { NoFaultWithTokens }
+    ensures no_fault_in { (p : Profile) → NoFaultWithTokensIn p }
+{}
+
+/// The tokens of a text are those of it as written, and of it in the core language exactly where
+/// none is a `:`.
+pub fn core_tokens_are_written()
+    ensures tokens { TokensOfText }
+    ensures written { TokensAreWritten }
+    ensures no_colon { CoreTokensHaveNoColon }
+    ensures without { TokensWithoutColon }
 {}
 
 /// Pieces stay pieces where words are put in place of words.
 pub fn words_may_change()
-    ensures { WordsMayChange }
+    ensures words { WordsMayChange }
+    ensures words_in { (p : Profile) → WordsMayChangeIn p }
 {}
 
 /// Edits of whole pieces put other pieces in their place.

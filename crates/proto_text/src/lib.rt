@@ -16,7 +16,7 @@ mod word;
 
 pub use fault::{LexFault, TextFault};
 pub use kind::TokenKind;
-pub use lexer::{Token, lex};
+pub use lexer::{Token, lex, lex_as};
 pub use source::{Source, Span};
 pub use splice::{Splice, SpliceFault, Splices, apply_splices, invert};
 pub use value::{stands_for, string_value};

@@ -4,24 +4,24 @@ use Rattle.proto_text.specs.declared.kind.PieceKind.{PieceKind}
 use Rattle.proto_text.specs.declared.kind.PieceKind.TheVariants.{Blank, LineComment, BlockComment, Solid}
 use Rattle.proto_text.specs.declared.lexer.Token.{Token}
 use Rattle.proto_text.proofs.Common.{Piece, IsLexeme, pieces_text, ArePieces, text_at, token_at, tokens_from, lexeme_at, AreTokens, not_empty}
-use Rattle.proto_tree.specs.Common.{Lexeme, class_by, classes, classed, place_at}
+use Rattle.proto_tree.specs.Common.{Lexeme, class_by, classes_in, classed_in, place_at, Profile, class_as}
 
-abbrev pub class_at : List ℕ → ℕ → Token → Lexeme
-class_at text n t = record { class = class_by t.kind (text_at text t.span); at = n }
+abbrev pub class_at : Profile → List ℕ → ℕ → Token → Lexeme
+class_at p text n t = record { class = class_as p (class_by t.kind (text_at text t.span)); at = n }
 
 -- the classes of the first i tokens, and of one more
-one_more : (text : List ℕ) (n i : ℕ) (tokens : List Token) (d : Token) → i < length tokens
-    → classes n (map (lexeme_at text) (take (i + 1) tokens)) ≡ classes n (map (lexeme_at text) (take i tokens)) ++ class_at text (n + i) (get_or tokens i d) ∷ []
-one_more text n i [] d lt = absurd (omega arith)
-one_more text n zero (t ∷ tokens) d lt = let e : n + 0 ≡ n = omega arith in rw e refl
-one_more text n (suc i) (t ∷ tokens) d lt =
+one_more : (p : Profile) (text : List ℕ) (n i : ℕ) (tokens : List Token) (d : Token) → i < length tokens
+    → classes_in p n (map (lexeme_at text) (take (i + 1) tokens)) ≡ classes_in p n (map (lexeme_at text) (take i tokens)) ++ class_at p text (n + i) (get_or tokens i d) ∷ []
+one_more p text n i [] d lt = absurd (omega arith)
+one_more p text n zero (t ∷ tokens) d lt = let e : n + 0 ≡ n = omega arith in rw e refl
+one_more p text n (suc i) (t ∷ tokens) d lt =
     let e : suc n + i ≡ n + suc i = omega arith in
     let k : suc i + 1 ≡ suc (i + 1) = omega arith in
-    rw k (ap (λ (ls : List Lexeme). class_at text n t ∷ ls) (one_more text (suc n) i tokens d (omega arith) ∙ ap (λ (m : ℕ). classes (suc n) (map (lexeme_at text) (take i tokens)) ++ class_at text m (get_or tokens i d) ∷ []) e))
+    rw k (ap (λ (ls : List Lexeme). class_at p text n t ∷ ls) (one_more p text (suc n) i tokens d (omega arith) ∙ ap (λ (m : ℕ). classes_in p (suc n) (map (lexeme_at text) (take i tokens)) ++ class_at p text m (get_or tokens i d) ∷ []) e))
 
-pub next_class : (text : List ℕ) (i : ℕ) (tokens : List Token) (d : Token) → i < length tokens
-    → classed text (take (i + 1) tokens) ≡ classed text (take i tokens) ++ class_at text i (get_or tokens i d) ∷ []
-next_class text i tokens d lt = one_more text 0 i tokens d lt ∙ ap (λ (m : ℕ). classed text (take i tokens) ++ class_at text m (get_or tokens i d) ∷ []) zero_more
+pub next_class : (p : Profile) (text : List ℕ) (i : ℕ) (tokens : List Token) (d : Token) → i < length tokens
+    → classed_in p text (take (i + 1) tokens) ≡ classed_in p text (take i tokens) ++ class_at p text i (get_or tokens i d) ∷ []
+next_class p text i tokens d lt = one_more p text 0 i tokens d lt ∙ ap (λ (m : ℕ). classed_in p text (take i tokens) ++ class_at p text m (get_or tokens i d) ∷ []) zero_more
   where
     zero_more : 0 + i ≡ i
     zero_more = omega arith

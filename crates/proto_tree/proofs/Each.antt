@@ -73,6 +73,8 @@ classes =
     ∷ class.Equals
     ∷ class.Dot
     ∷ class.Minus
+    ∷ class.Colon
+    ∷ class.NameParenthesis
     ∷ class.Other
     ∷ []
 
@@ -120,6 +122,8 @@ listed class.Comma = refl
 listed class.Equals = refl
 listed class.Dot = refl
 listed class.Minus = refl
+listed class.Colon = refl
+listed class.NameParenthesis = refl
 listed class.Other = refl
 
 pub each_is : (p : Class → Bool) → each p ≡ true → (c : Class) → p c ≡ true

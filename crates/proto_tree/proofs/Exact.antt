@@ -1,6 +1,6 @@
 -- Readers that read exactly what is flattened (for the crates above).
 use Rattle.std.proofs.Common.{◌≡◌, ℕ, zero, suc, ◌≤◌, length, length-append, Bool, true, false, cond, List, [], ◌∷◌, ◌++◌, Option, Some, None, refl, sym, ap, subst, ◌∙◌, append_assoc, arith, ◌⊎◌, inl, inr, option_and_then, ◌&&◌, ◌||◌, not}
-use Rattle.proto_tree.specs.Common.{Class, Expected, Lexeme, fits, Mark, mark, Fit, flat_option, flat_all, flat_behind, flat_from, flat_separated, Read, Reader, token, ◌then◌, made, starts, either, maybe, up_to, many, behind_at, from_at, separated_at}
+use Rattle.proto_tree.specs.Common.{Class, Expected, Lexeme, fits, open_after, Mark, mark, Fit, flat_option, flat_all, flat_behind, flat_from, flat_separated, Read, Reader, token, ◌then◌, made, starts, either, maybe, up_to, many, behind_at, from_at, separated_at}
 use Rattle.proto_tree.specs.declared.class.Expected.TheVariants as want
 use Rattle.proto_tree.proofs.Each.{each, each_is, and_left, and_right}
 
@@ -46,14 +46,29 @@ abbrev pub Stops : (Class → Bool) → List Lexeme → Type 0
 Stops stop [] = Unit {0}
 Stops stop (l ∷ s) = stop l.class ≡ false
 
--- no token of a loud class
+-- braces open after a token, where those of loud classes count
+abbrev pub counted : (Class → Bool) → ℕ → Class → ℕ
+counted loud d c = cond (loud c) (open_after d c) d
+
+abbrev pub counted_from : (Class → Bool) → ℕ → List Lexeme → ℕ
+counted_from loud d [] = d
+counted_from loud d (l ∷ s) = counted_from loud (counted loud d l.class) s
+
+-- the tokens leave as many braces open as were, where those of loud classes count
 abbrev pub Calm : (Class → Bool) → List Lexeme → Type 0
-Calm loud [] = Unit {0}
-Calm loud (l ∷ s) = (loud l.class ≡ false) × Calm loud s
+Calm loud t = (d : ℕ) (r : List Lexeme) → counted_from loud d (t ++ r) ≡ counted_from loud d r
+
+calm_none : (loud : Class → Bool) → Calm loud []
+calm_none loud d r = refl
+
+pub counted_quiet : (loud : Class → Bool) (c : Class) (d : ℕ) → loud c ≡ false → counted loud d c ≡ d
+counted_quiet loud c d e = rw e refl
+
+calm_one : (loud : Class → Bool) (l : Lexeme) → loud l.class ≡ false → Calm loud (l ∷ [])
+calm_one loud l e d r = ap (λ (n : ℕ). counted_from loud n r) (counted_quiet loud l.class d e)
 
 pub Calm-append : (loud : Class → Bool) (t u : List Lexeme) → Calm loud t → Calm loud u → Calm loud (t ++ u)
-Calm-append loud [] u h k = k
-Calm-append loud (l ∷ t) u h k = (h.0, Calm-append loud t u h.1 k)
+Calm-append loud t u h k d r = ap (counted_from loud d) (append_assoc t u r) ∙ h d (u ++ r) ∙ k d r
 
 abbrev pub never : Class → Bool
 never c = false
@@ -83,8 +98,8 @@ token_complete w x (l ∷ []) r h = rw (h.0, h.1) refl
 token_complete w x (l ∷ k ∷ t) r h = absurd h.2
 
 token_calm : (loud : Class → Bool) (w : Expected) (x : ℕ) (text : List Lexeme) → ((c : Class) → fits w c ≡ true → loud c ≡ false) → Fit (mark w x ∷ []) text → Calm loud text
-token_calm loud w x [] b h = tt
-token_calm loud w x (l ∷ []) b h = (b l.class h.0, tt)
+token_calm loud w x [] b h = absurd h
+token_calm loud w x (l ∷ []) b h = calm_one loud l (b l.class h.0)
 token_calm loud w x (l ∷ k ∷ t) b h = absurd h.2
 
 pub token-exact : (loud : Class → Bool) (w : Expected) → ((c : Class) → fits w c ≡ true → loud c ≡ false) → IsExact loud true (fits w) never (λ i. mark w i ∷ []) (token w)
@@ -304,7 +319,7 @@ maybe-exact {A = A} loud w first stop flat p h only = record { begins = maybe_be
   maybe_begins (Some x) text fit = begins_if first text (h.begins x text fit)
 
   maybe_calm : (o : Option A) (text : List Lexeme) → Fit (flat_option flat o) text → Calm loud text
-  maybe_calm None text fit = subst (λ t. Calm loud t) (no_text text fit) tt
+  maybe_calm None text fit = subst (λ t. Calm loud t) (no_text text fit) (calm_none loud)
   maybe_calm (Some x) text fit = h.calm x text fit
 
   maybe_sound : (s : List Lexeme) (o : Option A) (r : List Lexeme) → maybe w p s ≡ Some (o, r) → (text : List Lexeme) × (s ≡ text ++ r) × Fit (flat_option flat o) text
@@ -335,7 +350,7 @@ module _ {A : Type 0} (loud : Class → Bool) (w : Expected) (first stop : Class
       rw s.2 (begins_if first (s.0 ++ s.1) (begins_more first s.0 s.1 (h.begins x s.0 s.3)))
 
   all_calm : (xs : List A) (text : List Lexeme) → Fit (flat_all flat xs) text → Calm loud text
-  all_calm [] text fit = subst (λ t. Calm loud t) (no_text text fit) tt
+  all_calm [] text fit = subst (λ t. Calm loud t) (no_text text fit) (calm_none loud)
   all_calm (x ∷ xs) text fit =
       let s = Fit-split (flat x) (flat_all flat xs) text fit in
       rw s.2 (Calm-append loud s.0 s.1 (h.calm x s.0 s.3) (all_calm xs s.1 s.4))
@@ -472,8 +487,8 @@ token_then {loud = loud} {solid = solid} {first_p = first_p} {first_q = first_q}
 
 -- no class is loud
 calm_never : (t : List Lexeme) → Calm never t
-calm_never [] = tt
-calm_never (l ∷ t) = (refl, calm_never t)
+calm_never [] d r = refl
+calm_never (l ∷ t) d r = calm_never t d r
 
 pub hushed : {A : Type 0} {loud : Class → Bool} {solid : Bool} {first stop : Class → Bool} {flat : A → List Mark} {p : Reader A} → IsExact loud solid first stop flat p → IsExact never solid first stop flat p
 hushed h = record { begins = h.begins; calm = λ x text fit. calm_never text; sound = h.sound; complete = h.complete }

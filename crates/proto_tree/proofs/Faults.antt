@@ -1,13 +1,13 @@
 -- The first token that no tree has, and the one tree (for the crates above).
 use Rattle.std.proofs.Common.{◌≡◌, ℕ, zero, suc, ◌+◌, ◌-◌, ◌<◌, ◌≤◌, Bool, true, false, List, [], ◌∷◌, ◌++◌, length, take, drop, Some, None, refl, sym, ap, subst, ◌∙◌, ◌⊎◌, inl, inr, append_assoc, arith, length-append, take-append-drop, length-take, append-nil, take_all}
-use Rattle.proto_tree.specs.Common.{Class, Lexeme, Piece, Context, fits, is_brace, one, Fit, flat_piece, Tree, Spells, kind_of, allows, last_of, moved_contexts, Walk, piece_in, IsStuck, open_in, closers, IsGoodFront, IsLongestFront}
+use Rattle.proto_tree.specs.Common.{Class, Lexeme, Piece, Context, fits, one, Fit, flat_piece, Tree, Spells, kind_of, allows, last_of, moved_contexts, Walk, piece_in, IsStuck, open_in, closers, IsGoodFront, IsLongestFront}
 use Rattle.proto_tree.specs.declared.class.Class.TheVariants as class
 use Rattle.proto_tree.specs.declared.class.Expected.TheVariants as want
 use Rattle.proto_tree.specs.declared.piece.Piece.TheVariants as piece
 use Rattle.proto_tree.specs.declared.context.Context.TheVariants as context
 use Rattle.proto_tree.specs.declared.context.Kind.TheVariants as kind
 use Rattle.proto_base.proofs.Common.{take-append-le, cases_lt}
-use Rattle.proto_tree.proofs.Exact.{Calm, Calm-append, some_is, Fit-split, Fit-join, no_text}
+use Rattle.proto_tree.proofs.Exact.{some_is, Fit-split, Fit-join, no_text}
 use Rattle.proto_tree.proofs.PieceRules.{HasEnd}
 use Rattle.proto_tree.proofs.Walks.{pieces, flats, flats-append, flats-pieces, last_outer, walk_tree, walk_levels, pieces_known}
 use Rattle.proto_tree.proofs.Places.{laws, walk_open, nested_walk, closings, closings_fit, closings_walk, walk_append}
@@ -17,42 +17,57 @@ use Rattle.proto_tree.proofs.Places.{laws, walk_open, nested_walk, closings, clo
 abbrev closing : Class → Bool
 closing c = fits (want.One class.Close) c
 
-calm_closing : (t : List Lexeme) → Calm is_brace t → Calm closing t
-calm_closing [] h = tt
-calm_closing (l ∷ t) h = (by_class l.class h.0, calm_closing t h.1) where
-  by_class : (c : Class) → is_brace c ≡ false → closing c ≡ false
-  by_class class.Close e = absurd cc
-  by_class _ e = refl
+-- the last token of the text is no closing brace
+pub record EndsOpen (text : List Lexeme) : Type 0 where
+  pub front : List Lexeme
+  pub last : Lexeme
+  pub parts : text ≡ front ++ last ∷ []
+  pub ends : closing last.class ≡ false
+
+semicolon_is_none : (c : Class) → fits (want.One class.Semicolon) c ≡ true → closing c ≡ false
+semicolon_is_none class.Close e = absurd cc
+semicolon_is_none _ e = refl
 
 open_is_none : (c : Class) → fits (want.One class.Open) c ≡ true → closing c ≡ false
 open_is_none class.Close e = absurd cc
 open_is_none _ e = refl
 
-end_calm : (u : Piece) (t : List Lexeme) → HasEnd u t → (Calm closing t) ⊎ (length t ≡ 1)
-end_calm (piece.Statement s) t h = inl (calm_closing t h)
-end_calm (piece.Open h i) t e =
-    let last : Calm closing (e.last ∷ []) = (open_is_none e.last.class e.opens, tt) in
-    inl (subst (λ s. Calm closing s) (sym e.parts) (Calm-append closing e.front (e.last ∷ []) (calm_closing e.front e.calm) last))
+end_calm : (u : Piece) (t : List Lexeme) → HasEnd u t → EndsOpen t ⊎ (length t ≡ 1)
+end_calm (piece.Statement s) t h = inl (record { front = h.semicolon.front; last = h.semicolon.last; parts = h.semicolon.parts; ends = semicolon_is_none h.semicolon.last.class h.semicolon.ends })
+end_calm (piece.Open h i) t e = inl (record { front = e.front; last = e.last; parts = e.parts; ends = open_is_none e.last.class e.opens })
 end_calm (piece.Close i) t e = inr (ap length e.parts)
 
-no_closing : (f v : List Lexeme) (l : Lexeme) → closing l.class ≡ true → Calm closing (f ++ (l ∷ v)) → ⊥
-no_closing [] v l e h = let a : closing l.class ≡ false = h.0 in cc
-no_closing (k ∷ f) v l e h = no_closing f v l e h.1
+abbrev last_or : Lexeme → List Lexeme → Lexeme
+last_or d [] = d
+last_or d (l ∷ s) = last_or l s
 
--- a part of a text that is longer than its front takes some of what follows
-spills : (f t r : List Lexeme) (n : ℕ) → f ++ closers n ≡ t ++ r → length f < length t → (v : List Lexeme) × (l : Lexeme) × (closing l.class ≡ true) × (t ≡ f ++ (l ∷ v))
+last_is : (d l : Lexeme) (f : List Lexeme) → last_or d (f ++ l ∷ []) ≡ l
+last_is d l [] = refl
+last_is d l (k ∷ f) = last_is k l f
+
+no_closing : (t v : List Lexeme) (l : Lexeme) → closing l.class ≡ true → t ≡ v ++ l ∷ [] → EndsOpen t → ⊥
+no_closing t v l e parts h =
+    let same : h.last ≡ l = sym (last_is l h.last h.front) ∙ ap (last_or l) (sym h.parts ∙ parts) ∙ last_is l l v in
+    let a : closing l.class ≡ false = subst (λ (x : Lexeme). closing x.class ≡ false) same h.ends in
+    cc
+
+-- a part of a text that is longer than its front takes some of what follows, and ends in it
+spills : (f t r : List Lexeme) (n : ℕ) → f ++ closers n ≡ t ++ r → length f < length t → (v : List Lexeme) × (l : Lexeme) × (closing l.class ≡ true) × (t ≡ v ++ l ∷ [])
 spills [] [] r n e lt = absurd (omega arith)
 spills [] (l ∷ t) r zero e lt = absurd cc
-spills [] (l ∷ t) r (suc n) e lt = (t, l, ap (λ (s : List Lexeme). closing (head_class s)) (sym e), refl) where
+spills [] (l ∷ []) r (suc n) e lt = ([], l, ap (λ (s : List Lexeme). closing (head_class s)) (sym e), refl) where
   head_class : List Lexeme → Class
   head_class [] = class.Close
   head_class (l ∷ s) = l.class
+spills [] (l ∷ k ∷ t) r (suc n) e lt =
+    let others : closers n ≡ (k ∷ t) ++ r = cc in
+    let p = spills [] (k ∷ t) r n others (omega arith) in
+    (l ∷ p.0, p.1, p.2, ap (λ (s : List Lexeme). l ∷ s) p.3)
 spills (k ∷ f) [] r n e lt = absurd (omega arith)
 spills (k ∷ f) (l ∷ t) r n e lt =
-    let same : k ≡ l = cc in
     let others : f ++ closers n ≡ t ++ r = cc in
     let p = spills f t r n others (omega arith) in
-    (p.0, p.1, p.2, cc (p.3))
+    (l ∷ p.0, p.1, p.2, ap (λ (s : List Lexeme). l ∷ s) p.3)
 
 -- a part of a text that is no longer than its front is a front of that
 stays : (f t r c : List Lexeme) → f ++ c ≡ t ++ r → length t ≤ length f → (v : List Lexeme) × (f ≡ t ++ v)
@@ -75,7 +90,7 @@ base c u s k n t r pos le ok fit e none =
       | inr long ↦
           let v = spills (take k s) t r n e long in
           elim (end_calm u t ((laws c).end u ok t fit)) [
-            | inl calm ↦ no_closing (take k s) v.0 v.1 v.2 (subst (λ w. Calm closing w) v.3 calm)
+            | inl calm ↦ no_closing t v.0 v.1 v.2 v.3 calm
             | inr one ↦ absurd (omega arith)
           ]
     ] where

@@ -1,5 +1,6 @@
 mod ClassLemmas
 pub mod Common
+pub mod CoreTrees
 pub mod Depth
 mod Each
 pub mod Exact
@@ -16,5 +17,6 @@ pub mod Roles
 mod Rules
 pub mod SpacedWords
 mod Table
+mod Values
 pub mod Walks
 pub mod WordLaws

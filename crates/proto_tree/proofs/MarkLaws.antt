@@ -2,15 +2,16 @@
 use Rattle.std.proofs.Common.{◌≡◌, ℕ, zero, suc, ◌+◌, ◌<◌, true, List, [], ◌∷◌, ◌++◌, length, get_or, refl, sym, ap, subst, ◌∙◌, arith, inl, inr, Contains}
 use Rattle.proto_base.proofs.Common.{get_or_default, Contains-append_left, Contains-append_right}
 use Rattle.proto_text.specs.Tokens.{Lexeme}
+use Rattle.proto_base.specs.declared.profile.Profile.TheVariants as profile
 use Rattle.proto_tree.specs.declared.class.Class.TheVariants as class
 use Rattle.proto_tree.specs.declared.class.Expected.TheVariants as want
-use Rattle.proto_tree.specs.Common.{Statement, Header, fits, Mark, mark, one, Fit, flat_statement, flat_header, End, Leaf, Block, flat, class_by, classes, Numbered, TreesAreNumbered, OneMark, MarksFit, EachTokenIsMarked, StatementsHaveMarks, HeadersHaveMarks}
+use Rattle.proto_tree.specs.Common.{Statement, Header, fits, Mark, mark, one, Fit, flat_statement, flat_header, End, Leaf, Block, flat, class_by, classes_in, class_as, Profile, Numbered, TreesAreNumberedIn, OneMarkIn, MarksFitIn, EachTokenIsMarkedIn, StatementsHaveMarks, HeadersHaveMarks, classes, TreesAreNumbered, OneMark, MarksFit, EachTokenIsMarked}
 
-pub numbered_fit : (n : ℕ) (ms : List Mark) (ls : List Lexeme) → Fit ms (classes n ls) → Numbered n ms
-numbered_fit n [] [] h = tt
-numbered_fit n [] (l ∷ ls) h = absurd h
-numbered_fit n (m ∷ ms) [] h = absurd h
-numbered_fit n (m ∷ ms) (l ∷ ls) h = (sym h.1, numbered_fit (suc n) ms ls h.2)
+pub numbered_fit_in : (p : Profile) (n : ℕ) (ms : List Mark) (ls : List Lexeme) → Fit ms (classes_in p n ls) → Numbered n ms
+numbered_fit_in p n [] [] h = tt
+numbered_fit_in p n [] (l ∷ ls) h = absurd h
+numbered_fit_in p n (m ∷ ms) [] h = absurd h
+numbered_fit_in p n (m ∷ ms) (l ∷ ls) h = (sym h.1, numbered_fit_in p (suc n) ms ls h.2)
 
 pub numbered_append : (n : ℕ) (a b : List Mark) → Numbered n (a ++ b) → Numbered n a × Numbered (n + length a) b
 numbered_append n [] b h = (tt, subst (λ (k : ℕ). Numbered k b) (omega arith) h)
@@ -34,40 +35,40 @@ mark_at_index n ms a b h ca cb e =
     let same : ca.0 ≡ cb.0 = omega (arith, i, j, e) in
     sym ca.2 ∙ ap (λ (k : ℕ). get_or ms k a) same ∙ get_or_default ms cb.0 a b cb.1 ∙ cb.2
 
-pub trees_are_numbered : TreesAreNumbered
-trees_are_numbered t ls h = numbered_fit 0 (flat t) ls h.fits
+pub trees_are_numbered_in : (p : Profile) → TreesAreNumberedIn p
+trees_are_numbered_in p t ls h = numbered_fit_in p 0 (flat t) ls h.fits
 
-pub one_mark : OneMark
-one_mark t ls a b h ca cb e = mark_at_index 0 (flat t) a b (trees_are_numbered t ls h) ca cb e
+pub one_mark_in : (p : Profile) → OneMarkIn p
+one_mark_in p t ls a b h ca cb e = mark_at_index 0 (flat t) a b (trees_are_numbered_in p t ls h) ca cb e
 
 -- ---- the token at a mark
 
-fit_at : (n : ℕ) (ms : List Mark) (ls : List Lexeme) (k : ℕ) (d : Mark) (l : Lexeme) → Fit ms (classes n ls) → k < length ms → (k < length ls) × (fits (get_or ms k d).want (class_by (get_or ls k l).kind (get_or ls k l).text) ≡ true)
-fit_at n [] ls k d l h lt = absurd (omega (arith, lt))
-fit_at n (m ∷ ms) [] k d l h lt = absurd h
-fit_at n (m ∷ ms) (x ∷ ls) zero d l h lt = (omega arith, h.0)
-fit_at n (m ∷ ms) (x ∷ ls) (suc k) d l h lt = let r = fit_at (suc n) ms ls k d l h.2 (omega (arith, lt)) in (omega (arith, r.0), r.1)
+fit_at_in : (p : Profile) (n : ℕ) (ms : List Mark) (ls : List Lexeme) (k : ℕ) (d : Mark) (l : Lexeme) → Fit ms (classes_in p n ls) → k < length ms → (k < length ls) × (fits (get_or ms k d).want (class_as p (class_by (get_or ls k l).kind (get_or ls k l).text)) ≡ true)
+fit_at_in p n [] ls k d l h lt = absurd (omega (arith, lt))
+fit_at_in p n (m ∷ ms) [] k d l h lt = absurd h
+fit_at_in p n (m ∷ ms) (x ∷ ls) zero d l h lt = (omega arith, h.0)
+fit_at_in p n (m ∷ ms) (x ∷ ls) (suc k) d l h lt = let r = fit_at_in p (suc n) ms ls k d l h.2 (omega (arith, lt)) in (omega (arith, r.0), r.1)
 
-pub marks_fit : MarksFit
-marks_fit t ls m l h c =
-    let r = fit_at 0 (flat t) ls c.0 m l h.fits c.1 in
-    let at : c.0 ≡ m.at = omega (arith, numbered_at 0 (flat t) m (trees_are_numbered t ls h) c) in
-    let fit = subst (λ (x : Mark). fits x.want (class_by (get_or ls c.0 l).kind (get_or ls c.0 l).text) ≡ true) c.2 r.1 in
-    (omega (arith, r.0, at), subst (λ (i : ℕ). fits m.want (class_by (get_or ls i l).kind (get_or ls i l).text) ≡ true) at fit)
+pub marks_fit_in : (p : Profile) → MarksFitIn p
+marks_fit_in p t ls m l h c =
+    let r = fit_at_in p 0 (flat t) ls c.0 m l h.fits c.1 in
+    let at : c.0 ≡ m.at = omega (arith, numbered_at 0 (flat t) m (trees_are_numbered_in p t ls h) c) in
+    let fit = subst (λ (x : Mark). fits x.want (class_as p (class_by (get_or ls c.0 l).kind (get_or ls c.0 l).text)) ≡ true) c.2 r.1 in
+    (omega (arith, r.0, at), subst (λ (i : ℕ). fits m.want (class_as p (class_by (get_or ls i l).kind (get_or ls i l).text)) ≡ true) at fit)
 
-pub fit_length : (n : ℕ) (ms : List Mark) (ls : List Lexeme) → Fit ms (classes n ls) → length ms ≡ length ls
-fit_length n [] [] h = refl
-fit_length n [] (l ∷ ls) h = absurd h
-fit_length n (m ∷ ms) [] h = absurd h
-fit_length n (m ∷ ms) (l ∷ ls) h = ap suc (fit_length (suc n) ms ls h.2)
+pub fit_length_in : (p : Profile) (n : ℕ) (ms : List Mark) (ls : List Lexeme) → Fit ms (classes_in p n ls) → length ms ≡ length ls
+fit_length_in p n [] [] h = refl
+fit_length_in p n [] (l ∷ ls) h = absurd h
+fit_length_in p n (m ∷ ms) [] h = absurd h
+fit_length_in p n (m ∷ ms) (l ∷ ls) h = ap suc (fit_length_in p (suc n) ms ls h.2)
 
-pub each_token_is_marked : EachTokenIsMarked
-each_token_is_marked t ls i h lt =
+pub each_token_is_marked_in : (p : Profile) → EachTokenIsMarkedIn p
+each_token_is_marked_in p t ls i h lt =
     let d : Mark = mark want.Word 0 in
     let m : Mark = get_or (flat t) i d in
-    let few : i < length (flat t) = omega (arith, lt, fit_length 0 (flat t) ls h.fits) in
+    let few : i < length (flat t) = omega (arith, lt, fit_length_in p 0 (flat t) ls h.fits) in
     let c : Contains (flat t) m = (i, few, get_or_default (flat t) i m d few) in
-    (m, c, omega (arith, numbered_at 0 (flat t) m (trees_are_numbered t ls h) c))
+    (m, c, omega (arith, numbered_at 0 (flat t) m (trees_are_numbered_in p t ls h) c))
 
 -- ---- parts
 
@@ -89,3 +90,20 @@ headers_have_marks h (Block k i within j rest) m (inr (inl e)) c =
     Contains-append_right (flat_header k ++ one class.Open i) (flat within ++ (one class.Close j ++ flat rest)) m (Contains-append_left (flat within) (one class.Close j ++ flat rest) m (headers_have_marks h within m e c))
 headers_have_marks h (Block k i within j rest) m (inr (inr e)) c =
     Contains-append_right (flat_header k ++ one class.Open i) (flat within ++ (one class.Close j ++ flat rest)) m (Contains-append_right (flat within) (one class.Close j ++ flat rest) m (Contains-append_right (one class.Close j) (flat rest) m (headers_have_marks h rest m e c)))
+
+-- ---- the same in the core language
+
+pub trees_are_numbered : TreesAreNumbered
+trees_are_numbered = trees_are_numbered_in profile.Core
+
+pub one_mark : OneMark
+one_mark = one_mark_in profile.Core
+
+pub marks_fit : MarksFit
+marks_fit = marks_fit_in profile.Core
+
+pub each_token_is_marked : EachTokenIsMarked
+each_token_is_marked = each_token_is_marked_in profile.Core
+
+pub fit_length : (n : ℕ) (ms : List Mark) (ls : List Lexeme) → Fit ms (classes n ls) → length ms ≡ length ls
+fit_length = fit_length_in profile.Core

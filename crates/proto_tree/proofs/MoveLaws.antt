@@ -1,10 +1,13 @@
 -- A moved tree has the moved marks (for the crates above).
-use Rattle.std.proofs.Common.{◌≡◌, ℕ, List, [], ◌∷◌, ◌++◌, map, Option, Some, None, refl, sym, ap, subst, ◌∙◌}
-use Rattle.proto_tree.specs.Common.{Class, Expected, Separated, FieldType, Constant, Settings, RangeEnd, ReservedList, Statement, Header, Context, Mark, only, one, flat_option, flat_all, flat_behind, flat_from, flat_separated, flat_dotted, flat_words, flat_reference, flat_type, flat_signed, flat_joined, flat_constant, flat_setting, flat_settings, flat_option_statement, flat_syntax, flat_import, flat_package, flat_field, flat_map_field, flat_range_end, flat_up_to, flat_range, flat_ranges, flat_reserved_list, flat_reserved, flat_extensions, flat_value, flat_method_type, flat_signature, flat_statement, flat_extending, flat_header, Tree, End, Leaf, Block, flat, field_kind, statement_kind, header_kind, allows, after, inside, IsWellFormed, Move, move_extending, move_option, move_behind, move_separated, move_reference, move_type, move_signed, move_joined, move_constant, move_setting, move_settings, move_option_statement, move_syntax, move_import, move_package, move_field, move_map_field, move_range_end, move_up_to, move_range, move_reserved_list, move_reserved, move_extensions, move_value, move_method_type, move_signature, move_statement, move_header, move_tree, shift}
+use Rattle.std.proofs.Common.{◌≡◌, ℕ, suc, Bool, true, false, List, [], ◌∷◌, ◌++◌, map, Option, Some, None, refl, sym, ap, subst, ◌∙◌}
+use Rattle.proto_tree.specs.Common.{Class, Expected, Separated, FieldType, Atom, CustomValue, Setting, flat_aggregate, flat_within, flat_extension_name, flat_custom, flat_custom_value, flat_plain, fewer, inner_expected, other_expected, move_atom, move_aggregate, move_custom, move_custom_value, move_plain, Constant, Settings, RangeEnd, ReservedList, Statement, Header, Context, Mark, only, one, flat_option, flat_all, flat_behind, flat_from, flat_separated, flat_dotted, flat_words, flat_reference, flat_type, flat_signed, flat_joined, flat_constant, flat_setting, flat_settings, flat_option_statement, flat_syntax, flat_import, flat_package, flat_field, flat_map_field, flat_range_end, flat_up_to, flat_range, flat_ranges, flat_reserved_list, flat_reserved, flat_extensions, flat_value, flat_method_type, flat_signature, flat_statement, flat_extending, flat_header, Tree, End, Leaf, Block, flat, field_kind, option_kind, statement_kind, header_kind, allows, after, inside, IsWellFormed, Move, move_extending, move_option, move_behind, move_separated, move_reference, move_type, move_signed, move_joined, move_constant, move_setting, move_settings, move_option_statement, move_syntax, move_import, move_package, move_field, move_map_field, move_range_end, move_up_to, move_range, move_reserved_list, move_reserved, move_extensions, move_value, move_method_type, move_signature, move_statement, move_header, move_tree, shift}
 use Rattle.proto_tree.specs.declared.class.Class.TheVariants as class
 use Rattle.proto_tree.specs.declared.class.Expected.TheVariants as want
 use Rattle.proto_tree.specs.declared.tree.FieldType.TheVariants as field_type
 use Rattle.proto_tree.specs.declared.tree.Constant.TheVariants as constant
+use Rattle.proto_tree.specs.declared.tree.Atom.TheVariants as atom
+use Rattle.proto_tree.specs.declared.tree.CustomValue.TheVariants as custom_value
+use Rattle.proto_tree.specs.declared.tree.Setting.TheVariants as setting
 use Rattle.proto_tree.specs.declared.tree.RangeEnd.TheVariants as range_end
 use Rattle.proto_tree.specs.declared.tree.ReservedList.TheVariants as reserved_list
 use Rattle.proto_tree.specs.declared.piece.Statement.TheVariants as statement
@@ -79,6 +82,20 @@ module _ (g : Move) where
   joined : IsMoved flat_joined (move_joined g)
   joined = seen_moved flat_joined (move_joined g) (λ t. (t.first, t.rest)) (λ t. refl) (λ t. refl) (then_moved (tok want.Text) (all (tok want.Text)))
 
+  within_law : (colon : Bool) (n : ℕ) (atoms : List Atom) (j : ℕ) → flat_within colon n (map (move_atom g) atoms) (g j) ≡ map (shift g) (flat_within colon n atoms j)
+  within_law colon n [] j = refl
+  within_law colon n (atom.Open i ∷ rest) j = ap (λ (ms : List Mark). one class.Open (g i) ++ ms) (within_law false (suc n) rest j)
+  within_law colon n (atom.Close i ∷ rest) j = ap (λ (ms : List Mark). only (inner_expected n) (g i) ++ ms) (within_law false (fewer n) rest j)
+  within_law colon n (atom.Colon i ∷ rest) j = ap (λ (ms : List Mark). one class.Colon (g i) ++ ms) (within_law true n rest j)
+  within_law colon n (atom.Word i ∷ rest) j = ap (λ (ms : List Mark). only want.OptionName (g i) ++ ms) (within_law false n rest j)
+  within_law colon n (atom.Other i ∷ rest) j = ap (λ (ms : List Mark). only (other_expected colon) (g i) ++ ms) (within_law false n rest j)
+
+  aggregate : IsMoved flat_aggregate (move_aggregate g)
+  aggregate = record { law = λ a. ap (λ (ms : List Mark). one class.Open (g a.«open») ++ ms) (within_law false 0 a.atoms a.close) }
+
+  extension_name : IsMoved flat_extension_name (move_reference g)
+  extension_name = seen_moved flat_extension_name (move_reference g) (λ r. (r.dot, r.words)) (λ r. refl) (λ r. refl) (then_moved (maybe (the class.Dot)) dotted)
+
   constant_law : (x : Constant) → flat_constant (move_constant g x) ≡ map (shift g) (flat_constant x)
   constant_law (constant.Word i) = refl
   constant_law (constant.Number n) = signed.law n
@@ -87,15 +104,33 @@ module _ (g : Move) where
   value_of : IsMoved flat_constant (move_constant g)
   value_of = record { law = constant_law }
 
-  setting : IsMoved flat_setting (move_setting g)
-  setting = seen_moved flat_setting (move_setting g) (λ s. (s.name, (s.equals, s.value))) (λ s. refl) (λ s. refl) (then_moved (tok want.OptionName) (then_moved (the class.Equals) value_of))
+  custom_value_law : (x : CustomValue) → flat_custom_value (move_custom_value g x) ≡ map (shift g) (flat_custom_value x)
+  custom_value_law (custom_value.Constant c) = constant_law c
+  custom_value_law (custom_value.Aggregate a) = aggregate.law a
+
+  custom_value_moved : IsMoved flat_custom_value (move_custom_value g)
+  custom_value_moved = record { law = custom_value_law }
+
+  custom : IsMoved flat_custom (move_custom g)
+  custom = seen_moved flat_custom (move_custom g) (λ c. (c.«open», (c.name, (c.close, (c.path, (c.equals, c.value)))))) (λ c. refl) (λ c. refl)
+      (then_moved (the class.NameParenthesis) (then_moved extension_name (then_moved (the class.RightParenthesis) (then_moved (all (behind class.Dot (tok want.OptionName))) (then_moved (the class.Equals) custom_value_moved)))))
+
+  plain : IsMoved flat_plain (move_plain g)
+  plain = seen_moved flat_plain (move_plain g) (λ p. (p.name, (p.equals, p.value))) (λ p. refl) (λ p. refl) (then_moved (tok want.OptionName) (then_moved (the class.Equals) value_of))
+
+  setting_law : (x : Setting) → flat_setting (move_setting g x) ≡ map (shift g) (flat_setting x)
+  setting_law (setting.Plain p) = plain.law p
+  setting_law (setting.Custom c) = custom.law c
+
+  setting_moved : IsMoved flat_setting (move_setting g)
+  setting_moved = record { law = setting_law }
 
   settings : IsMoved flat_settings (move_settings g)
-  settings = seen_moved flat_settings (move_settings g) (λ s. (s.«open», (s.list, s.close))) (λ s. refl) (λ s. refl) (then_moved (the class.LeftBracket) (then_moved (from class.Comma setting setting) (the class.RightBracket)))
+  settings = seen_moved flat_settings (move_settings g) (λ s. (s.«open», (s.list, s.close))) (λ s. refl) (λ s. refl) (then_moved (the class.LeftBracket) (then_moved (from class.Comma setting_moved setting_moved) (the class.RightBracket)))
 
   option_statement : IsMoved flat_option_statement (move_option_statement g)
-  option_statement = seen_moved flat_option_statement (move_option_statement g) (λ o. (o.keyword, (o.name, (o.equals, (o.value, o.semicolon))))) (λ o. refl) (λ o. refl)
-      (then_moved (the class.Option) (then_moved (tok want.OptionName) (then_moved (the class.Equals) (then_moved value_of (the class.Semicolon)))))
+  option_statement = seen_moved flat_option_statement (move_option_statement g) (λ o. (o.keyword, (o.setting, o.semicolon))) (λ o. refl) (λ o. refl)
+      (then_moved (the class.Option) (then_moved setting_moved (the class.Semicolon)))
 
   syntax_statement : IsMoved flat_syntax (move_syntax g)
   syntax_statement = record { law = λ s. refl }
@@ -155,7 +190,7 @@ module _ (g : Move) where
 
   method_type : IsMoved flat_method_type (move_method_type g)
   method_type = seen_moved flat_method_type (move_method_type g) (λ t. (t.«open», (t.stream, (t.reference, t.close)))) (λ t. refl) (λ t. refl)
-      (then_moved (the class.LeftParenthesis) (then_moved (maybe (the class.Stream)) (then_moved reference (the class.RightParenthesis))))
+      (then_moved (tok want.Parenthesis) (then_moved (maybe (the class.Stream)) (then_moved reference (the class.RightParenthesis))))
 
   signature : IsMoved flat_signature (move_signature g)
   signature = seen_moved flat_signature (move_signature g) (λ s. (s.keyword, (s.name, (s.input, (s.returns, s.output))))) (λ s. refl) (λ s. refl)
@@ -201,11 +236,15 @@ module _ (g : Move) where
   label_kind None = refl
   label_kind (Some i) = refl
 
+  option_moved : (s : Setting) → option_kind (move_setting g s) ≡ option_kind s
+  option_moved (setting.Plain p) = refl
+  option_moved (setting.Custom c) = refl
+
   pub kind_moved : (s : Statement) → statement_kind (move_statement g s) ≡ statement_kind s
   kind_moved (statement.Syntax s) = refl
   kind_moved (statement.Import i) = refl
   kind_moved (statement.Package p) = refl
-  kind_moved (statement.Option o) = refl
+  kind_moved (statement.Option o) = option_moved o.setting
   kind_moved (statement.Field f) = label_kind f.label
   kind_moved whole = refl
 

@@ -1,7 +1,7 @@
 -- Reading nodes one after another (for the crates above).
 use Rattle.std.proofs.Common.{◌≡◌, ℕ, ◌+◌, ◌≤◌, true, false, List, [], ◌∷◌, ◌++◌, length, Some, None, refl, sym, ap, subst, ◌∙◌, append_assoc, arith, length-append, map, append-nil}
 use Rattle.proto_tree.specs.declared.class.Class.TheVariants as class
-use Rattle.proto_tree.specs.Common.{Lexeme, Statement, Signature, Heading, Extending, Header, Piece, Context, Kind, Mark, one, Fit, flat_statement, flat_header, flat_piece, Tree, End, Leaf, Block, flat, IsWellFormed, kind_of, statement_kind, header_kind, allows, after, inside, last_of, joined_trees, all_joined, moved_contexts, Walk, any_piece_in, piece_in, IsStuck, Field, trees, item_tree, member_tree, member_layer, message_tree, oneof_tree, enum_tree, extend_tree, IsRead, IsItem, IsClose, FaultOf, IsBody, IsMet, IsOuter, IsItemOf, IsItemBefore}
+use Rattle.proto_tree.specs.Common.{Lexeme, Statement, Signature, Heading, Extending, Header, Piece, Context, Kind, Mark, one, Fit, flat_statement, flat_header, flat_piece, Tree, End, Leaf, Block, flat, IsWellFormed, kind_of, statement_kind, header_kind, allows, after, inside, last_of, joined_trees, all_joined, moved_contexts, Walk, any_piece_in, piece_in, IsStuck, trees, item_tree, member_tree, member_layer, message_tree, oneof_tree, enum_tree, extend_tree, IsRead, IsItem, IsClose, FaultOf, IsBody, IsMet, IsOuter, IsItemOf, IsItemBefore}
 use Rattle.proto_tree.specs.declared.piece.Header.TheVariants as header
 use Rattle.proto_tree.specs.declared.piece.Piece.TheVariants as piece
 use Rattle.proto_tree.specs.declared.context.Context.TheVariants as context
@@ -10,6 +10,7 @@ use Rattle.proto_tree.specs.declared.tree.Block.{Block as Braced}
 use Rattle.proto_tree.specs.declared.tree.EnumItem.{EnumItem}
 use Rattle.proto_tree.specs.declared.tree.Extend.{Extend}
 use Rattle.proto_tree.specs.declared.tree.Item.{Item}
+use Rattle.proto_tree.specs.declared.tree.OneofItem.{OneofItem}
 use Rattle.proto_tree.specs.declared.tree.Member.{Member}
 use Rattle.proto_tree.specs.declared.tree.Member.TheOpen.{Member-F}
 use Rattle.proto_tree.specs.declared.tree.Member.TheFolds.{fold-roll-Member}
@@ -220,7 +221,7 @@ outer_stays c d t e o = ap (λ x. allows x kind.Close) (sym e) ∙ last_outer t 
 pub member_tree-Message : (m : Braced Member) → member_tree (member.Message m) ≡ message_tree m
 member_tree-Message m = ap member_tree (sym (member.rolls-Message m)) ∙ fold-roll-Member Tree member_layer (Member-F.Message m)
 
-pub member_tree-Oneof : (o : Braced Field) → member_tree (member.Oneof o) ≡ oneof_tree o
+pub member_tree-Oneof : (o : Braced OneofItem) → member_tree (member.Oneof o) ≡ oneof_tree o
 member_tree-Oneof o = ap member_tree (sym (member.rolls-Oneof o)) ∙ fold-roll-Member Tree member_layer (Member-F.Oneof o)
 
 pub member_tree-Enum : (e : Braced EnumItem) → member_tree (member.Enum e) ≡ enum_tree e

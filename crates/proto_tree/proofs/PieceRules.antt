@@ -1,6 +1,6 @@
 -- Pieces, and the readers that read exactly these.
-use Rattle.std.proofs.Common.{◌≡◌, ℕ, Bool, true, false, List, [], ◌∷◌, ◌++◌, Option, Some, None, refl, sym, ap, subst, ◌∙◌, ◌⊎◌, inl, inr, ◌||◌, is_some}
-use Rattle.proto_tree.specs.Common.{Class, Expected, Lexeme, Field, Signed, Signature, Heading, Extending, Header, Piece, fits, is_brace, Mark, mark, one, Fit, flat_signature, flat_extending, flat_heading, flat_header, flat_piece, Reader, ◌then◌, made, token, starts, either, extend_at, heading_at, block_start, stated, syntax_at, import_at, package_at, option_at, field_at, map_field_at, reserved_at, signed_at, extensions_at, value_at, signature_at, ending_at, method_piece, method_at, reference_at, extending_at, inner_piece_at, enum_piece_at}
+use Rattle.std.proofs.Common.{◌≡◌, ℕ, Bool, true, false, List, [], ◌∷◌, ◌++◌, Option, Some, None, refl, sym, ap, subst, ◌∙◌, ◌⊎◌, inl, inr, ◌||◌, is_some, append_assoc}
+use Rattle.proto_tree.specs.Common.{Class, Expected, Lexeme, Field, Signed, Signature, Heading, Extending, Header, Piece, fits, is_brace, Mark, mark, one, only, name, text_mark, Fit, flat_extensions, flat_field, flat_import, flat_map_field, flat_number, flat_option, flat_option_statement, flat_setting, flat_package, flat_ranges, flat_reserved, flat_reserved_list, flat_separated, flat_settings, flat_signed, flat_syntax, flat_type, flat_value, Settings, flat_signature, flat_extending, flat_heading, flat_header, flat_piece, Reader, ◌then◌, made, token, starts, either, extend_at, heading_at, block_start, stated, syntax_at, import_at, package_at, option_at, field_at, map_field_at, reserved_at, signed_at, extensions_at, value_at, signature_at, ending_at, method_piece, method_at, reference_at, extending_at, inner_piece_at, enum_piece_at}
 use Rattle.proto_tree.specs.declared.class.Class.TheVariants as class
 use Rattle.proto_tree.specs.declared.class.Expected.TheVariants as want
 use Rattle.proto_tree.specs.declared.tree.Syntax.{Syntax}
@@ -32,9 +32,20 @@ pub record IsClosing (text : List Lexeme) : Type 0 where
   pub parts : text ≡ only ∷ []
   pub closes : fits (want.One class.Close) only.class ≡ true
 
--- braces stand only at the end of a piece
+-- the last token of a text, which is a `;`
+pub record EndsInSemicolon (text : List Lexeme) : Type 0 where
+  pub front : List Lexeme
+  pub last : Lexeme
+  pub parts : text ≡ front ++ last ∷ []
+  pub ends : fits (want.One class.Semicolon) last.class ≡ true
+
+pub record IsStated (text : List Lexeme) : Type 0 where
+  pub calm : Calm is_brace text
+  pub semicolon : EndsInSemicolon text
+
+-- a statement leaves the depth as it was and ends in a `;`; the braces of blocks stand at the ends of the others
 abbrev pub HasEnd : Piece → List Lexeme → Type 0
-HasEnd (piece.Statement s) text = Calm is_brace text
+HasEnd (piece.Statement s) text = IsStated text
 HasEnd (piece.Open h i) text = IsOpening text
 HasEnd (piece.Close i) text = IsClosing text
 
@@ -215,6 +226,67 @@ heading_calm c e h t fit =
     let rule : IsExact is_brace true (fits (want.One c)) never (λ x. one c x.0 ++ mark want.Name x.1 ∷ []) (token (want.One c) then token want.Name) = next (tok (want.One c) e) (tok want.Name refl) refl in
     rule.calm (h.keyword, h.name) t fit
 
+-- ---- statements end in a `;`
+
+abbrev Ends : List Mark → Type 0
+Ends ms = (text : List Lexeme) → Fit ms text → EndsInSemicolon text
+
+semicolon_ends : (i : ℕ) → Ends (one class.Semicolon i)
+semicolon_ends i [] h = absurd h
+semicolon_ends i (l ∷ []) h = record { front = []; last = l; parts = refl; ends = h.0 }
+semicolon_ends i (l ∷ k ∷ t) h = absurd h.2
+
+ends_behind : (a b : List Mark) → Ends b → Ends (a ++ b)
+ends_behind a b h text fit =
+    let s = Fit-split a b text fit in
+    let e = h s.1 s.4 in
+    record { front = s.0 ++ e.front; last = e.last; parts = s.2 ∙ ap (λ (u : List Lexeme). s.0 ++ u) e.parts ∙ sym (append_assoc s.0 e.front (e.last ∷ [])); ends = e.ends }
+
+syntax_ends : (x : Syntax) → Ends (flat_syntax x)
+syntax_ends x = ends_behind (one class.Syntax x.keyword) (one class.Equals x.equals ++ (one class.ProtoText x.text ++ one class.Semicolon x.semicolon)) (ends_behind (one class.Equals x.equals) (one class.ProtoText x.text ++ one class.Semicolon x.semicolon) (ends_behind (one class.ProtoText x.text) (one class.Semicolon x.semicolon) (semicolon_ends x.semicolon)))
+
+import_ends : (x : Import) → Ends (flat_import x)
+import_ends x = ends_behind (one class.Import x.keyword) (flat_option (one class.Public) x.public ++ (text_mark x.path ++ one class.Semicolon x.semicolon)) (ends_behind (flat_option (one class.Public) x.public) (text_mark x.path ++ one class.Semicolon x.semicolon) (ends_behind (text_mark x.path) (one class.Semicolon x.semicolon) (semicolon_ends x.semicolon)))
+
+package_ends : (x : Package) → Ends (flat_package x)
+package_ends x = ends_behind (one class.Package x.keyword) (flat_separated class.Dot name x.name ++ one class.Semicolon x.semicolon) (ends_behind (flat_separated class.Dot name x.name) (one class.Semicolon x.semicolon) (semicolon_ends x.semicolon))
+
+option_ends : (x : Option_) → Ends (flat_option_statement x)
+option_ends x = ends_behind (one class.Option x.keyword) (flat_setting x.setting ++ one class.Semicolon x.semicolon) (ends_behind (flat_setting x.setting) (one class.Semicolon x.semicolon) (semicolon_ends x.semicolon))
+
+-- from the name of a field on
+abbrev tail_of : ℕ → ℕ → ℕ → Option Settings → ℕ → List Mark
+tail_of n e k s i = name n ++ (one class.Equals e ++ (one class.Number k ++ (flat_option flat_settings s ++ one class.Semicolon i)))
+
+tail_ends : (n e k : ℕ) (s : Option Settings) (i : ℕ) → Ends (tail_of n e k s i)
+tail_ends n e k s i = ends_behind (name n) (one class.Equals e ++ (one class.Number k ++ (flat_option flat_settings s ++ one class.Semicolon i))) (ends_behind (one class.Equals e) (one class.Number k ++ (flat_option flat_settings s ++ one class.Semicolon i)) (ends_behind (one class.Number k) (flat_option flat_settings s ++ one class.Semicolon i) (ends_behind (flat_option flat_settings s) (one class.Semicolon i) (semicolon_ends i))))
+
+field_ends : (x : Field) → Ends (flat_field x)
+field_ends x = ends_behind (flat_option (only want.Label) x.label) (flat_type x.kind ++ tail_of x.name x.equals x.number x.settings x.semicolon) (ends_behind (flat_type x.kind) (tail_of x.name x.equals x.number x.settings x.semicolon) (tail_ends x.name x.equals x.number x.settings x.semicolon))
+
+map_field_ends : (x : MapField) → Ends (flat_map_field x)
+map_field_ends x =
+    let tail : List Mark = tail_of x.name x.equals x.number x.settings x.semicolon in
+    ends_behind (one class.Map x.keyword) (one class.Less x.«open» ++ (one class.Scalar x.key ++ (one class.Comma x.comma ++ (flat_type x.value ++ (one class.Greater x.close ++ tail)))))
+    (ends_behind (one class.Less x.«open») (one class.Scalar x.key ++ (one class.Comma x.comma ++ (flat_type x.value ++ (one class.Greater x.close ++ tail))))
+    (ends_behind (one class.Scalar x.key) (one class.Comma x.comma ++ (flat_type x.value ++ (one class.Greater x.close ++ tail)))
+    (ends_behind (one class.Comma x.comma) (flat_type x.value ++ (one class.Greater x.close ++ tail))
+    (ends_behind (flat_type x.value) (one class.Greater x.close ++ tail)
+    (ends_behind (one class.Greater x.close) tail (tail_ends x.name x.equals x.number x.settings x.semicolon))))))
+
+reserved_ends : {N : Type 0} (flat_n : N → List Mark) (x : Reserved N) → Ends (flat_reserved flat_n x)
+reserved_ends flat_n x = ends_behind (one class.Reserved x.keyword) (flat_reserved_list flat_n x.list ++ one class.Semicolon x.semicolon) (ends_behind (flat_reserved_list flat_n x.list) (one class.Semicolon x.semicolon) (semicolon_ends x.semicolon))
+
+extensions_ends : (x : Extensions) → Ends (flat_extensions x)
+extensions_ends x = ends_behind (one class.Extensions x.keyword) (flat_ranges flat_number x.ranges ++ one class.Semicolon x.semicolon) (ends_behind (flat_ranges flat_number x.ranges) (one class.Semicolon x.semicolon) (semicolon_ends x.semicolon))
+
+value_ends : (x : Value) → Ends (flat_value x)
+value_ends x = ends_behind (only want.ValueName x.name) (one class.Equals x.equals ++ (flat_signed x.number ++ (flat_option flat_settings x.settings ++ one class.Semicolon x.semicolon))) (ends_behind (one class.Equals x.equals) (flat_signed x.number ++ (flat_option flat_settings x.settings ++ one class.Semicolon x.semicolon)) (ends_behind (flat_signed x.number) (flat_option flat_settings x.settings ++ one class.Semicolon x.semicolon) (ends_behind (flat_option flat_settings x.settings) (one class.Semicolon x.semicolon) (semicolon_ends x.semicolon))))
+
+-- what is read of a statement leaves the depth, and ends so
+stated_ends : {A : Type 0} (flat_a : A → List Mark) → ((x : A) (text : List Lexeme) → Fit (flat_a x) text → Calm is_brace text) → ((x : A) → Ends (flat_a x)) → (x : A) (text : List Lexeme) → Fit (flat_a x) text → IsStated text
+stated_ends flat_a calm ends x text fit = record { calm = calm x text fit; semicolon = ends x text fit }
+
 -- ---- the readers
 
 abbrev quiet : (w : Expected) → IsExact never true (fits w) never (λ i. mark w i ∷ []) (token w)
@@ -249,37 +321,37 @@ service_on = opened_on class.Service header.Service find_service refl (λ h. ref
 empty_on : IsOn (is find_empty) (fits (want.One class.Semicolon)) (stated statement.Empty (token (want.One class.Semicolon)))
 empty_on =
     let rule : IsExact is_brace true (fits (want.One class.Semicolon)) never (λ i. one class.Semicolon i) (token (want.One class.Semicolon)) = tok (want.One class.Semicolon) refl in
-    made_on (λ i. piece.Statement (statement.Empty i)) find_empty rule (λ x. refl) rule.calm
+    made_on (λ i. piece.Statement (statement.Empty i)) find_empty rule (λ x. refl) (stated_ends (λ (i : ℕ). one class.Semicolon i) rule.calm semicolon_ends)
 
 syntax_on : IsOn (is find_syntax) (fits (want.One class.Syntax)) (stated statement.Syntax syntax_at)
-syntax_on = made_on (λ x. piece.Statement (statement.Syntax x)) find_syntax syntax-exact (λ x. refl) syntax-exact.calm
+syntax_on = made_on (λ x. piece.Statement (statement.Syntax x)) find_syntax syntax-exact (λ x. refl) (stated_ends (flat_syntax) syntax-exact.calm syntax_ends)
 
 import_on : IsOn (is find_import) (fits (want.One class.Import)) (stated statement.Import import_at)
-import_on = made_on (λ x. piece.Statement (statement.Import x)) find_import import-exact (λ x. refl) import-exact.calm
+import_on = made_on (λ x. piece.Statement (statement.Import x)) find_import import-exact (λ x. refl) (stated_ends (flat_import) import-exact.calm import_ends)
 
 package_on : IsOn (is find_package) (fits (want.One class.Package)) (stated statement.Package package_at)
-package_on = made_on (λ x. piece.Statement (statement.Package x)) find_package package-exact (λ x. refl) package-exact.calm
+package_on = made_on (λ x. piece.Statement (statement.Package x)) find_package package-exact (λ x. refl) (stated_ends (flat_package) package-exact.calm package_ends)
 
 option_on : IsOn (is find_option) (fits (want.One class.Option)) (stated statement.Option option_at)
-option_on = made_on (λ x. piece.Statement (statement.Option x)) find_option option-exact (λ x. refl) option-exact.calm
+option_on = made_on (λ x. piece.Statement (statement.Option x)) find_option option-exact (λ x. refl) (stated_ends (flat_option_statement) option-exact.calm option_ends)
 
 field_on : IsOn (is find_field) starts_field (stated statement.Field field_at)
-field_on = made_on (λ x. piece.Statement (statement.Field x)) find_field field-exact (λ x. refl) field-exact.calm
+field_on = made_on (λ x. piece.Statement (statement.Field x)) find_field field-exact (λ x. refl) (stated_ends (flat_field) field-exact.calm field_ends)
 
 map_field_on : IsOn (is find_map_field) (fits (want.One class.Map)) (stated statement.MapField map_field_at)
-map_field_on = made_on (λ x. piece.Statement (statement.MapField x)) find_map_field map_field-exact (λ x. refl) map_field-exact.calm
+map_field_on = made_on (λ x. piece.Statement (statement.MapField x)) find_map_field map_field-exact (λ x. refl) (stated_ends (flat_map_field) map_field-exact.calm map_field_ends)
 
 reserved_on : IsOn (is find_reserved) (fits (want.One class.Reserved)) (stated statement.Reserved (reserved_at (token (want.One class.Number))))
-reserved_on = made_on (λ x. piece.Statement (statement.Reserved x)) find_reserved reserved-exact (λ x. refl) reserved-exact.calm
+reserved_on = made_on (λ x. piece.Statement (statement.Reserved x)) find_reserved reserved-exact (λ x. refl) (stated_ends (flat_reserved flat_number) reserved-exact.calm (reserved_ends flat_number))
 
 extensions_on : IsOn (is find_extensions) (fits (want.One class.Extensions)) (stated statement.Extensions extensions_at)
-extensions_on = made_on (λ x. piece.Statement (statement.Extensions x)) find_extensions extensions-exact (λ x. refl) extensions-exact.calm
+extensions_on = made_on (λ x. piece.Statement (statement.Extensions x)) find_extensions extensions-exact (λ x. refl) (stated_ends (flat_extensions) extensions-exact.calm extensions_ends)
 
 value_on : IsOn (is find_value) (fits want.ValueName) (stated statement.Value value_at)
-value_on = made_on (λ x. piece.Statement (statement.Value x)) find_value value-exact (λ x. refl) value-exact.calm
+value_on = made_on (λ x. piece.Statement (statement.Value x)) find_value value-exact (λ x. refl) (stated_ends (flat_value) value-exact.calm value_ends)
 
 enum_reserved_on : IsOn (is find_enum_reserved) (fits (want.One class.Reserved)) (stated statement.EnumReserved (reserved_at signed_at))
-enum_reserved_on = made_on (λ x. piece.Statement (statement.EnumReserved x)) find_enum_reserved enum_reserved-exact (λ x. refl) enum_reserved-exact.calm
+enum_reserved_on = made_on (λ x. piece.Statement (statement.EnumReserved x)) find_enum_reserved enum_reserved-exact (λ x. refl) (stated_ends (flat_reserved flat_signed) enum_reserved-exact.calm (reserved_ends flat_signed))
 
 abbrev flat_ending : Ending → List Mark
 flat_ending (ending.Semicolon i) = one class.Semicolon i
@@ -310,7 +382,7 @@ method-exact =
 method_ends : (x : Signature × Ending) (text : List Lexeme) → Fit (flat_piece (method_of x)) text → HasEnd (method_of x) text
 method_ends (s, ending.Semicolon i) text fit =
     let rule : IsExact is_brace true (fits (want.One class.Rpc)) never (λ x. flat_signature x.0 ++ one class.Semicolon x.1) (signature_at then token (want.One class.Semicolon)) = token_then signature-exact (tok (want.One class.Semicolon) refl) in
-    rule.calm (s, i) text fit
+    record { calm = rule.calm (s, i) text fit; semicolon = ends_behind (flat_signature s) (one class.Semicolon i) (semicolon_ends i) text fit }
 method_ends (s, ending.Open i) text fit = opening (flat_signature s) i text (λ t h. signature-exact.calm s t h) fit
 
 method_on : IsOn (is find_method) (fits (want.One class.Rpc)) method_at

@@ -8,7 +8,7 @@ use Rattle.proto_tree.specs.declared.piece.Header.TheVariants as header
 use Rattle.proto_tree.specs.declared.piece.Piece.TheVariants as piece
 use Rattle.proto_tree.specs.declared.context.Context.TheVariants as context
 use Rattle.proto_tree.specs.declared.context.Kind.TheVariants as kind
-use Rattle.proto_tree.proofs.Exact.{Calm, bind_ok, cond_ok, Fit-split, no_text, solid_long}
+use Rattle.proto_tree.proofs.Exact.{Calm, counted, counted_from, bind_ok, cond_ok, Fit-split, no_text, solid_long}
 use Rattle.proto_tree.proofs.PieceRules.{HasEnd, IsOn, enum_pieces, elsewhere, begins_enum_piece, begins_elsewhere, piece_on, enum_piece_on}
 use Rattle.proto_tree.proofs.Walks.{flats, after_inner, inside_inner}
 
@@ -104,13 +104,17 @@ laws c = laws_by c elsewhere begins_elsewhere piece_on (λ u e. else_allows u (n
 
 -- ---- braces that are open
 
+-- of no class but those of braces is one open
+pub counted_all : (d : ℕ) (s : List Lexeme) → counted_from is_brace d s ≡ open_from d s
+counted_all d [] = refl
+counted_all d (l ∷ s) = ap (λ e. counted_from is_brace e s) (step d l.class) ∙ counted_all (open_after d l.class) s where
+  step : (d : ℕ) (c : Class) → counted is_brace d c ≡ open_after d c
+  step d class.Open = refl
+  step d class.Close = refl
+  step d _ = refl
+
 calm_open : (t r : List Lexeme) (d : ℕ) → Calm is_brace t → open_from d (t ++ r) ≡ open_from d r
-calm_open [] r d h = refl
-calm_open (l ∷ t) r d h = ap (λ e. open_from e (t ++ r)) (calm_step l.class d h.0) ∙ calm_open t r d h.1 where
-  calm_step : (c : Class) (d : ℕ) → is_brace c ≡ false → open_after d c ≡ d
-  calm_step class.Open d e = absurd cc
-  calm_step class.Close d e = absurd cc
-  calm_step _ d e = refl
+calm_open t r d h = sym (counted_all d (t ++ r)) ∙ h d r ∙ counted_all d r
 
 opens_one : (c : Class) (d : ℕ) → fits (want.One class.Open) c ≡ true → open_after d c ≡ d + 1
 opens_one class.Open d e = refl
@@ -125,7 +129,7 @@ depth [] = 0
 depth (c ∷ from) = length from
 
 piece_open : (u : Piece) (c : Context) (from : List Context) (t r : List Lexeme) → HasEnd u t → open_from (length from) (t ++ r) ≡ open_from (depth (moved_contexts c u from)) r
-piece_open (piece.Statement s) c from t r h = calm_open t r (length from) h
+piece_open (piece.Statement s) c from t r h = calm_open t r (length from) h.calm
 piece_open (piece.Open h i) c from t r e =
     let step : open_from (length from) (e.front ++ (e.last ∷ r)) ≡ open_from (open_after (length from) e.last.class) r = calm_open e.front (e.last ∷ r) (length from) e.calm in
     let more : open_after (length from) e.last.class ≡ length (c ∷ from) = opens_one e.last.class (length from) e.opens ∙ (omega arith) in

@@ -1,10 +1,11 @@
 -- Statements that are replaced (for the crates above).
 use Rattle.std.proofs.Common.{◌≡◌, ℕ, suc, ◌+◌, ◌<◌, List, [], ◌∷◌, ◌++◌, length, map, refl, sym, ap, subst, ◌∙◌, arith, append_assoc, length-append}
 use Rattle.proto_text.specs.Tokens.{Lexeme}
+use Rattle.proto_base.specs.declared.profile.Profile.TheVariants as profile
 use Rattle.proto_tree.specs.declared.class.Class.TheVariants as class
-use Rattle.proto_tree.specs.Common.{Lexeme as Classed, Context, Mark, one, Fit, flat_statement, flat_header, Tree, End, Leaf, Block, flat, statement_kind, header_kind, after, inside, IsWellFormed, last_of, joined_trees, class_by, classes, Move, shift, move_tree}
+use Rattle.proto_tree.specs.Common.{Profile, class_as, Lexeme as Classed, Context, Mark, one, Fit, flat_statement, flat_header, Tree, End, Leaf, Block, flat, statement_kind, header_kind, after, inside, IsWellFormed, last_of, joined_trees, class_by, classes_in, Move, shift, move_tree, classes}
 use Rattle.proto_tree.specs.declared.context.Context.TheVariants as context
-use Rattle.proto_tree.specs.Replaced.{ItemsAreReplaced, Here, Later, Inside, Behind, tokens_before, StatementsAreReplaced}
+use Rattle.proto_tree.specs.Replaced.{ItemsAreReplaced, Here, Later, Inside, Behind, tokens_before, StatementsAreReplacedIn, StatementsAreReplaced}
 use Rattle.proto_tree.proofs.Exact.{Fit-join}
 use Rattle.proto_tree.proofs.Nodes.{flat-joined, joined-fine}
 use Rattle.proto_tree.proofs.MoveLaws.{shift_append, flat_moved, well_formed_moved}
@@ -81,15 +82,15 @@ replaced_fine g a b _ t u (Behind c k i within j x y r) h = (h.0, h.1, replaced_
 
 -- ---- tokens
 
-pub classes-append : (n : ℕ) (x y : List Lexeme) → classes n (x ++ y) ≡ classes n x ++ classes (n + length x) y
-classes-append n [] y = ap (λ (k : ℕ). classes k y) (omega arith)
-classes-append n (l ∷ x) y =
+pub classes-append_in : (p : Profile) (n : ℕ) (x y : List Lexeme) → classes_in p n (x ++ y) ≡ classes_in p n x ++ classes_in p (n + length x) y
+classes-append_in p n [] y = ap (λ (k : ℕ). classes_in p k y) (omega arith)
+classes-append_in p n (l ∷ x) y =
     let e : suc n + length x ≡ n + length (l ∷ x) = omega arith in
-    ap (λ (ls : List Classed). record { class = class_by l.kind l.text; at = n } ∷ ls) (classes-append (suc n) x y ∙ ap (λ (k : ℕ). classes (suc n) x ++ classes k y) e)
+    ap (λ (ls : List Classed). record { class = class_as p (class_by l.kind l.text); at = n } ∷ ls) (classes-append_in p (suc n) x y ∙ ap (λ (k : ℕ). classes_in p (suc n) x ++ classes_in p k y) e)
 
-pub classes-length : (n : ℕ) (x : List Lexeme) → length (classes n x) ≡ length x
-classes-length n [] = refl
-classes-length n (l ∷ x) = ap suc (classes-length (suc n) x)
+pub classes-length_in : (p : Profile) (n : ℕ) (x : List Lexeme) → length (classes_in p n x) ≡ length x
+classes-length_in p n [] = refl
+classes-length_in p n (l ∷ x) = ap suc (classes-length_in p (suc n) x)
 
 pub fit_parts : (a b : List Mark) (s t : List Classed) → length a ≡ length s → Fit (a ++ b) (s ++ t) → Fit a s × Fit b t
 fit_parts [] b [] t e h = (tt, h)
@@ -97,13 +98,13 @@ fit_parts [] b (l ∷ s) t e h = absurd (omega (arith, e))
 fit_parts (m ∷ a) b [] t e h = absurd (omega (arith, e))
 fit_parts (m ∷ a) b (l ∷ s) t e h = let r = fit_parts a b s t (omega (arith, e)) h.2 in ((h.0, h.1, r.0), r.1)
 
-pub fit_moved : (g : Move) (n n' : ℕ) (ms : List Mark) (x : List Lexeme) → ((k : ℕ) → k < length x → g (n + k) ≡ n' + k) → Fit ms (classes n x) → Fit (map (shift g) ms) (classes n' x)
-fit_moved g n n' [] [] to h = tt
-fit_moved g n n' [] (l ∷ x) to h = absurd h
-fit_moved g n n' (m ∷ ms) [] to h = absurd h
-fit_moved g n n' (m ∷ ms) (l ∷ x) to h =
+pub fit_moved_in : (p : Profile) (g : Move) (n n' : ℕ) (ms : List Mark) (x : List Lexeme) → ((k : ℕ) → k < length x → g (n + k) ≡ n' + k) → Fit ms (classes_in p n x) → Fit (map (shift g) ms) (classes_in p n' x)
+fit_moved_in p g n n' [] [] to h = tt
+fit_moved_in p g n n' [] (l ∷ x) to h = absurd h
+fit_moved_in p g n n' (m ∷ ms) [] to h = absurd h
+fit_moved_in p g n n' (m ∷ ms) (l ∷ x) to h =
     let here : g n ≡ n' = ap g (zero_more n) ∙ to 0 (omega arith) ∙ sym (zero_more n') in
-    (h.0, sym here ∙ ap g h.1, fit_moved g (suc n) (suc n') ms x (λ k lt. ap g (one_more n k) ∙ to (suc k) (omega (arith, lt)) ∙ sym (one_more n' k)) h.2)
+    (h.0, sym here ∙ ap g h.1, fit_moved_in p g (suc n) (suc n') ms x (λ k lt. ap g (one_more n k) ∙ to (suc k) (omega (arith, lt)) ∙ sym (one_more n' k)) h.2)
   where
     zero_more : (n : ℕ) → n ≡ n + 0
     zero_more n = omega arith
@@ -111,21 +112,35 @@ fit_moved g n n' (m ∷ ms) (l ∷ x) to h =
     one_more : (n k : ℕ) → suc n + k ≡ n + suc k
     one_more n k = omega arith
 
-pub statements_are_replaced : StatementsAreReplaced
-statements_are_replaced g a b t u r front old new back at len fits_b to h =
+pub statements_are_replaced_in : (p : Profile) → StatementsAreReplacedIn p
+statements_are_replaced_in language g a b t u r front old new back at len fits_b to h =
     let s = around g a b context.Start t u r in
     let n : ℕ = length front in
-    let split : (x : List Lexeme) → classes 0 (front ++ (x ++ back)) ≡ classes 0 front ++ (classes n x ++ classes (n + length x) back) = λ x. (
-    classes-append 0 front (x ++ back) ∙ ap (λ (ls : List Classed). classes 0 front ++ ls) (ap (λ (k : ℕ). classes k (x ++ back)) (zero_first n) ∙ classes-append n x back)) in
-    let whole = subst (λ (ls : List Classed). Fit (s.front ++ (flat a ++ s.back)) ls) (split old) (subst (λ (ms : List Mark). Fit ms (classes 0 (front ++ (old ++ back)))) s.old h.fits) in
-    let p = fit_parts s.front (flat a ++ s.back) (classes 0 front) (classes n old ++ classes (n + length old) back) (s.long ∙ at ∙ sym (classes-length 0 front)) whole in
-    let q = fit_parts (flat a) s.back (classes n old) (classes (n + length old) back) (len ∙ sym (classes-length n old)) p.1 in
-    let moved = fit_moved g (n + length old) (n + length new) s.back back (λ k lt. to k) q.1 in
-    let fit = Fit-join s.front (flat b ++ map (shift g) s.back) (classes 0 front) (classes n new ++ classes (n + length new) back) p.0 (Fit-join (flat b) (map (shift g) s.back) (classes n new) (classes (n + length new) back) fits_b moved) in
+    let split : (x : List Lexeme) → classes_in language 0 (front ++ (x ++ back)) ≡ classes_in language 0 front ++ (classes_in language n x ++ classes_in language (n + length x) back) = λ x. (
+    classes-append_in language 0 front (x ++ back) ∙ ap (λ (ls : List Classed). classes_in language 0 front ++ ls) (ap (λ (k : ℕ). classes_in language k (x ++ back)) (zero_first n) ∙ classes-append_in language n x back)) in
+    let whole = subst (λ (ls : List Classed). Fit (s.front ++ (flat a ++ s.back)) ls) (split old) (subst (λ (ms : List Mark). Fit ms (classes_in language 0 (front ++ (old ++ back)))) s.old h.fits) in
+    let p = fit_parts s.front (flat a ++ s.back) (classes_in language 0 front) (classes_in language n old ++ classes_in language (n + length old) back) (s.long ∙ at ∙ sym (classes-length_in language 0 front)) whole in
+    let q = fit_parts (flat a) s.back (classes_in language n old) (classes_in language (n + length old) back) (len ∙ sym (classes-length_in language n old)) p.1 in
+    let moved = fit_moved_in language g (n + length old) (n + length new) s.back back (λ k lt. to k) q.1 in
+    let fit = Fit-join s.front (flat b ++ map (shift g) s.back) (classes_in language 0 front) (classes_in language n new ++ classes_in language (n + length new) back) p.0 (Fit-join (flat b) (map (shift g) s.back) (classes_in language n new) (classes_in language (n + length new) back) fits_b moved) in
     record {
       well_formed = replaced_fine g a b context.Start t u r h.well_formed;
-      fits = subst (λ (ms : List Mark). Fit ms (classes 0 (front ++ (new ++ back)))) (sym s.new) (subst (λ (ls : List Classed). Fit (s.front ++ (flat b ++ map (shift g) s.back)) ls) (sym (split new)) fit);
+      fits = subst (λ (ms : List Mark). Fit ms (classes_in language 0 (front ++ (new ++ back)))) (sym s.new) (subst (λ (ls : List Classed). Fit (s.front ++ (flat b ++ map (shift g) s.back)) ls) (sym (split new)) fit);
     }
   where
     zero_first : (n : ℕ) → 0 + n ≡ n
     zero_first n = omega arith
+
+-- ---- the same in the core language
+
+pub statements_are_replaced : StatementsAreReplaced
+statements_are_replaced = statements_are_replaced_in profile.Core
+
+pub classes-append : (n : ℕ) (x y : List Lexeme) → classes n (x ++ y) ≡ classes n x ++ classes (n + length x) y
+classes-append = classes-append_in profile.Core
+
+pub classes-length : (n : ℕ) (x : List Lexeme) → length (classes n x) ≡ length x
+classes-length = classes-length_in profile.Core
+
+pub fit_moved : (g : Move) (n n' : ℕ) (ms : List Mark) (x : List Lexeme) → ((k : ℕ) → k < length x → g (n + k) ≡ n' + k) → Fit ms (classes n x) → Fit (map (shift g) ms) (classes n' x)
+fit_moved = fit_moved_in profile.Core

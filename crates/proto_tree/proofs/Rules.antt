@@ -1,11 +1,14 @@
 -- Each reader reads exactly what is flattened.
 use Rattle.std.proofs.Common.{◌≡◌, ℕ, Bool, true, false, List, ◌++◌, Option, Some, None, refl, subst, ◌⊎◌, inl, inr}
-use Rattle.proto_tree.specs.Common.{Class, Separated, FieldType, Constant, Signed, RangeEnd, ReservedList, Settings, fits, is_brace, Mark, only, one, word, name, text_mark, flat_from, flat_separated, flat_dotted, flat_reference, flat_type, flat_number, flat_signed, flat_joined, flat_constant, flat_setting, flat_settings, flat_option, flat_option_statement, flat_syntax, flat_import, flat_package, flat_field, flat_map_field, flat_range_end, flat_up_to, flat_range, flat_ranges, flat_reserved_list, flat_reserved, flat_extensions, flat_value, flat_method_type, flat_signature, Reader, ◌then◌, made, token, either, dotted_at, named_at, package_name_at, reference_at, type_at, signed_at, joined_at, constant_at, setting_at, settings_at, option_at, syntax_at, import_at, package_at, field_at, map_field_at, range_end_at, up_to_at, range_at, ranges_at, reserved_list_at, reserved_at, extensions_at, value_at, method_type_at, signature_at, maybe_settings, numbered_at}
+use Rattle.proto_tree.specs.Common.{Class, Separated, FieldType, CustomValue, Setting, flat_behind, flat_extension_name, flat_custom, flat_custom_value, flat_plain, behind_at, extension_name_at, custom_at, custom_value_at, plain_at, Constant, Signed, RangeEnd, ReservedList, Settings, fits, is_brace, Mark, only, one, word, name, text_mark, flat_from, flat_separated, flat_dotted, flat_reference, flat_type, flat_number, flat_signed, flat_joined, flat_constant, flat_setting, flat_settings, flat_option, flat_option_statement, flat_syntax, flat_import, flat_package, flat_field, flat_map_field, flat_range_end, flat_up_to, flat_range, flat_ranges, flat_reserved_list, flat_reserved, flat_extensions, flat_value, flat_method_type, flat_signature, Reader, ◌then◌, made, token, either, dotted_at, named_at, package_name_at, reference_at, type_at, signed_at, joined_at, constant_at, setting_at, settings_at, option_at, syntax_at, import_at, package_at, field_at, map_field_at, range_end_at, up_to_at, range_at, ranges_at, reserved_list_at, reserved_at, extensions_at, value_at, method_type_at, signature_at, maybe_settings, numbered_at}
 use Rattle.proto_tree.specs.declared.class.Class.TheVariants as class
 use Rattle.proto_tree.specs.declared.class.Expected.TheVariants as want
 use Rattle.proto_tree.specs.declared.tree.Reference.{Reference}
 use Rattle.proto_tree.specs.declared.tree.FieldType.TheVariants as field_type
 use Rattle.proto_tree.specs.declared.tree.Constant.TheVariants as constant
+use Rattle.proto_tree.specs.declared.tree.CustomValue.TheVariants as custom_value
+use Rattle.proto_tree.specs.declared.tree.Setting.TheVariants as setting
+use Rattle.proto_tree.proofs.Values.{aggregate-exact}
 use Rattle.proto_tree.specs.declared.tree.Joined.{Joined}
 use Rattle.proto_tree.specs.declared.tree.RangeEnd.TheVariants as range_end
 use Rattle.proto_tree.specs.declared.tree.ReservedList.TheVariants as reserved_list
@@ -130,9 +133,37 @@ constant-exact =
     subst (λ r. IsExact is_brace true starts_constant after_constant flat_constant (either want.Constant (made constant.Word (token want.Constant)) r)) (made_either text_or_number inl inr want.Text joined_at signed_at)
     (one_of want.Constant flat_constant constant.Word text_or_number constant_made a_constant text_or_number-exact refl refl)
 
-setting-exact : IsExact is_brace true (fits want.OptionName) after_constant flat_setting setting_at
+extension_name-exact : IsExact is_brace true (any_of (is class.Dot) (fits want.Word)) dots flat_extension_name extension_name_at
+extension_name-exact = renamed flat_extension_name (λ x. record { dot = x.0; words = x.1 }) (λ r. (r.dot, r.words)) (λ r. refl) (or_next (if_any (want.One class.Dot) (the class.Dot refl) refl) dotted-exact refl)
+
+path_word-exact : IsExact is_brace true (is class.Dot) never (flat_behind class.Dot (only want.OptionName)) (behind_at class.Dot (token want.OptionName))
+unfolding behind_at
+path_word-exact = renamed (flat_behind class.Dot (only want.OptionName)) (λ x. record { separator = x.0; item = x.1 }) (λ b. (b.separator, b.item)) (λ b. refl) (token_then (the class.Dot refl) an_option_name)
+
+custom_value_made : (x : CustomValue) → IsMade custom_value.Aggregate custom_value.Constant x
+custom_value_made (custom_value.Aggregate a) = Left a
+custom_value_made (custom_value.Constant c) = Right c
+
+custom_value-exact : IsExact is_brace true (any_of (is class.Open) starts_constant) (any_of never after_constant) flat_custom_value custom_value_at
+unfolding custom_value_at
+custom_value-exact = one_of (want.One class.Open) flat_custom_value custom_value.Aggregate custom_value.Constant custom_value_made aggregate-exact constant-exact refl refl
+
+custom-exact : IsExact is_brace true (is class.NameParenthesis) (any_of never after_constant) flat_custom custom_at
+unfolding custom_at
+custom-exact = renamed flat_custom (λ x. record { «open» = x.0; name = x.1.0; close = x.1.1.0; path = x.1.1.1.0; equals = x.1.1.1.1.0; value = x.1.1.1.1.1 }) (λ c. (c.«open», (c.name, (c.close, (c.path, (c.equals, c.value)))))) (λ c. refl)
+    (token_then (the class.NameParenthesis refl) (next extension_name-exact (token_then (the class.RightParenthesis refl) (or_next (all (want.One class.Dot) path_word-exact refl refl) (token_then (the class.Equals refl) custom_value-exact) refl)) refl))
+
+plain-exact : IsExact is_brace true (fits want.OptionName) after_constant flat_plain plain_at
+unfolding plain_at
+plain-exact = renamed flat_plain (λ x. record { name = x.0; equals = x.1.0; value = x.1.1 }) (λ s. (s.name, (s.equals, s.value))) (λ s. refl) (token_then an_option_name (token_then (the class.Equals refl) constant-exact))
+
+setting_made : (x : Setting) → IsMade setting.Custom setting.Plain x
+setting_made (setting.Custom c) = Left c
+setting_made (setting.Plain p) = Right p
+
+setting-exact : IsExact is_brace true (any_of (is class.NameParenthesis) (fits want.OptionName)) (any_of (any_of never after_constant) after_constant) flat_setting setting_at
 unfolding setting_at
-setting-exact = renamed flat_setting (λ x. record { name = x.0; equals = x.1.0; value = x.1.1 }) (λ s. (s.name, (s.equals, s.value))) (λ s. refl) (token_then an_option_name (token_then (the class.Equals refl) constant-exact))
+setting-exact = one_of (want.One class.NameParenthesis) flat_setting setting.Custom setting.Plain setting_made custom-exact plain-exact refl refl
 
 settings-exact : IsExact is_brace true (is class.LeftBracket) never flat_settings settings_at
 unfolding settings_at
@@ -141,9 +172,8 @@ settings-exact = renamed flat_settings (λ x. record { «open» = x.0; list = x.
 
 pub option-exact : IsExact is_brace true (is class.Option) never flat_option_statement option_at
 unfolding option_at
-option-exact = renamed flat_option_statement
-    (λ x. record { keyword = x.0; name = x.1.0; equals = x.1.1.0; value = x.1.1.1.0; semicolon = x.1.1.1.1 }) (λ o. (o.keyword, (o.name, (o.equals, (o.value, o.semicolon))))) (λ o. refl)
-    (token_then (the class.Option refl) (token_then an_option_name (token_then (the class.Equals refl) (next constant-exact the_semicolon refl))))
+option-exact = renamed flat_option_statement (λ x. record { keyword = x.0; setting = x.1.0; semicolon = x.1.1 }) (λ o. (o.keyword, (o.setting, o.semicolon))) (λ o. refl)
+    (token_then (the class.Option refl) (next setting-exact the_semicolon refl))
 
 -- ---- statements of a file
 
@@ -264,11 +294,11 @@ value-exact = renamed flat_value
     (λ x. record { name = x.0; equals = x.1.0; number = x.1.1.0; settings = x.1.1.1.0; semicolon = x.1.1.1.1 }) (λ v. (v.name, (v.equals, (v.number, (v.settings, v.semicolon))))) (λ v. refl)
     (token_then (tok want.ValueName refl) (token_then (the class.Equals refl) (token_then signed-exact ended-exact)))
 
-method_type-exact : IsExact is_brace true (is class.LeftParenthesis) never flat_method_type method_type_at
+method_type-exact : IsExact is_brace true (fits want.Parenthesis) never flat_method_type method_type_at
 unfolding method_type_at
 method_type-exact = renamed flat_method_type
     (λ x. record { «open» = x.0; stream = x.1.0; reference = x.1.1.0; close = x.1.1.1 }) (λ t. (t.«open», (t.stream, (t.reference, t.close)))) (λ t. refl)
-    (token_then (the class.LeftParenthesis refl) (or_next (if_any (want.One class.Stream) (the class.Stream refl) refl) (next reference-exact (the class.RightParenthesis refl) refl) refl))
+    (token_then (tok want.Parenthesis refl) (or_next (if_any (want.One class.Stream) (the class.Stream refl) refl) (next reference-exact (the class.RightParenthesis refl) refl) refl))
 
 pub signature-exact : IsExact is_brace true (is class.Rpc) never flat_signature signature_at
 unfolding signature_at

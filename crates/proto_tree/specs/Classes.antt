@@ -1,5 +1,5 @@
 -- What the grammar knows of a token, and what it may want at a place.
-use Rattle.std.specs.Prelude.{ℕ, Bool, true, false, ◌==◌}
+use Rattle.std.specs.Prelude.{ℕ, Bool, true, false, not, ◌==◌}
 use Rattle.proto_tree.specs.declared.class.Class.{Class}
 use Rattle.proto_tree.specs.declared.class.Class.TheVariants as class
 use Rattle.proto_tree.specs.declared.class.Expected.{Expected}
@@ -47,7 +47,9 @@ code class.Comma = 36
 code class.Equals = 37
 code class.Dot = 38
 code class.Minus = 39
-code class.Other = 40
+code class.Colon = 40
+code class.NameParenthesis = 41
+code class.Other = 42
 
 -- a word, whether listed or not
 abbrev pub is_word : Class → Bool
@@ -67,6 +69,8 @@ is_word class.Comma = false
 is_word class.Equals = false
 is_word class.Dot = false
 is_word class.Minus = false
+is_word class.Colon = false
+is_word class.NameParenthesis = false
 is_word class.Other = false
 is_word _ = true
 
@@ -89,6 +93,24 @@ is_text class.ProtoText = true
 is_text class.OtherText = true
 is_text _ = false
 
+-- `(`, of either class
+abbrev pub is_parenthesis : Class → Bool
+is_parenthesis class.LeftParenthesis = true
+is_parenthesis class.NameParenthesis = true
+is_parenthesis _ = false
+
+-- a token of a value in braces that is no word, no brace and no `:`, as it may stand behind a `:`
+abbrev pub is_element : Class → Bool
+is_element class.Open = false
+is_element class.Close = false
+is_element class.Colon = false
+is_element c = not (is_word c)
+
+-- the same elsewhere: no `[` either
+abbrev pub is_atom : Class → Bool
+is_atom class.LeftBracket = false
+is_atom c = is_element c
+
 -- whether a token of this class is what is wanted
 abbrev pub fits : Expected → Class → Bool
 fits (want.One wanted) c = code wanted == code c
@@ -99,6 +121,10 @@ fits want.Constant c = is_word c
 fits want.ValueName c = is_value_name c
 fits want.Label c = is_label c
 fits want.Text c = is_text c
+fits want.Atom c = is_atom c
+fits want.Element c = is_element c
+fits want.Nothing c = false
+fits want.Parenthesis c = is_parenthesis c
 
 -- a brace, `{` or `}`
 abbrev pub is_brace : Class → Bool

@@ -12,6 +12,8 @@ use Rattle.proto_tree.specs.declared.tree.ServiceItem.{ServiceItem}
 use Rattle.proto_tree.specs.declared.tree.ServiceItem.TheVariants as service_item
 use Rattle.proto_tree.specs.declared.tree.EnumItem.{EnumItem}
 use Rattle.proto_tree.specs.declared.tree.EnumItem.TheVariants as enum_item
+use Rattle.proto_tree.specs.declared.tree.OneofItem.{OneofItem}
+use Rattle.proto_tree.specs.declared.tree.OneofItem.TheVariants as oneof_item
 use Rattle.proto_tree.specs.declared.tree.Block.{Block as Braced}
 use Rattle.proto_tree.specs.declared.tree.Extend.{Extend}
 use Rattle.proto_tree.specs.declared.tree.Extension.{Extension}
@@ -76,9 +78,14 @@ enum_tree e = block_tree header.Enum (trees enum_item_tree e.members.items) e
 abbrev pub field_tree : Field → Tree
 field_tree f = Leaf (statement.Field f) End
 
--- a oneof: the block of its fields
-abbrev pub oneof_tree : Braced Field → Tree
-oneof_tree o = block_tree header.Oneof (trees field_tree o.members.items) o
+-- what stands in a oneof: a field, or a custom option
+abbrev pub oneof_item_tree : OneofItem → Tree
+oneof_item_tree (oneof_item.Field f) = field_tree f
+oneof_item_tree (oneof_item.Option o) = Leaf (statement.Option o) End
+
+-- a oneof: the block of its fields and options
+abbrev pub oneof_tree : Braced OneofItem → Tree
+oneof_tree o = block_tree header.Oneof (trees oneof_item_tree o.members.items) o
 
 -- an extension: the statement of its field
 abbrev pub extension_tree : Extension → Tree

@@ -1,6 +1,6 @@
 -- The tokens of each part of a tree, in order: what each place wants, and the index that the tree
 -- holds there. This is the grammar.
-use Rattle.std.specs.Prelude.{◌≡◌, ℕ, true, List, [], ◌∷◌, ◌++◌, Option, Some, None}
+use Rattle.std.specs.Prelude.{◌≡◌, ℕ, zero, suc, Bool, true, false, List, [], ◌∷◌, ◌++◌, Option, Some, None}
 use Rattle.proto_tree.specs.declared.class.Class.{Class}
 use Rattle.proto_tree.specs.declared.class.Class.TheVariants as class
 use Rattle.proto_tree.specs.declared.class.Expected.{Expected}
@@ -15,6 +15,14 @@ use Rattle.proto_tree.specs.declared.tree.Signed.{Signed}
 use Rattle.proto_tree.specs.declared.tree.Joined.{Joined}
 use Rattle.proto_tree.specs.declared.tree.Constant.{Constant}
 use Rattle.proto_tree.specs.declared.tree.Constant.TheVariants as constant
+use Rattle.proto_tree.specs.declared.tree.Atom.{Atom}
+use Rattle.proto_tree.specs.declared.tree.Atom.TheVariants as atom
+use Rattle.proto_tree.specs.declared.tree.Aggregate.{Aggregate}
+use Rattle.proto_tree.specs.declared.tree.Custom.{Custom}
+use Rattle.proto_tree.specs.declared.tree.Plain.{Plain}
+use Rattle.proto_tree.specs.declared.tree.CustomValue.{CustomValue}
+use Rattle.proto_tree.specs.declared.tree.CustomValue.TheVariants as custom_value
+use Rattle.proto_tree.specs.declared.tree.Setting.TheVariants as setting
 use Rattle.proto_tree.specs.declared.tree.Setting.{Setting}
 use Rattle.proto_tree.specs.declared.tree.Settings.{Settings}
 use Rattle.proto_tree.specs.declared.tree.Syntax.{Syntax}
@@ -137,15 +145,76 @@ flat_signed n = flat_option (one class.Minus) n.minus ++ one class.Number n.numb
 abbrev pub flat_joined : Joined → List Mark
 flat_joined t = text_mark t.first ++ flat_all text_mark t.rest
 
+-- what ends a value in braces while n of its inner braces are open: its brace, where none is open
+abbrev pub last_expected : ℕ → Expected
+last_expected zero = want.One class.Close
+last_expected (suc n) = want.Nothing
+
+-- what closes an inner brace while n are open: a brace, where one is open
+abbrev pub inner_expected : ℕ → Expected
+inner_expected zero = want.Nothing
+inner_expected (suc n) = want.One class.Close
+
+-- one open brace less
+abbrev pub fewer : ℕ → ℕ
+fewer zero = zero
+fewer (suc n) = n
+
+-- a token that is no word, no brace and no `:`: behind a `:` it may be a `[`, elsewhere not
+abbrev pub other_expected : Bool → Expected
+other_expected true = want.Element
+other_expected false = want.Atom
+
+-- what stands between the braces of a value, from where n inner braces are open, behind a `:` or
+-- not, and the brace that ends it; tokens with a brace too many or too few are of no such value
+abbrev pub flat_within : Bool → ℕ → List Atom → ℕ → List Mark
+flat_within colon n [] j = only (last_expected n) j
+flat_within colon n (atom.Open i ∷ rest) j = one class.Open i ++ flat_within false (suc n) rest j
+flat_within colon n (atom.Close i ∷ rest) j =
+    only (inner_expected n) i ++ flat_within false (fewer n) rest j
+flat_within colon n (atom.Colon i ∷ rest) j = one class.Colon i ++ flat_within true n rest j
+flat_within colon n (atom.Word i ∷ rest) j = only want.OptionName i ++ flat_within false n rest j
+flat_within colon n (atom.Other i ∷ rest) j =
+    only (other_expected colon) i ++ flat_within false n rest j
+
+-- a value in braces: `{`, its tokens, and the `}` that ends it
+abbrev pub flat_aggregate : Aggregate → List Mark
+flat_aggregate a = one class.Open a.«open» ++ flat_within false 0 a.atoms a.close
+
 -- the value of an option: a word, a number that may have a `-`, or strings
 abbrev pub flat_constant : Constant → List Mark
 flat_constant (constant.Word i) = only want.Constant i
 flat_constant (constant.Number n) = flat_signed n
 flat_constant (constant.Text t) = flat_joined t
 
--- a setting: a name, `=` and a value
+-- the name of an extension: words joined by dots, listed ones too, with a dot before them where it
+-- is absolute
+abbrev pub flat_extension_name : Reference → List Mark
+flat_extension_name r = flat_option (one class.Dot) r.dot ++ flat_dotted r.words
+
+-- the value of a custom option: one of any option, or a value in braces
+abbrev pub flat_custom_value : CustomValue → List Mark
+flat_custom_value (custom_value.Constant c) = flat_constant c
+flat_custom_value (custom_value.Aggregate a) = flat_aggregate a
+
+-- a custom option that is set: the name of an extension in parentheses, behind it words that each
+-- have a dot before them, `=` and a value
+abbrev pub flat_custom : Custom → List Mark
+flat_custom c =
+    one class.NameParenthesis c.«open»
+    ++ (flat_extension_name c.name
+    ++ (one class.RightParenthesis c.close
+    ++ (flat_all (flat_behind class.Dot (only want.OptionName)) c.path
+    ++ (one class.Equals c.equals ++ flat_custom_value c.value))))
+
+-- an option that is set by its word: the word, `=` and a value
+abbrev pub flat_plain : Plain → List Mark
+flat_plain p = only want.OptionName p.name ++ (one class.Equals p.equals ++ flat_constant p.value)
+
+-- an option that is set, by its word or by the name of an extension
 abbrev pub flat_setting : Setting → List Mark
-flat_setting s = only want.OptionName s.name ++ (one class.Equals s.equals ++ flat_constant s.value)
+flat_setting (setting.Plain p) = flat_plain p
+flat_setting (setting.Custom c) = flat_custom c
 
 -- settings: one or more between brackets, with a comma between each two
 abbrev pub flat_settings : Settings → List Mark
@@ -153,12 +222,10 @@ flat_settings s =
     one class.LeftBracket s.open
     ++ (flat_separated class.Comma flat_setting s.list ++ one class.RightBracket s.close)
 
--- an option: `option`, a name, `=`, a value and `;`
+-- an option: `option`, what it sets, and `;`
 abbrev pub flat_option_statement : Option_ → List Mark
 flat_option_statement o =
-    one class.Option o.keyword
-    ++ (only want.OptionName o.name
-    ++ (one class.Equals o.equals ++ (flat_constant o.value ++ one class.Semicolon o.semicolon)))
+    one class.Option o.keyword ++ (flat_setting o.setting ++ one class.Semicolon o.semicolon)
 
 -- ---- statements of a file
 
@@ -255,7 +322,7 @@ flat_value v =
 -- the input or output of a method: a reference in parentheses, behind `stream` where it streams
 abbrev pub flat_method_type : MethodType → List Mark
 flat_method_type t =
-    one class.LeftParenthesis t.open
+    only want.Parenthesis t.open
     ++ (flat_option (one class.Stream) t.stream
     ++ (flat_reference t.reference ++ one class.RightParenthesis t.close))
 

@@ -9,6 +9,14 @@ use Rattle.proto_tree.specs.declared.tree.Signed.{Signed}
 use Rattle.proto_tree.specs.declared.tree.Joined.{Joined}
 use Rattle.proto_tree.specs.declared.tree.Constant.{Constant}
 use Rattle.proto_tree.specs.declared.tree.Constant.TheVariants as constant
+use Rattle.proto_tree.specs.declared.tree.Atom.{Atom}
+use Rattle.proto_tree.specs.declared.tree.Atom.TheVariants as atom
+use Rattle.proto_tree.specs.declared.tree.Aggregate.{Aggregate}
+use Rattle.proto_tree.specs.declared.tree.Custom.{Custom}
+use Rattle.proto_tree.specs.declared.tree.Plain.{Plain}
+use Rattle.proto_tree.specs.declared.tree.CustomValue.{CustomValue}
+use Rattle.proto_tree.specs.declared.tree.CustomValue.TheVariants as custom_value
+use Rattle.proto_tree.specs.declared.tree.Setting.TheVariants as setting
 use Rattle.proto_tree.specs.declared.tree.Setting.{Setting}
 use Rattle.proto_tree.specs.declared.tree.Settings.{Settings}
 use Rattle.proto_tree.specs.declared.tree.Syntax.{Syntax}
@@ -75,15 +83,52 @@ move_signed g n = record { minus = move_option g n.minus; number = g n.number }
 abbrev pub move_joined : Move → Joined → Joined
 move_joined g t = record { first = g t.first; rest = map g t.rest }
 
+-- a token between the braces of a value, moved
+abbrev pub move_atom : Move → Atom → Atom
+move_atom g (atom.Open i) = atom.Open (g i)
+move_atom g (atom.Close i) = atom.Close (g i)
+move_atom g (atom.Colon i) = atom.Colon (g i)
+move_atom g (atom.Word i) = atom.Word (g i)
+move_atom g (atom.Other i) = atom.Other (g i)
+
+-- a value in braces, moved
+abbrev pub move_aggregate : Move → Aggregate → Aggregate
+move_aggregate g a = record {
+  «open» = g a.«open»;
+  atoms = map (move_atom g) a.atoms;
+  close = g a.close;
+}
+
 -- the value of an option, moved
 abbrev pub move_constant : Move → Constant → Constant
 move_constant g (constant.Word i) = constant.Word (g i)
 move_constant g (constant.Number n) = constant.Number (move_signed g n)
 move_constant g (constant.Text t) = constant.Text (move_joined g t)
 
+-- the value of a custom option, moved
+abbrev pub move_custom_value : Move → CustomValue → CustomValue
+move_custom_value g (custom_value.Constant c) = custom_value.Constant (move_constant g c)
+move_custom_value g (custom_value.Aggregate a) = custom_value.Aggregate (move_aggregate g a)
+
+-- a custom option that is set, moved
+abbrev pub move_custom : Move → Custom → Custom
+move_custom g c = record {
+  «open» = g c.«open»;
+  name = move_reference g c.name;
+  close = g c.close;
+  path = map (move_behind g g) c.path;
+  equals = g c.equals;
+  value = move_custom_value g c.value;
+}
+
+-- one that is set by its word, moved
+abbrev pub move_plain : Move → Plain → Plain
+move_plain g p = record { name = g p.name; equals = g p.equals; value = move_constant g p.value }
+
 -- one setting, moved
 abbrev pub move_setting : Move → Setting → Setting
-move_setting g s = record { name = g s.name; equals = g s.equals; value = move_constant g s.value }
+move_setting g (setting.Plain p) = setting.Plain (move_plain g p)
+move_setting g (setting.Custom c) = setting.Custom (move_custom g c)
 
 -- settings between brackets, moved
 abbrev pub move_settings : Move → Settings → Settings
@@ -97,9 +142,7 @@ move_settings g s = record {
 abbrev pub move_option_statement : Move → Option_ → Option_
 move_option_statement g o = record {
   keyword = g o.keyword;
-  name = g o.name;
-  equals = g o.equals;
-  value = move_constant g o.value;
+  setting = move_setting g o.setting;
   semicolon = g o.semicolon;
 }
 

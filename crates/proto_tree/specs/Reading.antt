@@ -1,5 +1,5 @@
 -- Reading from the left: each part of the grammar as a function of the tokens.
-use Rattle.std.specs.Prelude.{◌≡◌, ℕ, zero, suc, length, Bool, false, List, [], ◌∷◌, Option, Some, None, Result, Ok, Err, option_and_then, if◌then◌else◌}
+use Rattle.std.specs.Prelude.{◌≡◌, ℕ, zero, suc, length, Bool, true, false, List, [], ◌∷◌, Option, Some, None, Result, Ok, Err, option_and_then, if◌then◌else◌}
 use Rattle.proto_tree.specs.declared.class.Class.{Class}
 use Rattle.proto_tree.specs.declared.class.Class.TheVariants as class
 use Rattle.proto_tree.specs.declared.class.Expected.{Expected}
@@ -16,6 +16,14 @@ use Rattle.proto_tree.specs.declared.tree.Signed.{Signed}
 use Rattle.proto_tree.specs.declared.tree.Joined.{Joined}
 use Rattle.proto_tree.specs.declared.tree.Constant.{Constant}
 use Rattle.proto_tree.specs.declared.tree.Constant.TheVariants as constant
+use Rattle.proto_tree.specs.declared.tree.Atom.{Atom}
+use Rattle.proto_tree.specs.declared.tree.Atom.TheVariants as atom
+use Rattle.proto_tree.specs.declared.tree.Aggregate.{Aggregate}
+use Rattle.proto_tree.specs.declared.tree.Custom.{Custom}
+use Rattle.proto_tree.specs.declared.tree.Plain.{Plain}
+use Rattle.proto_tree.specs.declared.tree.CustomValue.{CustomValue}
+use Rattle.proto_tree.specs.declared.tree.CustomValue.TheVariants as custom_value
+use Rattle.proto_tree.specs.declared.tree.Setting.TheVariants as setting
 use Rattle.proto_tree.specs.declared.tree.Setting.{Setting}
 use Rattle.proto_tree.specs.declared.tree.Settings.{Settings}
 use Rattle.proto_tree.specs.declared.tree.Syntax.{Syntax}
@@ -46,6 +54,7 @@ use Rattle.proto_tree.specs.declared.piece.Ending.TheVariants as ending
 use Rattle.proto_tree.specs.declared.piece.Piece.{Piece}
 use Rattle.proto_tree.specs.declared.piece.Piece.TheVariants as piece
 use Rattle.proto_tree.specs.Classes.{fits}
+use Rattle.proto_tree.specs.Flat.{fewer, other_expected}
 
 -- a value and the tokens after it
 abbrev pub Read : Type 0 → Type 0
@@ -163,15 +172,81 @@ unfoldable pub joined_at : Reader Joined
 joined_at = made (λ x. record { first = x.0; rest = x.1 })
     (token want.Text then many want.Text (token want.Text))
 
+-- one atom more before those that are read
+abbrev pub put_atom : Atom → Read (List Atom × ℕ) → Read (List Atom × ℕ)
+put_atom a read = option_and_then (λ x. Some ((a ∷ x.0.0, x.0.1), x.1)) read
+
+-- at a closing brace the value ends, or an inner brace is closed
+abbrev pub at_close : ℕ → ℕ → List Lexeme → Read (List Atom × ℕ) → Read (List Atom × ℕ)
+at_close zero i rest more = Some (([], i), rest)
+at_close (suc n) i rest more = put_atom (atom.Close i) more
+
+-- reads what stands between the braces of a value, from where n inner braces are open, behind a `:`
+-- or not, and the brace that ends it
+abbrev pub within_at : Bool → ℕ → Reader (List Atom × ℕ)
+within_at colon n [] = None
+within_at colon n (l ∷ s) =
+    if fits (want.One class.Close) l.class
+    then at_close n l.at s (within_at false (fewer n) s)
+    else (if fits (want.One class.Open) l.class
+    then put_atom (atom.Open l.at) (within_at false (suc n) s)
+    else (if fits (want.One class.Colon) l.class
+    then put_atom (atom.Colon l.at) (within_at true n s)
+    else (if fits want.OptionName l.class
+    then put_atom (atom.Word l.at) (within_at false n s)
+    else (if fits (other_expected colon) l.class
+    then put_atom (atom.Other l.at) (within_at false n s)
+    else None))))
+
+-- reads a value in braces
+unfoldable pub aggregate_at : Reader Aggregate
+aggregate_at = made (λ x. record { «open» = x.0; atoms = x.1.0; close = x.1.1 })
+    (one_token class.Open then within_at false 0)
+
 -- reads the value of an option: a word, strings, or a number that may have a `-`
 unfoldable pub constant_at : Reader Constant
 constant_at = either want.Constant (made constant.Word (token want.Constant))
     (either want.Text (made constant.Text joined_at) (made constant.Number signed_at))
 
--- reads a setting: a name, `=` and a value
-unfoldable pub setting_at : Reader Setting
-setting_at = made (λ x. record { name = x.0; equals = x.1.0; value = x.1.1 })
+-- reads the value of a custom option
+unfoldable pub custom_value_at : Reader CustomValue
+custom_value_at = either (want.One class.Open)
+    (made custom_value.Aggregate aggregate_at)
+    (made custom_value.Constant constant_at)
+
+-- reads the name of an extension: words joined by dots, with a dot before them where it is absolute
+abbrev pub extension_name_at : Reader Reference
+extension_name_at = made (λ x. record { dot = x.0; words = x.1 })
+    (maybe_token (want.One class.Dot) then dotted_at)
+
+-- reads in parentheses the name of an extension, words behind it, `=` and a value
+unfoldable pub custom_at : Reader Custom
+custom_at = made
+    (λ x. record {
+      «open» = x.0;
+      name = x.1.0;
+      close = x.1.1.0;
+      path = x.1.1.1.0;
+      equals = x.1.1.1.1.0;
+      value = x.1.1.1.1.1;
+    })
+    (one_token class.NameParenthesis
+    then extension_name_at
+    then one_token class.RightParenthesis
+    then many (want.One class.Dot) (behind_at class.Dot (token want.OptionName))
+    then one_token class.Equals
+    then custom_value_at)
+
+-- reads a name, `=` and a value
+unfoldable pub plain_at : Reader Plain
+plain_at = made (λ x. record { name = x.0; equals = x.1.0; value = x.1.1 })
     (token want.OptionName then one_token class.Equals then constant_at)
+
+-- reads an option that is set
+unfoldable pub setting_at : Reader Setting
+setting_at = either (want.One class.NameParenthesis)
+    (made setting.Custom custom_at)
+    (made setting.Plain plain_at)
 
 -- reads settings: one or more between brackets, with a comma between each two
 unfoldable pub settings_at : Reader Settings
@@ -184,21 +259,10 @@ settings_at = made (λ x. record { «open» = x.0; list = x.1.0; close = x.1.1 }
 abbrev pub maybe_settings : Reader (Option Settings)
 maybe_settings = maybe (want.One class.LeftBracket) settings_at
 
--- reads an option: `option`, a name, `=`, a value and `;`
+-- reads an option: `option`, what it sets, and `;`
 unfoldable pub option_at : Reader Option_
-option_at = made
-    (λ x. record {
-      keyword = x.0;
-      name = x.1.0;
-      equals = x.1.1.0;
-      value = x.1.1.1.0;
-      semicolon = x.1.1.1.1;
-    })
-    (one_token class.Option
-    then token want.OptionName
-    then one_token class.Equals
-    then constant_at
-    then one_token class.Semicolon)
+option_at = made (λ x. record { keyword = x.0; setting = x.1.0; semicolon = x.1.1 })
+    (one_token class.Option then setting_at then one_token class.Semicolon)
 
 -- ---- statements of a file
 
@@ -340,7 +404,7 @@ value_at = made
 unfoldable pub method_type_at : Reader MethodType
 method_type_at = made
     (λ x. record { «open» = x.0; stream = x.1.0; reference = x.1.1.0; close = x.1.1.1 })
-    (one_token class.LeftParenthesis
+    (token want.Parenthesis
     then maybe_token (want.One class.Stream)
     then reference_at
     then one_token class.RightParenthesis)

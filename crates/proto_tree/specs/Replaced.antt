@@ -9,7 +9,9 @@ use Rattle.proto_tree.specs.declared.context.Context.TheVariants as context
 use Rattle.proto_tree.specs.declared.class.Class.TheVariants as class
 use Rattle.proto_tree.specs.Flat.{Fit, one, flat_statement, flat_header}
 use Rattle.proto_tree.specs.Tree.{Tree, End, Leaf, Block, flat, statement_kind, header_kind, after, inside, IsWellFormed, last_of, joined_trees, Spells}
-use Rattle.proto_tree.specs.Words.{classes}
+use Rattle.proto_base.specs.declared.profile.Profile.{Profile}
+use Rattle.proto_base.specs.declared.profile.Profile.TheVariants as profile
+use Rattle.proto_tree.specs.Words.{classes_in}
 use Rattle.proto_tree.specs.Moved.{Move, move_tree}
 
 -- The second tree is the first with the items of b in place of those of a, at one place and in
@@ -38,11 +40,16 @@ tokens_before (Behind c h i within j t u r) =
     length (flat (Block h i within j End)) + tokens_before r
 
 -- Where the tokens of a are replaced by those of b, the second tree spells what comes out.
-abbrev pub StatementsAreReplaced : Type 0
-StatementsAreReplaced =
+abbrev pub StatementsAreReplacedIn : Profile → Type 0
+StatementsAreReplacedIn p =
     (g : Move) (a b t u : Tree) (r : ItemsAreReplaced g a b context.Start t u)
     (front old new back : List Lexeme)
     → tokens_before r ≡ length front → length (flat a) ≡ length old
-    → Fit (flat b) (classes (length front) new)
+    → Fit (flat b) (classes_in p (length front) new)
     → ((k : ℕ) → g (length front + length old + k) ≡ length front + length new + k)
-    → Spells t (classes 0 (front ++ (old ++ back))) → Spells u (classes 0 (front ++ (new ++ back)))
+    → Spells t (classes_in p 0 (front ++ (old ++ back)))
+    → Spells u (classes_in p 0 (front ++ (new ++ back)))
+
+-- the same in the core language
+abbrev pub StatementsAreReplaced : Type 0
+StatementsAreReplaced = StatementsAreReplacedIn profile.Core

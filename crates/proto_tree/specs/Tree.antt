@@ -12,6 +12,8 @@ use Rattle.proto_tree.specs.declared.context.Context.{Context}
 use Rattle.proto_tree.specs.declared.context.Context.TheVariants as context
 use Rattle.proto_tree.specs.declared.context.Kind.{Kind}
 use Rattle.proto_tree.specs.declared.context.Kind.TheVariants as kind
+use Rattle.proto_tree.specs.declared.tree.Setting.{Setting}
+use Rattle.proto_tree.specs.declared.tree.Setting.TheVariants as setting
 use Rattle.proto_tree.specs.Flat.{Mark, one, Fit, flat_statement, flat_header}
 
 -- what kind of field it is: with a label or without
@@ -19,12 +21,17 @@ abbrev pub field_kind : Option ℕ → Kind
 field_kind None = kind.Field
 field_kind (Some i) = kind.LabeledField
 
+-- what kind of option it is: set by its word, or custom
+abbrev pub option_kind : Setting → Kind
+option_kind (setting.Plain p) = kind.Option
+option_kind (setting.Custom c) = kind.CustomOption
+
 -- what kind of piece a statement is
 abbrev pub statement_kind : Statement → Kind
 statement_kind (statement.Syntax s) = kind.Syntax
 statement_kind (statement.Import i) = kind.Import
 statement_kind (statement.Package p) = kind.Package
-statement_kind (statement.Option o) = kind.Option
+statement_kind (statement.Option o) = option_kind o.setting
 statement_kind (statement.Field f) = field_kind f.label
 statement_kind (statement.MapField f) = kind.MapField
 statement_kind (statement.Reserved r) = kind.Reserved
@@ -53,6 +60,7 @@ kind_of (piece.Close i) = kind.Close
 abbrev pub in_file : Kind → Bool
 in_file kind.Import = true
 in_file kind.Option = true
+in_file kind.CustomOption = true
 in_file kind.Empty = true
 in_file kind.OpenMessage = true
 in_file kind.OpenEnum = true
@@ -71,6 +79,7 @@ in_message kind.Field = true
 in_message kind.LabeledField = true
 in_message kind.MapField = true
 in_message kind.Option = true
+in_message kind.CustomOption = true
 in_message kind.Reserved = true
 in_message kind.Extensions = true
 in_message kind.Empty = true
@@ -85,6 +94,7 @@ in_message _ = false
 abbrev pub in_enum : Kind → Bool
 in_enum kind.Value = true
 in_enum kind.Option = true
+in_enum kind.CustomOption = true
 in_enum kind.EnumReserved = true
 in_enum kind.Empty = true
 in_enum kind.Close = true
@@ -95,6 +105,7 @@ abbrev pub in_service : Kind → Bool
 in_service kind.Method = true
 in_service kind.OpenMethod = true
 in_service kind.Option = true
+in_service kind.CustomOption = true
 in_service kind.Empty = true
 in_service kind.Close = true
 in_service _ = false
@@ -107,11 +118,13 @@ allows context.File k = before_package k
 allows context.Packaged k = in_file k
 allows context.Message k = in_message k
 allows context.Oneof kind.Field = true
+allows context.Oneof kind.CustomOption = true
 allows context.Oneof kind.Close = true
 allows context.Oneof _ = false
 allows context.Enum k = in_enum k
 allows context.Service k = in_service k
 allows context.Method kind.Option = true
+allows context.Method kind.CustomOption = true
 allows context.Method kind.Empty = true
 allows context.Method kind.Close = true
 allows context.Method _ = false

@@ -6,6 +6,8 @@ use Rattle.proto_text.specs.declared.kind.TokenKind.{TokenKind}
 use Rattle.proto_text.specs.declared.kind.TokenKind.TheVariants.{Word, Number, Text, Punctuation}
 use Rattle.proto_text.specs.Values.{says}
 use Rattle.proto_text.specs.Tokens.{Lexeme}
+use Rattle.proto_base.specs.declared.profile.Profile.{Profile}
+use Rattle.proto_base.specs.declared.profile.Profile.TheVariants as profile
 use Rattle.proto_tree.specs.declared.class.Class.{Class}
 use Rattle.proto_tree.specs.declared.class.Class.TheVariants as class
 use Rattle.proto_tree.specs.declared.class.Expected.TheVariants as want
@@ -90,6 +92,7 @@ marks =
     ∷ row (codes "=") class.Equals
     ∷ row (codes ".") class.Dot
     ∷ row (codes "-") class.Minus
+    ∷ row (codes ":") class.Colon
     ∷ []
 
 -- a string whose value is `proto2` or `proto3`, or another one
@@ -108,7 +111,18 @@ class_by Punctuation w = class_in marks class.Other w
 abbrev pub is_listed : List ℕ → Bool
 is_listed w = not (fits (want.One class.Name) (class_by Word w))
 
--- the tokens from the n-th on as the grammar sees them
+-- the class of a token in a language: as written a `(` may stand before the name of an option, too
+abbrev pub class_as : Profile → Class → Class
+class_as profile.Core c = c
+class_as profile.AsWritten class.LeftParenthesis = class.NameParenthesis
+class_as profile.AsWritten c = c
+
+-- the tokens from the n-th on as the grammar of the language sees them
+abbrev pub classes_in : Profile → ℕ → List Lexeme → List Classed
+classes_in p n [] = []
+classes_in p n (l ∷ ls) =
+    record { class = class_as p (class_by l.kind l.text); at = n } ∷ classes_in p (suc n) ls
+
+-- the same in the core language
 abbrev pub classes : ℕ → List Lexeme → List Classed
-classes n [] = []
-classes n (l ∷ ls) = record { class = class_by l.kind l.text; at = n } ∷ classes (suc n) ls
+classes n ls = classes_in profile.Core n ls

@@ -1,7 +1,7 @@
 //! Tokens as the grammar sees them.
 
 ghost use Rattle.std.specs.Prelude.{◌≡◌};
-ghost use Rattle.proto_tree.specs.Classes.{is_word as word, is_value_name as value_name, is_label as label, is_text as text, fits};
+ghost use Rattle.proto_tree.specs.Classes.{is_word as word, is_value_name as value_name, is_label as label, is_text as text, is_element as element, is_atom as atom, is_parenthesis as parenthesis, fits};
 
 /// What the grammar knows of a token.
 #[derive(Clone, Copy)]
@@ -52,6 +52,9 @@ pub enum Class {
     Equals,
     Dot,
     Minus,
+    Colon,
+    /// `(` where it may stand before the name of an option, too.
+    NameParenthesis,
     /// No token of a text.
     Other,
 }
@@ -79,6 +82,14 @@ pub enum Expected {
     ValueName,
     Label,
     Text,
+    /// A token of a value in braces: any but a word, a brace, `:` and `[`.
+    Atom,
+    /// The same behind a `:`: it may be a `[`, too.
+    Element,
+    /// No token.
+    Nothing,
+    /// `(`
+    Parenthesis,
 }
 
 impl Class {
@@ -90,7 +101,8 @@ impl Class {
             Class::Open | Class::Close | Class::LeftBracket | Class::RightBracket => false,
             Class::LeftParenthesis | Class::RightParenthesis => false,
             Class::Less | Class::Greater | Class::Semicolon | Class::Comma => false,
-            Class::Equals | Class::Dot | Class::Minus | Class::Other => false,
+            Class::Equals | Class::Dot | Class::Minus | Class::Colon => false,
+            Class::NameParenthesis | Class::Other => false,
             _ => true,
         }
     }
@@ -121,6 +133,33 @@ impl Class {
             _ => false,
         }
     }
+
+    fn is_parenthesis(self) -> bool
+        ensures { result ≡ parenthesis self }
+    {
+        match self {
+            Class::LeftParenthesis | Class::NameParenthesis => true,
+            _ => false,
+        }
+    }
+
+    fn is_element(self) -> bool
+        ensures { result ≡ element self }
+    {
+        match self {
+            Class::Open | Class::Close | Class::Colon => false,
+            class => !class.is_word(),
+        }
+    }
+
+    fn is_atom(self) -> bool
+        ensures { result ≡ atom self }
+    {
+        match self {
+            Class::LeftBracket => false,
+            class => class.is_element(),
+        }
+    }
 }
 
 impl Expected {
@@ -135,6 +174,10 @@ impl Expected {
             Expected::ValueName => class.is_value_name(),
             Expected::Label => class.is_label(),
             Expected::Text => class.is_text(),
+            Expected::Atom => class.is_atom(),
+            Expected::Element => class.is_element(),
+            Expected::Nothing => false,
+            Expected::Parenthesis => class.is_parenthesis(),
         }
     }
 }

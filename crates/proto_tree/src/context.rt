@@ -1,9 +1,10 @@
 //! Where a piece may stand.
 
 ghost use Rattle.std.specs.Prelude.{◌≡◌};
-ghost use Rattle.proto_tree.specs.Tree.{statement_kind, header_kind, kind_of, in_file, in_message, in_enum, in_service, before_package, allows, after};
+ghost use Rattle.proto_tree.specs.Tree.{option_kind, statement_kind, header_kind, kind_of, in_file, in_message, in_enum, in_service, before_package, allows, after};
 
 use crate::piece::{Header, Piece, Statement};
+use crate::tree::Setting;
 
 /// Where a piece stands: at the start of a file, later in it, behind its package, or in a block.
 #[derive(Clone, Copy)]
@@ -28,7 +29,10 @@ pub enum Kind {
     Syntax,
     Import,
     Package,
+    /// An option that is set by its word.
     Option,
+    /// An option that is set by the name of an extension.
+    CustomOption,
     /// A field without a label.
     Field,
     LabeledField,
@@ -49,6 +53,16 @@ pub enum Kind {
     Close,
 }
 
+/// What kind of option it is.
+fn option_kind(setting: &Setting) -> Kind
+    ensures { result ≡ option_kind setting.now }
+{
+    match setting {
+        Setting::Plain(_) => Kind::Option,
+        Setting::Custom(_) => Kind::CustomOption,
+    }
+}
+
 /// What kind of piece a statement is.
 pub fn statement_kind(statement: &Statement) -> Kind
     ensures { result ≡ statement_kind statement.now }
@@ -57,7 +71,7 @@ pub fn statement_kind(statement: &Statement) -> Kind
         Statement::Syntax(_) => Kind::Syntax,
         Statement::Import(_) => Kind::Import,
         Statement::Package(_) => Kind::Package,
-        Statement::Option(_) => Kind::Option,
+        Statement::Option(option) => option_kind(&option.setting),
         Statement::Field(field) => match field.label {
             Some(_) => Kind::LabeledField,
             None => Kind::Field,
@@ -102,7 +116,7 @@ fn in_file(kind: Kind) -> bool
     ensures { result ≡ in_file kind }
 {
     match kind {
-        Kind::Import | Kind::Option | Kind::Empty => true,
+        Kind::Import | Kind::Option | Kind::CustomOption | Kind::Empty => true,
         Kind::OpenMessage | Kind::OpenEnum | Kind::OpenService | Kind::OpenExtend => true,
         _ => false,
     }
@@ -123,7 +137,8 @@ fn in_message(kind: Kind) -> bool
     ensures { result ≡ in_message kind }
 {
     match kind {
-        Kind::Field | Kind::LabeledField | Kind::MapField | Kind::Option => true,
+        Kind::Field | Kind::LabeledField | Kind::MapField => true,
+        Kind::Option | Kind::CustomOption => true,
         Kind::Reserved | Kind::Extensions | Kind::Empty => true,
         Kind::OpenMessage | Kind::OpenOneof | Kind::OpenEnum | Kind::OpenExtend => true,
         Kind::Close => true,
@@ -136,7 +151,8 @@ fn in_enum(kind: Kind) -> bool
     ensures { result ≡ in_enum kind }
 {
     match kind {
-        Kind::Value | Kind::Option | Kind::EnumReserved | Kind::Empty => true,
+        Kind::Value | Kind::EnumReserved | Kind::Empty => true,
+        Kind::Option | Kind::CustomOption => true,
         Kind::Close => true,
         _ => false,
     }
@@ -147,7 +163,8 @@ fn in_service(kind: Kind) -> bool
     ensures { result ≡ in_service kind }
 {
     match kind {
-        Kind::Method | Kind::OpenMethod | Kind::Option | Kind::Empty => true,
+        Kind::Method | Kind::OpenMethod | Kind::Empty => true,
+        Kind::Option | Kind::CustomOption => true,
         Kind::Close => true,
         _ => false,
     }
@@ -167,13 +184,13 @@ impl Context {
             Context::Packaged => in_file(kind),
             Context::Message => in_message(kind),
             Context::Oneof => match kind {
-                Kind::Field | Kind::Close => true,
+                Kind::Field | Kind::CustomOption | Kind::Close => true,
                 _ => false,
             },
             Context::Enum => in_enum(kind),
             Context::Service => in_service(kind),
             Context::Method => match kind {
-                Kind::Option | Kind::Empty | Kind::Close => true,
+                Kind::Option | Kind::CustomOption | Kind::Empty | Kind::Close => true,
                 _ => false,
             },
             Context::Extend => match kind {

@@ -6,7 +6,8 @@ ghost use Rattle.proto_tree.specs.File.{service_item_tree, member_tree, item_tre
 use crate::context::Context;
 use crate::piece::Statement;
 use crate::tree::{
-    EnumItem, Extension, Field, Item, Member, Method, MethodEnd, MethodItem, ServiceItem,
+    EnumItem, Extension, Item, Member, Method, MethodEnd, MethodItem, OneofItem, ServiceItem,
+    Setting,
 };
 
 /// What stands in a block that holds no other block: of an enum, a oneof or a method.
@@ -38,17 +39,17 @@ pub trait Single: Drop {
     ghost holds_no_block: { (h : Header) → allows CONTEXT (header_kind h) ≡ false };
 }
 
-impl Single for Field {
+impl Single for OneofItem {
     ghost use Rattle.std.specs.Prelude.{refl};
     ghost use Rattle.proto_tree.specs.declared.context.Context.TheVariants as context;
     ghost use Rattle.proto_tree.specs.declared.piece.Header.TheVariants as header;
-    ghost use Rattle.proto_tree.specs.File.{field_tree};
+    ghost use Rattle.proto_tree.specs.File.{oneof_item_tree};
 
     ghost CONTEXT = { context.Oneof };
 
     const CONTEXT: Context = Context::Oneof;
 
-    ghost tree = { field_tree };
+    ghost tree = { oneof_item_tree };
 
     fn of(statement: Statement) -> Option<Self> {
         match statement {
@@ -57,7 +58,14 @@ impl Single for Field {
                     drop(field);
                     None
                 }
-                None => Some(field),
+                None => Some(OneofItem::Field(field)),
+            },
+            Statement::Option(option) => match option.setting {
+                Setting::Plain(_) => {
+                    drop(option);
+                    None
+                }
+                Setting::Custom(_) => Some(OneofItem::Option(option)),
             },
             other => {
                 drop(other);

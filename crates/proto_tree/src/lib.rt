@@ -23,13 +23,13 @@ mod tree;
 mod words;
 
 pub use list::Sequence;
-pub use parsing::{ParseFault, parse};
-pub use steps::{Steps, parse_counted};
+pub use parsing::{ParseFault, parse, parse_as};
+pub use steps::{Steps, parse_counted, parse_counted_as};
 pub use tree::{
-    Behind, Block, Constant, Dotted, Enum, EnumItem, Extend, Extension, Extensions, Field,
-    FieldType, File, Import, Item, Joined, MapField, Member, Message, Method, MethodEnd,
-    MethodItem, MethodType, Oneof, Option_, Package, Range, RangeEnd, Reference, Reserved,
-    ReservedList, Separated, Service, ServiceItem, Setting, Settings, Signature, Signed, Syntax,
-    UpTo, Value,
+    Aggregate, Atom, Behind, Block, Constant, Custom, CustomValue, Dotted, Enum, EnumItem, Extend,
+    Extension, Extensions, Field, FieldType, File, Import, Item, Joined, MapField, Member, Message,
+    Method, MethodEnd, MethodItem, MethodType, Oneof, OneofItem, Option_, Package, Plain, Range,
+    RangeEnd, Reference, Reserved, ReservedList, Separated, Service, ServiceItem, Setting,
+    Settings, Signature, Signed, Syntax, UpTo, Value,
 };
 pub use words::{is_listed, may_name_value};

@@ -14,7 +14,7 @@ use std::alloc::Global;
 fn method_type(alloc: Global, rest: &[Lexeme]) -> Result<(MethodType, &[Lexeme]), Stop>
     ensures { Gives (λ x. (x.0, x.1.now)) result (method_type_at rest.now) }
 {
-    let (open, rest) = one(rest, Class::LeftParenthesis)?;
+    let (open, rest) = take(rest, Expected::Parenthesis)?;
     let (stream, rest) = option(rest, Expected::One(Class::Stream));
     let (reference, rest) = reference(alloc, rest)?;
     let (close, rest) = one(rest, Class::RightParenthesis)?;

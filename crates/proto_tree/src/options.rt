@@ -1,13 +1,17 @@
 //! Reading options and their values.
 
-ghost use Rattle.std.specs.Prelude.{◌≡◌, true};
-ghost use Rattle.proto_tree.specs.Reading.{Gives, starts, stated, token, many, signed_at, joined_at, constant_at, setting_at, settings_at, maybe_settings, option_at};
+ghost use Rattle.std.specs.Prelude.{◌≡◌, true, false};
+ghost use Rattle.proto_tree.specs.Flat.{other_expected};
+ghost use Rattle.proto_tree.specs.Reading.{Gives, starts, stated, token, many, signed_at, joined_at, constant_at, setting_at, settings_at, maybe_settings, option_at, within_at, aggregate_at, custom_at, custom_value_at, plain_at};
 
 use crate::class::{Class, Expected, Lexeme};
 use crate::list::Sequence;
 use crate::piece::{Piece, Statement};
-use crate::reading::{Listed, Stop, first, one, option, separated_items, starts, take, three};
-use crate::tree::{Constant, Joined, Option_, Setting, Settings, Signed};
+use crate::reading::{Listed, Stop, first, more_items, one, option, separated_items, starts, take};
+use crate::tree::{
+    Aggregate, Atom, Constant, Custom, CustomValue, Joined, Option_, Plain, Reference, Setting,
+    Settings, Signed,
+};
 use std::alloc::Global;
 
 /// A number, with a `-` before it where there is one.
@@ -46,6 +50,67 @@ fn joined_texts(alloc: Global, rest: &[Lexeme]) -> Result<(Joined, &[Lexeme]), S
     Ok((Joined { first, rest: more }, rest))
 }
 
+/// What stands between the braces of a value, and the brace that ends it.
+fn within(alloc: Global, tokens: &[Lexeme]) -> Result<(Sequence<Atom>, u32, &[Lexeme]), Stop>
+    ensures { Gives (λ x. ((x.0, x.1), x.2.now)) result (within_at false 0 tokens.now) }
+{
+    let mut atoms = Sequence::new(alloc);
+    let mut rest = tokens;
+    let mut depth: usize = 0;
+    let mut colon = false;
+    for _ in 0..tokens.len() {
+        let [token, after @ ..] = rest else {
+            return Err(Stop::Syntax);
+        };
+        let atom = match token.class {
+            Class::Close => {
+                if depth == 0 {
+                    return Ok((atoms, token.at, after));
+                }
+                depth -= 1;
+                Atom::Close(token.at)
+            }
+            Class::Open => {
+                depth += 1;
+                Atom::Open(token.at)
+            }
+            Class::Colon => Atom::Colon(token.at),
+            class => {
+                if Expected::OptionName.fits(class) {
+                    Atom::Word(token.at)
+                } else if other_expected(colon).fits(class) {
+                    Atom::Other(token.at)
+                } else {
+                    return Err(Stop::Syntax);
+                }
+            }
+        };
+        colon = Expected::One(Class::Colon).fits(token.class);
+        atoms.push(atom)?;
+        rest = after;
+    }
+    Err(Stop::Syntax)
+}
+
+fn other_expected(colon: bool) -> Expected
+    ensures { result ≡ other_expected colon }
+{
+    if colon {
+        return Expected::Element;
+    }
+    Expected::Atom
+}
+
+#[tactic(auto, unfolding(crate::specs::Reading::aggregate_at))]
+fn aggregate(alloc: Global, rest: &[Lexeme]) -> Result<(Aggregate, &[Lexeme]), Stop>
+    requires { starts (Expected.One Class.Open) rest.now ≡ true }
+    ensures { Gives (λ x. (x.0, x.1.now)) result (aggregate_at rest.now) }
+{
+    let (open, rest) = first(rest, Expected::One(Class::Open));
+    let (atoms, close, rest) = within(alloc, rest)?;
+    Ok((Aggregate { open, atoms, close }, rest))
+}
+
 /// The value of an option.
 #[tactic(auto, unfolding(crate::specs::Reading::constant_at))]
 fn constant(alloc: Global, rest: &[Lexeme]) -> Result<(Constant, &[Lexeme]), Stop>
@@ -63,21 +128,74 @@ fn constant(alloc: Global, rest: &[Lexeme]) -> Result<(Constant, &[Lexeme]), Sto
     Ok((Constant::Number(number), rest))
 }
 
-#[tactic(auto, unfolding(crate::specs::Reading::setting_at))]
-fn setting(alloc: Global, rest: &[Lexeme]) -> Result<(Setting, &[Lexeme]), Stop>
-    ensures { Gives (λ x. (x.0, x.1.now)) result (setting_at rest.now) }
+/// The value of a custom option.
+#[tactic(auto, unfolding(crate::specs::Reading::custom_value_at))]
+fn custom_value(alloc: Global, rest: &[Lexeme]) -> Result<(CustomValue, &[Lexeme]), Stop>
+    ensures { Gives (λ x. (x.0, x.1.now)) result (custom_value_at rest.now) }
+{
+    if starts(rest, Expected::One(Class::Open)) {
+        let (value, rest) = aggregate(alloc, rest)?;
+        return Ok((CustomValue::Aggregate(value), rest));
+    }
+    let (value, rest) = constant(alloc, rest)?;
+    Ok((CustomValue::Constant(value), rest))
+}
+
+/// The name of an extension, in parentheses, and words behind it, with a value.
+#[tactic(auto, unfolding(crate::specs::Reading::custom_at))]
+fn custom(alloc: Global, rest: &[Lexeme]) -> Result<(Custom, &[Lexeme]), Stop>
+    requires { starts (Expected.One Class.NameParenthesis) rest.now ≡ true }
+    ensures { Gives (λ x. (x.0, x.1.now)) result (custom_at rest.now) }
+{
+    let (open, rest) = first(rest, Expected::One(Class::NameParenthesis));
+    let (dot, rest) = option(rest, Expected::One(Class::Dot));
+    let (words, rest) = separated_items(alloc, rest, Class::Dot, Expected::Word, Expected::Word)?;
+    let name = Reference { dot, words };
+    let (close, rest) = one(rest, Class::RightParenthesis)?;
+    let (path, rest) = more_items(alloc, rest, Class::Dot, Expected::OptionName)?;
+    let (equals, rest) = one(rest, Class::Equals)?;
+    let (value, rest) = custom_value(alloc, rest)?;
+    Ok((
+        Custom {
+            open,
+            name,
+            close,
+            path,
+            equals,
+            value,
+        },
+        rest,
+    ))
+}
+
+/// `name = value`
+#[tactic(auto, unfolding(crate::specs::Reading::plain_at))]
+fn plain(alloc: Global, rest: &[Lexeme]) -> Result<(Plain, &[Lexeme]), Stop>
+    ensures { Gives (λ x. (x.0, x.1.now)) result (plain_at rest.now) }
 {
     let (name, rest) = take(rest, Expected::OptionName)?;
     let (equals, rest) = one(rest, Class::Equals)?;
     let (value, rest) = constant(alloc, rest)?;
     Ok((
-        Setting {
+        Plain {
             name,
             equals,
             value,
         },
         rest,
     ))
+}
+
+#[tactic(auto, unfolding(crate::specs::Reading::setting_at))]
+fn setting(alloc: Global, rest: &[Lexeme]) -> Result<(Setting, &[Lexeme]), Stop>
+    ensures { Gives (λ x. (x.0, x.1.now)) result (setting_at rest.now) }
+{
+    if starts(rest, Expected::One(Class::NameParenthesis)) {
+        let (custom, rest) = custom(alloc, rest)?;
+        return Ok((Setting::Custom(custom), rest));
+    }
+    let (plain, rest) = plain(alloc, rest)?;
+    Ok((Setting::Plain(plain), rest))
 }
 
 impl Listed for Setting {
@@ -110,16 +228,12 @@ pub fn settings(alloc: Global, rest: &[Lexeme]) -> Result<(Option<Settings>, &[L
 pub fn option_statement(alloc: Global, rest: &[Lexeme]) -> Result<(Piece, &[Lexeme]), Stop>
     ensures { Gives (λ x. (x.0, x.1.now)) result (stated Statement.Option option_at rest.now) }
 {
-    let keyword = Expected::One(Class::Option);
-    let equals = Expected::One(Class::Equals);
-    let ((keyword, name, equals), rest) = three(rest, keyword, Expected::OptionName, equals)?;
-    let (value, rest) = constant(alloc, rest)?;
+    let (keyword, rest) = one(rest, Class::Option)?;
+    let (setting, rest) = setting(alloc, rest)?;
     let (semicolon, rest) = one(rest, Class::Semicolon)?;
     let option = Option_ {
         keyword,
-        name,
-        equals,
-        value,
+        setting,
         semicolon,
     };
     Ok((Piece::Statement(Statement::Option(option)), rest))

@@ -4,12 +4,13 @@ ghost use Rattle.std.specs.Prelude.{◌≡◌, ◌⊎◌, IfOk, IfErr, IsErrAnd,
 ghost use Rattle.proto_text.specs.Tokens.{AreTokens};
 ghost use Rattle.proto_tree.specs.declared.parsing.ParseFault.TheVariants.{NoMemory};
 ghost use Rattle.proto_tree.specs.File.{tree_of_file};
-ghost use Rattle.proto_tree.specs.Reads.{Reads, IsParseFault, IsParsed, is_fault_or_memory, fault_offset, fault_number, fault_name};
+ghost use Rattle.proto_tree.specs.Reads.{Reads, ReadsIn, IsParseFault, IsParseFaultIn, IsParsed, is_fault_or_memory, is_fault_or_memory_in, fault_offset, fault_number, fault_name};
 ghost use Rattle.proto_tree.specs.Tree.{Tree};
 
 use crate::classing::{lexemes, place};
 use crate::files::{Unread, file};
 use crate::tree::File;
+use proto_base::Profile;
 use proto_text::{Source, Token};
 use std::alloc::Global;
 use thiserror::Error;
@@ -72,12 +73,17 @@ impl From<proto_base::NoMemory> for ParseFault {
 }
 
 /// The same, with one clause for all answers.
-fn read(alloc: Global, source: &Source, tokens: &[Token]) -> Result<File, ParseFault>
+fn read(
+    alloc: Global,
+    source: &Source,
+    tokens: &[Token],
+    profile: Profile,
+) -> Result<File, ParseFault>
     requires { AreTokens source.now tokens.now }
-    ensures { IsParsed source.now tokens.now result }
+    ensures { IsParsed profile source.now tokens.now result }
 {
     let _bytes = source.as_bytes();
-    let found = lexemes(alloc, source, tokens)?;
+    let found = lexemes(alloc, source, tokens, profile)?;
     match file(alloc, &found) {
         Ok(file) => Ok(file),
         Err(Unread::Syntax(at)) => Err(ParseFault::Syntax {
@@ -90,9 +96,9 @@ fn read(alloc: Global, source: &Source, tokens: &[Token]) -> Result<File, ParseF
     }
 }
 
-/// The tree of a file, from the tokens of its text. Where they are not of the grammar, or more than
-/// 32 braces are open at once, the answer is that fault, with its offset. Otherwise it fails only
-/// when out of memory.
+/// The tree of a file of the core language, from the tokens of its text. Where they are not of the
+/// grammar, or more than 32 braces are open at once, the answer is that fault, with its offset.
+/// Otherwise it fails only when out of memory.
 pub fn parse(alloc: Global, source: &Source, tokens: &[Token]) -> Result<File, ParseFault>
     requires { AreTokens source.now tokens.now }
     // The answered tree is well-formed and has these tokens, and no more than 32 braces are open at
@@ -107,5 +113,28 @@ pub fn parse(alloc: Global, source: &Source, tokens: &[Token]) -> Result<File, P
     ensures only_fault { (f : ParseFault) → IsParseFault source.now tokens.now f
         → IsErrAnd result (λ e. (e ≡ f) ⊎ (e ≡ NoMemory)) }
 {
-    read(alloc, source, tokens)
+    parse_as(alloc, source, tokens, Profile::Core)
+}
+
+/// The tree of a file of a language, from the tokens of its text; otherwise as `parse`.
+pub fn parse_as(
+    alloc: Global,
+    source: &Source,
+    tokens: &[Token],
+    profile: Profile,
+) -> Result<File, ParseFault>
+    requires { AreTokens source.now tokens.now }
+    // The answered tree is well-formed and has these tokens, and no more than 32 braces are open at
+    // once.
+    ensures found { IfOk result (λ f. ReadsIn profile source.now tokens.now (tree_of_file f)) }
+    // There is no other.
+    ensures only { (t : Tree) → ReadsIn profile source.now tokens.now t
+        → MatchResult result (λ f. t ≡ tree_of_file f) (λ e. e ≡ NoMemory) }
+    // Where there is none, or too many braces are open, which fault it is, and where.
+    ensures fault { IfErr result (is_fault_or_memory_in profile source.now tokens.now) }
+    // There is no other fault.
+    ensures only_fault { (f : ParseFault) → IsParseFaultIn profile source.now tokens.now f
+        → IsErrAnd result (λ e. (e ≡ f) ⊎ (e ≡ NoMemory)) }
+{
+    read(alloc, source, tokens, profile)
 }

@@ -127,7 +127,8 @@ impl Listed for u32 {
     }
 }
 
-fn more_items<T: Listed>(
+/// Items, each behind a separator, as often as there is one.
+pub fn more_items<T: Listed>(
     alloc: Global,
     tokens: &[Lexeme],
     separator: Class,

@@ -5,11 +5,12 @@ ghost use Rattle.proto_text.specs.Tokens.{AreTokens};
 ghost use Rattle.proto_tree.specs.declared.parsing.ParseFault.{ParseFault};
 ghost use Rattle.proto_tree.specs.declared.parsing.ParseFault.TheVariants.{NoMemory};
 ghost use Rattle.proto_tree.specs.File.{tree_of_file};
-ghost use Rattle.proto_tree.specs.Reads.{IsParseFault, Reads, is_fault_or_memory};
+ghost use Rattle.proto_tree.specs.Reads.{IsParseFault, IsParseFaultIn, Reads, ReadsIn, is_fault_or_memory, is_fault_or_memory_in};
 ghost use Rattle.proto_tree.specs.Tree.{Tree};
 
-use crate::parsing::{ParseFault, parse};
+use crate::parsing::{ParseFault, parse_as};
 use crate::tree::File;
+use proto_base::Profile;
 use proto_text::{Source, Token};
 use std::alloc::Global;
 use std::marker::Model;
@@ -67,6 +68,33 @@ pub fn parse_counted(
         → IsErrAnd result (λ e. (e ≡ f) ⊎ (e ≡ NoMemory)) }
     ensures counted { steps.new ≡ steps.old + 1 }
 {
+    parse_counted_as(alloc, source, tokens, Profile::Core, steps)
+}
+
+/// The tree of a file of a language, from the tokens of its text, as `parse_as` answers it. The
+/// count rises by one, whatever is answered.
+pub fn parse_counted_as(
+    alloc: Global,
+    source: &Source,
+    tokens: &[Token],
+    profile: Profile,
+    steps: &mut Steps,
+) -> Result<File, ParseFault>
+    requires tokens { AreTokens source.now tokens.now }
+    requires steps { steps.old + 1 < 2 ^ 64 }
+    // The answered tree is well-formed and has these tokens, and no more than 32 braces are open at
+    // once.
+    ensures found { IfOk result (λ f. ReadsIn profile source.now tokens.now (tree_of_file f)) }
+    // There is no other.
+    ensures only { (t : Tree) → ReadsIn profile source.now tokens.now t
+        → MatchResult result (λ f. t ≡ tree_of_file f) (λ e. e ≡ NoMemory) }
+    // Where there is none, or too many braces are open, which fault it is, and where.
+    ensures fault { IfErr result (is_fault_or_memory_in profile source.now tokens.now) }
+    // There is no other fault.
+    ensures only_fault { (f : ParseFault) → IsParseFaultIn profile source.now tokens.now f
+        → IsErrAnd result (λ e. (e ≡ f) ⊎ (e ≡ NoMemory)) }
+    ensures counted { steps.new ≡ steps.old + 1 }
+{
     steps.count += 1;
-    parse(alloc, source, tokens)
+    parse_as(alloc, source, tokens, profile)
 }

@@ -49,6 +49,24 @@ pub struct Joined {
     pub rest: Sequence<u32>,
 }
 
+/// A token between the braces of a value: a brace, a `:`, a word, or another one.
+#[derive(Clone, Copy)]
+pub enum Atom {
+    Open(u32),
+    Close(u32),
+    Colon(u32),
+    Word(u32),
+    Other(u32),
+}
+
+/// `{ .. }`, in which as many braces are closed as are opened.
+#[derive(Drop)]
+pub struct Aggregate {
+    pub open: u32,
+    pub atoms: Sequence<Atom>,
+    pub close: u32,
+}
+
 /// The value of an option.
 #[derive(Drop)]
 pub enum Constant {
@@ -57,12 +75,37 @@ pub enum Constant {
     Text(Joined),
 }
 
-/// `name = value`, between brackets.
+/// `name = value`
 #[derive(Drop)]
-pub struct Setting {
+pub struct Plain {
     pub name: u32,
     pub equals: u32,
     pub value: Constant,
+}
+
+/// The value of a custom option.
+#[derive(Drop)]
+pub enum CustomValue {
+    Constant(Constant),
+    Aggregate(Aggregate),
+}
+
+/// `(a.name).field = value`: the name of an extension, and words behind it.
+#[derive(Drop)]
+pub struct Custom {
+    pub open: u32,
+    pub name: Reference,
+    pub close: u32,
+    pub path: Sequence<Behind<u32>>,
+    pub equals: u32,
+    pub value: CustomValue,
+}
+
+/// An option that is set, by its word or by the name of an extension.
+#[derive(Drop)]
+pub enum Setting {
+    Plain(Plain),
+    Custom(Custom),
 }
 
 /// `[name = value, ..]`
@@ -103,9 +146,7 @@ pub struct Package {
 #[derive(Drop)]
 pub struct Option_ {
     pub keyword: u32,
-    pub name: u32,
-    pub equals: u32,
-    pub value: Constant,
+    pub setting: Setting,
     pub semicolon: u32,
 }
 
@@ -250,7 +291,7 @@ pub struct Block<T: Drop> {
 pub type Message = Block<Member>;
 
 /// `oneof name { .. }`
-pub type Oneof = Block<Field>;
+pub type Oneof = Block<OneofItem>;
 
 /// `enum Name { .. }`
 pub type Enum = Block<EnumItem>;
@@ -287,6 +328,13 @@ pub enum Member {
     Reserved(Reserved<u32>),
     Extensions(Extensions),
     Empty(u32),
+}
+
+/// What stands in a oneof: a field without a label, or a custom option.
+#[derive(Drop)]
+pub enum OneofItem {
+    Field(Field),
+    Option(Option_),
 }
 
 /// What stands in an enum.

@@ -1,10 +1,11 @@
 //! The class of a token by its kind and its text.
 
 ghost use Rattle.std.specs.Prelude.{◌≡◌, [], ◌∷◌};
-ghost use Rattle.proto_tree.specs.Words.{class_in, of_length, listed, marks, text_class, class_by, is_listed};
+ghost use Rattle.proto_tree.specs.Words.{class_in, of_length, listed, marks, text_class, class_by, is_listed, class_as};
 ghost use Rattle.proto_tree.specs.Classes.{fits};
 
 use crate::class::{Class, Expected};
+use proto_base::Profile;
 use proto_text::{TokenKind, stands_for};
 
 fn of_two(text: &str) -> Class
@@ -134,6 +135,7 @@ fn class_of_mark(mark: u8) -> Class
         b'<' => Class::Less,
         b'>' => Class::Greater,
         b'-' => Class::Minus,
+        b':' => Class::Colon,
         _ => Class::Other,
     }
 }
@@ -166,6 +168,19 @@ pub fn token_class(kind: TokenKind, text: &str) -> Class
         TokenKind::Number => Class::Number,
         TokenKind::Text => text_class(text),
         TokenKind::Punctuation => mark_class(text),
+    }
+}
+
+/// The class of a token in a language.
+pub fn class_as(profile: Profile, class: Class) -> Class
+    ensures { result ≡ class_as profile class }
+{
+    match profile {
+        Profile::Core => class,
+        Profile::AsWritten => match class {
+            Class::LeftParenthesis => Class::NameParenthesis,
+            class => class,
+        },
     }
 }
 

@@ -6,7 +6,8 @@ mod errand;
 ghost use Rattle.std.specs.Prelude.{◌≡◌, ◌≤◌, IfOk};
 
 use errand::{Errand, Way, errand_for, way_for};
-use protoref_arguments::{UsageError, parse_arguments};
+use proto_base::Profile;
+use protoref_arguments::{Request, UsageError, asks_version, language_of, parse_arguments};
 use protoref_commands::{
     Command, FolderStore, Retained, RunFault, Status, Store, StoreFault, fault_line, run_keeping,
     write_text,
@@ -35,25 +36,37 @@ fn main(rt: HostRuntime) -> ExitCode {
 fn answer<R: Files<File = File> + Env + Clock + Print + AllocGlobal>(
     rt: &R,
 ) -> Result<u8, &'static str> {
-    let request = match words(rt) {
-        Ok(words) => parse_arguments(rt.alloc(), words.as_slice()),
+    let asked = match words(rt) {
+        Ok(words) => asked_by(rt, words.as_slice()),
         Err(fault) => Err(fault),
     };
-    match request {
-        Ok(request) => carry_out(rt, errand_for(request)),
+    match asked {
+        Ok((profile, request)) => carry_out(rt, profile, errand_for(request)),
         Err(UsageError::BadCommandLine) => Err(BAD_COMMAND_LINE),
         Err(UsageError::NoMemory) => Err(fault_line(&RunFault::NoMemory)),
     }
 }
 
+// The language of the schemas that the words ask for, and the request. Only of all words is the
+// version asked for.
+fn asked_by<R: AllocGlobal>(rt: &R, words: &[String]) -> Result<(Profile, Request), UsageError> {
+    if asks_version(words) {
+        return Ok((Profile::Core, Request::Version));
+    }
+    let (profile, words) = language_of(words);
+    let request = parse_arguments(rt.alloc(), words)?;
+    Ok((profile, request))
+}
+
 fn carry_out<R: Files<File = File> + Clock + Print + AllocGlobal>(
     rt: &R,
+    profile: Profile,
     errand: Errand,
 ) -> Result<u8, &'static str> {
     match errand {
         Errand::Print(text) => print_text(rt, text.as_str()),
         Errand::PrintVersion => print_text(rt, VERSION),
-        Errand::Run(command, root) => run_over(rt, command, root.as_str()),
+        Errand::Run(command, root) => run_over(rt, profile, command, root.as_str()),
     }
 }
 
@@ -74,13 +87,28 @@ fn words<R: Env + AllocGlobal>(rt: &R) -> Result<Vec<String>, UsageError> {
     }
 }
 
-// Runs a command over the folder at a path.
+// The store of the folder at a path, whose files are of a language.
+fn store_of<'a, R: Files + Clock + AllocGlobal>(
+    rt: &'a R,
+    profile: Profile,
+    root: &'a str,
+) -> FolderStore<'a, R>
+    ensures { ⟦<FolderStore<'a, R> as Store>⟧.failure_count result ≡ 0 }
+{
+    match profile {
+        Profile::Core => FolderStore::new(rt, root),
+        Profile::AsWritten => FolderStore::as_written(rt, root),
+    }
+}
+
+// Runs a command over the folder at a path, whose files are of a language.
 fn run_over<R: Files<File = File> + Clock + Print + AllocGlobal>(
     rt: &R,
+    profile: Profile,
     command: Command,
     root: &str,
 ) -> Result<u8, &'static str> {
-    let mut store = FolderStore::new(rt, root);
+    let mut store = store_of(rt, profile, root);
     let mut kept = Retained::new();
     let code = match begin(&mut store, way_for(&command)) {
         Ok(()) => {

@@ -3,3 +3,4 @@ mod Building
 mod Lines
 mod Marking
 mod Naming
+mod AskedLanguages

@@ -95,8 +95,6 @@ names_rule word = list_any (λ r. bytes_eq word (identifier r)) rules
 pub data AskedCommand : Type 0 where
   -- a text of help
   help : AskedCommand
-  -- the version of the program
-  version : AskedCommand
   -- the descriptors of the schemas in the folder ROOT
   compile_of : Path → AskedCommand
   -- what lint finds in the schemas in ROOT by the rules with these identifiers
@@ -142,18 +140,14 @@ asked_by_command command [] = taken command []
 asked_by_command command (word ∷ words) =
     if asks_help word then help else taken command (word ∷ words)
 
--- what words ask for where they are not those of the version: help, where the first asks for it;
--- else what the command asks for that the first names
+-- what the words of a command ask for: help, where the first asks for it; else what the command
+-- asks for that the first names
 abbrev pub asked_by_words : List Text → AskedCommand
 asked_by_words [] = bad_line
 asked_by_words (word ∷ words) = if asks_help word then help
     else option_map_or (λ command. asked_by_command command words) (command_named word) bad_line
 
--- words ask for the version: they are `--version` alone
+-- all words of a line ask for the version: they are `--version` alone
 abbrev pub asks_version : List Text → Bool
 asks_version (word ∷ []) = bytes_eq word (codes "--version")
 asks_version words = false
-
--- what the words of a command line ask for
-abbrev pub asked_by_line : List Text → AskedCommand
-asked_by_line words = if asks_version words then version else asked_by_words words

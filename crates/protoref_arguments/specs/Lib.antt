@@ -1,5 +1,6 @@
 pub mod CommandLines
 pub mod Common
+pub mod Languages
 pub mod Marked
 pub mod Matched
 pub mod Program

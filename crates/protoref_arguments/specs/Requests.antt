@@ -9,7 +9,7 @@ use Rattle.proto_base.specs.Texts.{Text}
 use Rattle.proto_lint_rules.specs.Rules.{identifier, is_chosen}
 use Rattle.proto_lint_rules.specs.declared.rule.Rule.{Rule}
 use Rattle.proto_lint_rules.specs.declared.rule_set.RuleSet.{RuleSet}
-use Rattle.protoref_arguments.specs.CommandLines.{AskedCommand, names_rule, help, version, compile_of, lint_of, rename_of, delete_field_of, add_import_of, drop_import_of, undo_of, log_of, recover_of, migrate_of, bad_line}
+use Rattle.protoref_arguments.specs.CommandLines.{AskedCommand, names_rule, help, compile_of, lint_of, rename_of, delete_field_of, add_import_of, drop_import_of, undo_of, log_of, recover_of, migrate_of, bad_line}
 use Rattle.protoref_arguments.specs.declared.request.Request.{Request}
 use Rattle.protoref_arguments.specs.declared.request.Request.TheVariants as request
 use Rattle.protoref_arguments.specs.declared.request.UsageError.{UsageError}
@@ -28,10 +28,11 @@ ask_for (name ∷ names) rule = name_rule (name ∷ names) rule
 abbrev pub IsSetOf : List Text → RuleSet → Type 0
 IsSetOf names set = (rule : Rule) → is_chosen set.chosen rule ≡ ask_for names rule
 
--- a request is what is asked for, text by text; what stands in a help is not said
+-- a request is what is asked for, text by text; what stands in a help is not said, and a command
+-- does not ask for the version
 abbrev pub IsRequest : AskedCommand → Request → Type 0
 IsRequest asked (request.Help text) = asked ≡ help
-IsRequest asked request.Version = asked ≡ version
+IsRequest asked request.Version = ⊥
 IsRequest asked (request.Compile root) = asked ≡ compile_of (string_bytes root)
 IsRequest asked (request.Lint root set) =
     (names : List Text) × (asked ≡ lint_of (string_bytes root) names) × IsSetOf names set

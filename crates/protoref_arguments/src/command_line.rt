@@ -7,7 +7,7 @@ ghost use Rattle.clap.specs.Walk.{all_of, first_of, rows_of, texts};
 ghost use Rattle.clap.specs.Words.{found_of, subcommand_rows_of};
 ghost use Rattle.proto_lint_rules.specs.Rules.{is_chosen};
 ghost use Rattle.proto_lint_rules.specs.declared.rule.Rule.{Rule};
-ghost use Rattle.protoref_arguments.specs.CommandLines.{asked_by_line, asked_by_words, asks_help, asks_version, names_rule, taken, lint, rename, delete_field, add_import, drop_import};
+ghost use Rattle.protoref_arguments.specs.CommandLines.{asked_by_words, asks_help, asks_version, names_rule, taken, lint, rename, delete_field, add_import, drop_import};
 ghost use Rattle.protoref_arguments.specs.Marked.{begins_dashed, is_bad_at, words_marked, marks_for_word};
 ghost use Rattle.protoref_arguments.specs.Matched.{asked_by_matches, asked_of, with_one, with_root, with_two};
 ghost use Rattle.protoref_arguments.specs.Requests.{IsAnswerTo, IsWordsFaultOf, IsHelpOf, IsSetFor, IsTextOf, name_rule};
@@ -19,29 +19,18 @@ use clap::{ArgMatches, Error};
 use proto_lint_rules::{Rule, RuleSet};
 use std::alloc::Global;
 
-/// Reads the words, of which the first is the program's name. `--version` alone behind it asks for the
-/// version. Behind the command each word is the text that it is, whatever it begins with, unless the
-/// first of them asks for help.
-/// `BadCommandLine` comes where the words are none of the program's, or name a rule that there is
-/// not; `NoMemory` where memory runs out.
-pub fn parse_arguments(alloc: Global, words: &[String]) -> Result<Request, UsageError>
-    ensures { IsAnswerTo (asked_by_line (drop 1 (map string_bytes words.now))) result }
-{
-    if asks_version(words) {
-        return Ok(Request::Version);
-    }
-    request_by_words(alloc, words)
-}
-
-// The words behind the program's name ask for the version.
-fn asks_version(words: &[String]) -> bool
+/// All words behind the program's name ask for the version: they are `--version` alone.
+pub fn asks_version(words: &[String]) -> bool
     ensures { result ≡ asks_version (drop 1 (map string_bytes words.now)) }
 {
     words.len() == 2 && words[1].as_str() == "--version"
 }
 
-// What the words ask for where they are not those of the version.
-fn request_by_words(alloc: Global, words: &[String]) -> Result<Request, UsageError>
+/// Reads the words of a command, of which the first is the program's name. Behind the command each
+/// word is the text that it is, whatever it begins with, unless the first of them asks for help.
+/// `BadCommandLine` comes where the words are no command's, as `--version` is none, or name a rule
+/// that there is not; `NoMemory` where memory runs out.
+pub fn parse_arguments(alloc: Global, words: &[String]) -> Result<Request, UsageError>
     ensures { IsAnswerTo (asked_by_words (drop 1 (map string_bytes words.now))) result }
 {
     let words = marked_words(alloc, words)?;

@@ -4,7 +4,9 @@
 mod command_line;
 mod commands;
 mod help;
+mod language;
 mod request;
 
-pub use command_line::parse_arguments;
+pub use command_line::{asks_version, parse_arguments};
+pub use language::language_of;
 pub use request::{Request, UsageError};

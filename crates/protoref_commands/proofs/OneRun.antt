@@ -73,6 +73,9 @@ refusal_line_once files (refusal.Captured path offset) (refusal.Captured file ot
 refusal_line_once files (refusal.Needed path offset) (refusal.Needed file other) e =
     ap (line_with (refusal_number (refusal.Needed path offset)) (refusal_name (refusal.Needed path offset)))
     (ap (λ (p : Text). place_text files p offset) e.0 ∙ ap (place_text files (string_bytes file)) e.1)
+refusal_line_once files (refusal.OptionValue path offset) (refusal.OptionValue file other) e =
+    ap (line_with (refusal_number (refusal.OptionValue path offset)) (refusal_name (refusal.OptionValue path offset)))
+    (ap (λ (p : Text). place_text files p offset) e.0 ∙ ap (place_text files (string_bytes file)) e.1)
 refusal_line_once files r s e = ap (refused_line files) e
 
 told_alike : (files : List FileOf) (a b : Result (List ChangeOf) JournalFault) (text also : List ℕ) (status end : Status) → IsSameAnswer a b → Tells files a text status → Tells files b also end → IsOnePrint text also status end

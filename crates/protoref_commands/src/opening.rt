@@ -26,8 +26,9 @@ pub(crate) fn open_described<S: Store>(
     ensures same { S.holds store.new ≡ S.holds store.old }
     ensures count { CountsLoad (S.failure_count store.old) (S.failure_count store.new) result }
 {
+    let profile = store.profile();
     let files = sound_files(alloc, store)?;
-    match DescribedSchema::open(alloc, files) {
+    match DescribedSchema::open_as(alloc, files, profile) {
         Ok(schema) => Ok(schema),
         Err(fault) => Err(LoadFault::from(fault)),
     }
@@ -45,8 +46,9 @@ pub(crate) fn open_checked<S: Store>(
     ensures same { S.holds store.new ≡ S.holds store.old }
     ensures count { CountsLoad (S.failure_count store.old) (S.failure_count store.new) result }
 {
+    let profile = store.profile();
     let files = sound_files(alloc, store)?;
-    match CheckedSchema::open(alloc, files) {
+    match CheckedSchema::open_as(alloc, files, profile) {
         Ok(schema) => Ok(schema),
         Err(fault) => Err(LoadFault::from(fault)),
     }

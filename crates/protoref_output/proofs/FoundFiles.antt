@@ -4,13 +4,14 @@ use Rattle.std.proofs.lemmas.Slice.Eq.{bytes_eq-Decides}
 use Rattle.proto_files.proofs.Common.{FileOf, file_at, IsBefore}
 use Rattle.protoref_output.specs.FoundLines.{text_of_path}
 use Rattle.proto_store.proofs.Common.{bytes_at, differs_if_less, same_text}
+use Rattle.proto_files.specs.GivenFiles.{no_file}
 
 -- a file with the path is the one that is looked up, since no two have one path
 pub text_of_file : (files : List FileOf) (k : ℕ) (path : List ℕ) → AllPairs (λ f g. IsBefore f.path g.path) files → k < length files → (file_at files k).path ≡ path → text_of_path path files ≡ (file_at files k).bytes
 text_of_file [] k path apart inside same = absurd (omega (arith, inside))
 text_of_file (file ∷ files) zero path apart inside same = ap (λ b. unwrap_or (cond b (Some file.bytes) (bytes_at path files)) []) ((bytes_eq-Decides path file.path).1 (sym same))
 text_of_file (file ∷ files) (suc k) path apart inside same =
-    let before : IsBefore file.path (file_at files k).path = apart 0 (suc k) (record { path = []; bytes = [] }) (omega arith) inside in
+    let before : IsBefore file.path (file_at files k).path = apart 0 (suc k) no_file (omega arith) inside in
     let other : bytes_eq path file.path ≡ false = same_text path file.path ∙ differs_if_less file.path path (subst (IsBefore file.path) same before) in
     ap (λ b. unwrap_or (cond b (Some file.bytes) (bytes_at path files)) []) other
     ∙ text_of_file files k path (λ i j d less within. apart (suc i) (suc j) d (omega (arith, less)) (omega (arith, within))) (omega (arith, inside)) same

@@ -51,8 +51,8 @@ fn write_change<W: Write>(writer: &mut W, change: &Change) -> Result<(), OutputF
 }
 
 /// The line of a refusal, ended by a line feed: `refused: NUMBER NAME`, and behind it
-/// ` path:line:column` of the reference in these files that would be captured or is needed. Fails
-/// only when out of memory.
+/// ` path:line:column` of the reference in these files that would be captured or is needed, or of
+/// the custom option. Fails only when out of memory.
 pub fn refusal_line(alloc: Global, refusal: &Refusal, files: &Files) -> Result<String, NoMemory>
     ensures { IfOk result (λ text. string_bytes text ≡ refused_line files.now refusal.now) }
 {
@@ -63,7 +63,7 @@ pub fn refusal_line(alloc: Global, refusal: &Refusal, files: &Files) -> Result<S
     Ok(format!(in alloc; "refused: {number} {name}{place}\n")?)
 }
 
-// The place of the reference that a refusal tells of, if it tells of one.
+// The place of the reference or of the custom option that a refusal tells of, if it tells of one.
 fn place_of_reference(alloc: Global, refusal: &Refusal, files: &Files) -> Result<String, NoMemory>
     ensures { IfOk result (λ text. string_bytes text ≡ reference_text files.now refusal.now) }
 {
@@ -75,6 +75,12 @@ fn place_of_reference(alloc: Global, refusal: &Refusal, files: &Files) -> Result
             *offset,
         ),
         Refusal::Needed { path, offset } => place_behind_space(
+            alloc,
+            files,
+            path.as_str(),
+            *offset,
+        ),
+        Refusal::OptionValue { path, offset } => place_behind_space(
             alloc,
             files,
             path.as_str(),

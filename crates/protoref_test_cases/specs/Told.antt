@@ -11,10 +11,12 @@ use Rattle.proto_edit_entries.specs.RefusalTable.{refusal_number, refusal_name}
 abbrev pub place_told : Path → ℕ → Text
 place_told path offset = codes " " ++ (path ++ (codes " " ++ decimal offset))
 
--- the place that is told with a refusal: the reference that is captured, or that needs the import
+-- the place that is told with a refusal: the reference that is captured, or that needs the import,
+-- or the custom option
 abbrev pub places_told : Refusal → Text
 places_told (refusal.Captured path offset) = place_told (string_bytes path) offset
 places_told (refusal.Needed path offset) = place_told (string_bytes path) offset
+places_told (refusal.OptionValue path offset) = place_told (string_bytes path) offset
 places_told _ = codes ""
 
 -- a refusal as `number name`, with the place of a reference where it has one

@@ -11,7 +11,7 @@ ghost use Rattle.proto_desc.specs.Opening.{IsOpenError};
 ghost use Rattle.proto_desc.specs.Whole.{IsSortedOf};
 
 use crate::step::{Said, Step};
-use proto_base::{NoMemory, SchemaFault};
+use proto_base::{NoMemory, Profile, SchemaFault};
 use proto_edit::{Edit, Refusal, Workspace};
 use proto_files::Files;
 use std::alloc::Global;
@@ -48,14 +48,19 @@ pub fn open(alloc: Global, texts: &[(&str, &str)]) -> Result<Workspace, SchemaFa
     Workspace::open(alloc, files(alloc, texts)?)
 }
 
-// Whether the file at a place has this path and text.
+// Whether the file at a place is of the core language and has this path and text.
 fn is_text(files: &Files, place: u32, given: &(&str, &str)) -> bool
     requires { place < length files.now }
     ensures { result ≡ is_file (file_at files.now place)
         (row_file given.now.0.now given.now.1.now) }
 {
     let (path, text) = *given;
-    files.path(place) == path && files.source(place).as_bytes() == text.as_bytes()
+    match files.profile(place) {
+        Profile::Core => {
+            files.path(place) == path && files.source(place).as_bytes() == text.as_bytes()
+        }
+        Profile::AsWritten => false,
+    }
 }
 
 /// Whether these are the files, in the order of their paths.

@@ -38,7 +38,10 @@ fn tell_place(out: &mut String, refusal: &Refusal) -> Result<(), NoMemory>
     ensures { OnOk result (string_bytes out.new
         ≡ string_bytes out.old ++ places_told refusal.now) }
 {
-    if let Refusal::Captured { path, offset } | Refusal::Needed { path, offset } = refusal {
+    if let Refusal::Captured { path, offset }
+    | Refusal::Needed { path, offset }
+    | Refusal::OptionValue { path, offset } = refusal
+    {
         write!(out, " {path} {offset}")?;
     }
     Ok(())

@@ -1,6 +1,7 @@
 //! Which command the words of the command line ask for.
 
-use protoref_arguments::{Request, UsageError, parse_arguments};
+use proto_base::Profile;
+use protoref_arguments::{Request, UsageError, asks_version, language_of, parse_arguments};
 use protoref_commands::{Rule, RuleSet};
 use std::process::Abort;
 
@@ -26,19 +27,91 @@ fn rules_named<R: Abort>(rt: &R, names: &str) -> RuleSet {
     rules
 }
 
+fn words_of<R: AllocGlobal + Abort>(rt: &R, line: &str) -> Vec<String> {
+    let mut words = Vec::new(rt.alloc());
+    for word in line.split(' ') {
+        let word = String::from_str(rt.alloc(), word).expect(rt, "memory");
+        words.push(word).expect(rt, "memory");
+    }
+    words
+}
+
+// Whether the words ask for what is wanted.
+fn is_asked<R: AllocGlobal + Abort>(rt: &R, words: &[String], wanted: &str) -> bool {
+    match parse_arguments(rt.alloc(), words) {
+        Ok(request) => asks_for(rt, &request, wanted),
+        Err(UsageError::BadCommandLine) => wanted == REFUSAL,
+        Err(UsageError::NoMemory) => false,
+    }
+}
+
 fn expect_rows<R: AllocGlobal + Abort>(rt: &R, rows: &[Row]) {
     for (line, wanted) in rows {
-        let mut words = Vec::new(rt.alloc());
-        for word in line.split(' ') {
-            let word = String::from_str(rt.alloc(), word).expect(rt, "memory");
-            words.push(word).expect(rt, "memory");
-        }
-        let is_wanted = match parse_arguments(rt.alloc(), words.as_slice()) {
-            Ok(request) => asks_for(rt, &request, wanted),
-            Err(UsageError::BadCommandLine) => *wanted == REFUSAL,
-            Err(UsageError::NoMemory) => false,
-        };
+        let words = words_of(rt, line);
+        let is_wanted = is_asked(rt, words.as_slice(), wanted);
         assert!(rt; is_wanted, "at {line}");
+    }
+}
+
+/// Lines, what each asks for, and whether of the language as written.
+const LANGUAGES: &[(&str, &str, bool)] = &[
+    ("protoref compile .", "compile|.", false),
+    ("protoref --as-written compile .", "compile|.", true),
+    (
+        "protoref --as-written rename . A.b c",
+        "rename|.|A.b|c",
+        true,
+    ),
+    ("protoref --as-written --help", "help|Usage: protoref", true),
+    (
+        "protoref compile --as-written",
+        "compile|--as-written",
+        false,
+    ),
+    // The word stands first, once and in just this spelling.
+    ("protoref --as-written", REFUSAL, true),
+    ("protoref --as-written --version", REFUSAL, true),
+    (
+        "protoref --as-written --as-written compile .",
+        REFUSAL,
+        true,
+    ),
+    ("protoref --As-Written compile .", REFUSAL, false),
+    ("protoref --as-written= compile .", REFUSAL, false),
+    ("protoref compile . --as-written", REFUSAL, false),
+    ("protoref", REFUSAL, false),
+];
+
+#[test]
+fn the_first_word_asks_for_a_language(rt: HostRuntime) {
+    for (line, wanted, is_as_written) in LANGUAGES {
+        let words = words_of(&rt, line);
+        let (profile, words) = language_of(words.as_slice());
+        let is_wanted = is_asked(&rt, words, wanted)
+            && (profile == Profile::AsWritten) == *is_as_written;
+        assert!(&rt; is_wanted, "at {line}");
+    }
+}
+
+/// Lines, and whether they ask for the version.
+const VERSIONS: &[(&str, bool)] = &[
+    ("protoref --version", true),
+    // The word stands alone, in just this spelling.
+    ("protoref", false),
+    ("protoref --Version", false),
+    ("protoref version", false),
+    ("protoref --version .", false),
+    ("protoref --version --help", false),
+    ("protoref --as-written --version", false),
+    ("protoref lint --version", false),
+];
+
+#[test]
+fn one_word_asks_for_the_version(rt: HostRuntime) {
+    for (line, is_version) in VERSIONS {
+        let words = words_of(&rt, line);
+        let is_wanted = asks_version(words.as_slice()) == *is_version;
+        assert!(&rt; is_wanted, "at {line}");
     }
 }
 
@@ -260,6 +333,18 @@ const HELPS: &[Row] = &[
     ("protoref migrate -h", "help|Example: protoref migrate "),
     // What the numbers and the statuses mean.
     ("protoref -h", "help|protoref --version prints the version"),
+    (
+        "protoref -h",
+        "help|With --as-written as the first word custom options are read",
+    ),
+    (
+        "protoref rename -h",
+        "help|  19 OptionValue     a custom option stands in a file",
+    ),
+    (
+        "protoref drop-import -h",
+        "help|  19 OptionValue a custom option stands in a file",
+    ),
     (
         "protoref compile -h",
         "help|   1 TooLarge           a file of more than",

@@ -2,6 +2,7 @@
 
 mod allocations;
 mod answers;
+mod as_written;
 mod calls;
 mod counts;
 mod entries;

@@ -3,6 +3,8 @@
 #![tactic(auto)]
 
 #[cfg(test)]
+mod as_written;
+#[cfg(test)]
 mod call_counts;
 #[cfg(test)]
 mod calls;

@@ -2,6 +2,7 @@
 
 from described import text
 from renames import rename_of
+from schemas import Use
 from statements import addition_of, deletion_of, drop_of
 
 NAMES = {
@@ -21,6 +22,7 @@ NAMES = {
     14: "Cycle",
     15: "Needed",
     16: "TooLarge",
+    19: "OptionValue",
 }
 # By the command's word; each takes the words after ROOT.
 EDITS = {"rename": rename_of, "delete-field": deletion_of, "add-import": addition_of, "drop-import": drop_of}
@@ -30,7 +32,9 @@ KEYS = {"rename": ("name", "to"), "delete-field": ("name",), "add-import": ("fil
 
 def answer(workspace, command, *words):
     """The number of what refuses an edit, the reference that it reports, and the edit itself where nothing refuses it."""
-    return EDITS[command](workspace, *words)
+    number, use, edit = EDITS[command](workspace, *words)
+    custom = [Use(place, (), name) for place, file in enumerate(workspace.files) for name in file.custom]
+    return (number, use, edit) if number or not custom else (19, custom[0], None)
 
 
 def place_of(workspace, use):

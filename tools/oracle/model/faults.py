@@ -1,4 +1,6 @@
-"""All faults of the first faulty phase of a workspace, in order, as docs/faults.md has them."""
+"""All faults of the first faulty phase of a workspace, in order, as docs/faults.md has them, and docs/as-written.md where files are
+read as they are written.
+"""
 
 import re
 from collections import Counter
@@ -48,6 +50,12 @@ OPTIONS = {
         "idempotency_level": ("IDEMPOTENCY_UNKNOWN", "NO_SIDE_EFFECTS", "IDEMPOTENT"),
     },
 }
+# The options that are known besides where files are read as they are written.
+MORE_OPTIONS = {
+    "file": {"java_generate_equals_and_hash": TRUTH, "java_generic_services": TRUTH, "ruby_package": TEXT},
+    "field": {"ctype": ("STRING", "CORD", "STRING_PIECE")},
+    "extension": {"ctype": ("STRING", "CORD", "STRING_PIECE")},
+}
 
 
 class Fault(NamedTuple):
@@ -58,17 +66,17 @@ class Fault(NamedTuple):
     number: int
 
 
-def faults(files):
+def faults(files, as_written=False):
     """All faults of the first phase that has one, each once and in order. Files are pairs of a path and its bytes read as Latin-1."""
     files = sorted(files)
     found = set(faults_of_paths([path for path, _ in files]))
     if found:
         return sorted(found)
     texts = dict(files)
-    tokens, found = read_each(texts, lambda path: tokens_of(texts[path]))
+    tokens, found = read_each(texts, lambda path: tokens_of(texts[path], as_written))
     if not found:
-        trees, found = read_each(texts, lambda path: Reader(tokens[path]).file(path, texts[path]))
-    return found or faults_of(Workspace(texts, list(trees.values())))
+        trees, found = read_each(texts, lambda path: Reader(tokens[path], as_written).file(path, texts[path]))
+    return found or faults_of(Workspace(texts, as_written, list(trees.values())))
 
 
 def read_each(paths, read):
@@ -160,16 +168,17 @@ def faults_of_checks(workspace):
 
 
 def faults_of_numbers(workspace, resolved):
-    """Those of the numbers of extensions that the workspace decides."""
+    """Those of the numbers of extensions that the workspace decides; as written a number may be used again in another file."""
     taken = set()
     for place, _, extend in workspace.extends:
         path, extended = workspace.files[place].path, resolved[id(extend.extendee)]
         for field in extend.fields:
             if not any(is_within(field.number, closed(bounds, FIELD_LIMITS)) for bounds in extended.node.extension_ranges):
                 yield Fault(path, field.number_at, 36)
-            if (extended.name, field.number) in taken:
+            used = (extended.name, field.number, path if workspace.as_written else "")
+            if used in taken:
                 yield Fault(path, field.number_at, 37)
-            taken.add((extended.name, field.number))
+            taken.add(used)
 
 
 class Checks:
@@ -180,7 +189,7 @@ class Checks:
         self.root, self.is_proto3 = file, file.syntax == "proto3"
 
     def file(self):
-        yield from faults_of_options("file", self.root.of(Option))
+        yield from self.options("file", self.root.of(Option))
         yield from self.members(self.root)
 
     def members(self, around):
@@ -188,7 +197,7 @@ class Checks:
         for extend in around.of(Extend):
             yield from self.extend(extend)
         for block in around.of(Block):
-            yield from faults_of_options(block.kind, block.of(Option))
+            yield from self.options(block.kind, block.of(Option))
             yield from {"message": self.message, "enum": self.enum, "service": self.service}[block.kind](block)
 
     def message(self, message):
@@ -212,7 +221,7 @@ class Checks:
         elif self.is_proto3 and values[0].number != 0:
             yield values[0].number_at, 23
         for value in values:
-            yield from faults_of_options("value", value.settings)
+            yield from self.options("value", value.settings)
             if not is_within(value.number, VALUE_LIMITS):
                 yield value.number_at, 17
         if not any(option.name.text == "allow_alias" and option.value[0].text == "true" for option in enum.of(Option)):
@@ -222,10 +231,10 @@ class Checks:
 
     def service(self, service):
         for method in service.of(Method):
-            yield from faults_of_options("method", method.options)
+            yield from self.options("method", method.options)
 
     def extend(self, extend):
-        if self.is_proto3:
+        if self.is_proto3 and not self.workspace.as_written:
             yield extend.keyword.start, 31
         yield from self.labels(extend.fields)
         for field in extend.fields:
@@ -241,7 +250,7 @@ class Checks:
 
     def field(self, element, field):
         """A field or an extension by itself."""
-        yield from faults_of_options(element, field.settings)
+        yield from self.options(element, field.settings)
         yield from self.type(field)
         packed = [one for one in field.settings if one.name.text == "packed"]
         if not (field.label == "repeated" and self.is_packable(field)):
@@ -251,6 +260,14 @@ class Checks:
             yield field.span[0], 31
         if not is_within(field.number, FIELD_LIMITS) or is_within(field.number, NO_FIELDS):
             yield field.number_at, 17
+
+    def options(self, element, options):
+        """Plain options of an element."""
+        known = {**OPTIONS[element], **(MORE_OPTIONS.get(element, {}) if self.workspace.as_written else {})}
+        yield from again(27, ((option.name.start, option.name.text) for option in options))
+        for option in options:
+            if not is_kind(option.value[0], known.get(option.name.text, ())):
+                yield option.name.start, 27
 
     def type(self, field):
         if field.key and field.key.text in NO_KEYS:
@@ -297,13 +314,6 @@ def again(number, members):
         if member in taken:
             yield place, number
         taken.append(member)
-
-
-def faults_of_options(element, options):
-    yield from again(27, ((option.name.start, option.name.text) for option in options))
-    for option in options:
-        if not is_kind(option.value[0], OPTIONS[element].get(option.name.text, ())):
-            yield option.name.start, 27
 
 
 def is_kind(first, kind):

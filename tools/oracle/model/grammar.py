@@ -1,6 +1,7 @@
 """A plain model of texts and trees: the tokens of a file and what they are read as, or the fault that the file has.
 
-It is written from docs/language.md alone. A text is held as its bytes read as Latin-1, so that an offset in it counts bytes.
+It is written from docs/language.md alone, and from docs/as-written.md where files are read as they are written. A text is held as
+its bytes read as Latin-1, so that an offset in it counts bytes.
 """
 
 import re
@@ -21,7 +22,7 @@ PIECE = re.compile(
     |(?P<word>[A-Za-z_][A-Za-z0-9_]*)
     |(?P<number>(?:0[xX][0-9A-Fa-f]+|0[0-7]*|[1-9][0-9]*)(?![A-Za-z0-9_]))
     |(?P<string>"(?:[^"\\\n\0]|\\[^\n\0])*"|'(?:[^'\\\n\0]|\\[^\n\0])*')
-    |(?P<mark>[{}\[\]()<>;,=.\-])""",
+    |(?P<mark>[{}\[\]()<>;,=.\-:])""",
     re.X | re.S,
 )
 ESCAPE = re.compile(r"""\\(?:([abfnrtv\\'"?])|([0-7]{1,3})|x([0-9A-Fa-f]{1,2}))""")
@@ -50,8 +51,8 @@ class Token(NamedTuple):
     text: str
 
 
-def tokens_of(text):
-    """The tokens of a text, or NoSchema with the fault that it has."""
+def tokens_of(text, as_written=False):
+    """The tokens of a text, or NoSchema with the fault that it has; `:` is one where the text is read as it is written."""
     if len(text) > MAX_BYTES:
         raise NoSchema(1, 0)
     if not is_utf8(text):
@@ -59,12 +60,16 @@ def tokens_of(text):
     tokens, place = [], 0
     while place < len(text):
         piece = PIECE.match(text, place)
-        if not piece or piece.lastgroup == "string" and not is_text(piece.group()):
+        if not piece or not is_allowed(piece, as_written):
             raise NoSchema(fault_at(text, place), place)
         if piece.lastgroup != "space":
             tokens.append(Token(place, piece.lastgroup, piece.group()))
         place = piece.end()
     return tokens
+
+
+def is_allowed(piece, as_written):
+    return is_text(piece.group()) if piece.lastgroup == "string" else as_written or piece.group() != ":"
 
 
 def fault_at(text, place):
@@ -256,6 +261,8 @@ class File:
     # The bytes of each import, where its string begins, and the offsets after the `;` of the package and of the syntax.
     import_spans: list = field(default_factory=list)
     import_places: list = field(default_factory=list)
+    # The names of custom options, which are no part of the tree.
+    custom: list = field(default_factory=list)
     package_end: Optional[int] = None
     syntax_end: Optional[int] = None
 
@@ -274,9 +281,9 @@ def entry_name(name):
 # ---- reading
 
 
-def file_of(path, text):
+def file_of(path, text, as_written=False):
     """The file that a text is read as, or NoSchema with the fault of its text or of its grammar."""
-    return Reader(tokens_of(text)).file(path, text)
+    return Reader(tokens_of(text, as_written), as_written).file(path, text)
 
 
 def brace_too_many(tokens):
@@ -293,9 +300,10 @@ def brace_too_many(tokens):
 
 
 class Reader:
-    """Reads the tokens of one file by the grammar."""
+    """Reads the tokens of one file by the grammar, with custom options where it is read as it is written."""
 
-    def __init__(self, tokens):
+    def __init__(self, tokens, as_written=False):
+        self.as_written, self.custom = as_written, []
         self.tokens, self.place = [*tokens, Token(-1, "end", "")], 0
         # How many tokens the longest prefix has that closing braces alone would complete, of those that were read.
         self.whole = 0
@@ -333,7 +341,7 @@ class Reader:
         deep = brace_too_many(self.tokens)
         if deep:
             raise NoSchema(9, deep.start)
-        file = File(path, text)
+        file = File(path, text, custom=self.custom)
         try:
             self.in_file(file)
         except NoTree:
@@ -371,7 +379,7 @@ class Reader:
         if self.takes(";"):
             return
         if self.takes("option"):
-            members.append(self.option())
+            self.option(members)
             self.take_end()
         else:
             members.append(self.block(*blocks))
@@ -382,10 +390,38 @@ class Reader:
             words.append(self.take("word"))
         return words
 
-    def option(self):
+    def option(self, options):
+        """Takes an option, and adds a plain one to these."""
+        if self.as_written and self.is_next("("):
+            return self.custom_option()
         name = self.take("word")
         self.take_text("=")
-        return Option(name, self.constant())
+        options.append(Option(name, self.constant()))
+
+    def custom_option(self):
+        self.take_text("(")
+        first = self.next()
+        is_absolute = self.takes(".")
+        self.custom.append(Reference(first, is_absolute, self.dotted()))
+        self.take_text(")")
+        while self.takes("."):
+            self.take("word")
+        self.take_text("=")
+        if self.is_next("{"):
+            self.braces()
+        else:
+            self.constant()
+
+    def braces(self):
+        """Takes a value in braces: tokens in which braces are balanced, and `[` behind `:` alone."""
+        depth, before = 0, None
+        while not before or depth:
+            token = self.next()
+            if token.kind == "end" or token.text == "[" and before != ":":
+                raise NoTree
+            depth += {"{": 1, "}": -1}.get(token.text, 0)
+            before = token.text
+            self.place += 1
 
     def constant(self):
         if self.next().kind == "word":
@@ -405,9 +441,9 @@ class Reader:
     def settings(self):
         found = []
         if self.takes("["):
-            found.append(self.option())
+            self.option(found)
             while self.takes(","):
-                found.append(self.option())
+                self.option(found)
             self.take_text("]")
         return found
 
@@ -451,7 +487,11 @@ class Reader:
         oneof = Oneof(self.take("word"), [])
         self.take_text("{")
         while not self.is_next("}"):
-            oneof.fields.append(self.field(None, self.next().start))
+            if self.as_written and self.takes("option"):
+                self.custom_option()
+                self.take_end()
+            else:
+                oneof.fields.append(self.field(None, self.next().start))
         oneof.end = self.take_end("}")
         return oneof
 

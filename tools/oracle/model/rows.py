@@ -71,6 +71,11 @@ def rows_of_problems(source):
             yield texts_of(one["files"]), one["problem"].removeprefix("compile > ").rstrip("\n")
 
 
+def rows_of_page(source):
+    """The texts that a table of a page has, with the line that is printed for each: those that a cell has whole."""
+    return re.findall(r"^\| `([^`]+)`[^`|]* \| `(a\.proto:[^`]+)` \|$", source, re.M)
+
+
 def texts_of(written, between=" | "):
     """Texts by path; a path ends with `.proto`."""
     return dict(re.fullmatch(r"(.*?\.proto) ?(.*)", file, re.S).groups() for file in written.split(between) if file)
@@ -253,4 +258,97 @@ FAULTS = [
         ],
     ),
     ({"a.proto": "enum E {}", "b.proto": P3 + 'import "a.proto"; message M { E e = 1; }'}, ["a.proto:1:6: 22", "b.proto:1:50: 24"]),
+]
+
+MESSAGE_OPTIONS = 'syntax = "proto2"; package google.protobuf; message MessageOptions { extensions 1000 to max; }'
+CUSTOM = (
+    P3 + 'package p; import "d.proto"; extend google.protobuf.MessageOptions { T x = 1000; }'
+    " message T { int32 a = 1; U u = 2; } message U { int32 b = 1; }"
+    " message A { option (x) = %s; int32 f = 1; message B { option (p.x).a = 3; } }"
+)
+WITH_CUSTOM = {"a.proto": CUSTOM % "{ a: 1 u { b: 2 } }", "d.proto": MESSAGE_OPTIONS}
+TWICE = "message M { extensions 1; } extend M { optional int32 x = 1; }"
+ONE_OPTION = P3 + 'import "d.proto"; extend google.protobuf.FieldOptions { %sstring x = 1000; }'
+FIELD_OPTIONS = MESSAGE_OPTIONS.replace("Message", "Field")
+# Files, and all faults of the first faulty phase: those of files that are read as they are written, and those without the word.
+WRITTEN = [
+    (WITH_CUSTOM, [], ["a.proto:1:194: 3"]),
+    ({**WITH_CUSTOM, "a.proto": CUSTOM % "{ a u { b 2 } }"}, [], ["a.proto:1:178: 8"]),
+    ("message M : {}", ["a.proto:1:1: 8"], ["a.proto:1:11: 3"]),
+    ("option (x) = {", ["a.proto:1:1: 8"], ["a.proto:1:1: 8"]),
+    ("option (x) = { a: 1; }", ["a.proto:1:1: 8"], ["a.proto:1:17: 3"]),
+    ("option (x) = { } };", ["a.proto:1:1: 8"], ["a.proto:1:1: 8"]),
+    ("option (x) = { [p.x]: 1 };", ["a.proto:1:1: 8"], ["a.proto:1:21: 3"]),
+    ("option (x) = { a [1] };", ["a.proto:1:1: 8"], ["a.proto:1:1: 8"]),
+    ("option x = { };", ["a.proto:1:1: 8"], ["a.proto:1:1: 8"]),
+    ("option () = 1;", ["a.proto:1:1: 8"], ["a.proto:1:1: 8"]),
+    ("option (.) = 1;", ["a.proto:1:1: 8"], ["a.proto:1:1: 8"]),
+    ("option (x). = 1;", ["a.proto:1:1: 8"], ["a.proto:1:1: 8"]),
+    ("option (x).(y) = 1;", ["a.proto:1:1: 8"], ["a.proto:1:1: 8"]),
+    ("option (x) = 1.5;", ["a.proto:1:1: 8"], ["a.proto:1:1: 8"]),
+    ("option (x) = ;", ["a.proto:1:1: 8"], ["a.proto:1:1: 8"]),
+    ("message M { oneof o { option a = 1; int32 b = 1; } }", ["a.proto:1:23: 8"], ["a.proto:1:23: 8"]),
+    ("message M { oneof o { option (a) = 1; } }", ["a.proto:1:19: 29"], ["a.proto:1:23: 8"]),
+    ("message M { optional M m = 1 [deprecated = true, (a) = { ]; }", ["a.proto:1:13: 8"], ["a.proto:1:13: 8"]),
+    ("enum E { A = 0 [(a) = {]}]; B = 0; }", ["a.proto:1:33: 32"], ["a.proto:1:10: 8"]),
+    ("option (x) = " + "{" * 33, ["a.proto:1:46: 9"], ["a.proto:1:46: 9"]),
+    ("message M { option (x) = " + "{" * 31 + "}" * 31 + "; }", [], ["a.proto:1:13: 8"]),
+    ("message M { option (x) = " + "{" * 32 + "}" * 32 + "; }", ["a.proto:1:57: 9"], ["a.proto:1:57: 9"]),
+    ('option (x) = { a: "\\q" };', ["a.proto:1:19: 6"], ["a.proto:1:17: 3"]),
+    ("option (x) = { a # b };", ["a.proto:1:18: 3"], ["a.proto:1:18: 3"]),
+    ("option (x) = { a / b };", ["a.proto:1:18: 3"], ["a.proto:1:18: 3"]),
+    ("option (x) = { a: 1.5 };", [], ["a.proto:1:17: 3"]),
+    ("option (x) = { a: 1e5 };", ["a.proto:1:19: 7"], ["a.proto:1:17: 3"]),
+    ("option (x) = { ) ; ] , = };", [], ["a.proto:1:1: 8"]),
+    ("message M { option (x) = { ) ; ] , = }; }", [], ["a.proto:1:13: 8"]),
+    ("enum E { A = 0 [(x) = { = ) ; ]}]; }", [], ["a.proto:1:10: 8"]),
+    ("option (x) = { a: [ 1 };", [], ["a.proto:1:17: 3"]),
+    ("message M { option (x) = { a: [ b { c: [ } }; }", [], ["a.proto:1:29: 3"]),
+    ("enum E { A = 0 [(x) = { a: [ }]; }", [], ["a.proto:1:26: 3"]),
+    ("option (optional.stream) = -0x1; option (.message).to.max = 'a' \"b\";", [], ["a.proto:1:1: 8"]),
+    ({"a.proto": ONE_OPTION % "", "d.proto": FIELD_OPTIONS}, [], ["a.proto:1:38: 31"]),
+    ({"a.proto": ONE_OPTION % "required ", "d.proto": FIELD_OPTIONS}, ["a.proto:1:76: 31", "a.proto:1:76: 38"], ["a.proto:1:38: 31", "a.proto:1:76: 31", "a.proto:1:76: 38"]),
+    ({"a.proto": TWICE, "b.proto": 'import "a.proto"; extend M { optional int32 y = 1; }'}, [], ["b.proto:1:49: 37"]),
+    (TWICE + " extend M { optional int32 y = 1; }", ["a.proto:1:94: 37"], ["a.proto:1:94: 37"]),
+    (
+        "option ruby_package = 'a'; option java_generic_services = 'a'; message M { option ctype = CORD; optional string a = 1 [ctype = CORD]; }",
+        ["a.proto:1:35: 27", "a.proto:1:83: 27"],
+        ["a.proto:1:8: 27", "a.proto:1:35: 27", "a.proto:1:83: 27", "a.proto:1:120: 27"],
+    ),
+]
+# Extensions of a proto3 file, which have no JSON names, and fields beside them.
+EXTENDED_IN_PROTO3 = {
+    "a.proto": P3 + 'import "b.proto"; extend M { int32 fooBar = 1; int32 x = 2; } message N { int32 fooBar = 1; int32 y = 2; }',
+    "b.proto": "message M { extensions 1 to 9; }",
+}
+# Edits of files that are read as they are written, with what is printed.
+WRITTEN_EDITS = [
+    (WITH_CUSTOM, ("rename", "p.A", "Q"), "refused: 19 OptionValue a.proto:1:186\n"),
+    (WITH_CUSTOM, ("rename", "p.A", "message"), "refused: 4 KeywordName\n"),
+    (WITH_CUSTOM, ("delete-field", "p.A.f"), "refused: 19 OptionValue a.proto:1:186\n"),
+    (WITH_CUSTOM, ("add-import", "d.proto", "a.proto"), "refused: 14 Cycle\n"),
+    (WITH_CUSTOM, ("drop-import", "a.proto", "d.proto"), "refused: 15 Needed a.proto:1:56\n"),
+    ({"a.proto": "", "b.proto": "option (.x) = 1;"}, ("add-import", "a.proto", "b.proto"), "refused: 19 OptionValue b.proto:1:9\n"),
+    ({"a.proto": "message M {} option ruby_package = ':';"}, ("rename", "M", "N"), "changed a.proto\n"),
+    (EXTENDED_IN_PROTO3, ("rename", "x", "foo_bar"), "changed a.proto\n"),
+    (EXTENDED_IN_PROTO3, ("rename", "N.y", "foo_bar"), "refused: 9 JsonClash\n"),
+]
+# Files that are read as they are written, with pieces of their descriptors.
+WRITTEN_JSON = [
+    (
+        WITH_CUSTOM,
+        [
+            '{"field":[{"jsonName":"f","label":"LABEL_OPTIONAL","name":"f","number":1,"type":"TYPE_INT32"}],"name":"A","nestedType":[{"name":"B"}]}',
+            '{"extendee":".google.protobuf.MessageOptions","label":"LABEL_OPTIONAL","name":"x","number":1000,"type":"TYPE_MESSAGE","typeName":".p.T"}',
+        ],
+    ),
+    (
+        {"a.proto": ONE_OPTION % "optional ", "d.proto": FIELD_OPTIONS},
+        ['"label":"LABEL_OPTIONAL","name":"x","number":1000,"proto3Optional":true,"type":"TYPE_STRING"'],
+    ),
+    (
+        "option java_generic_services = true; option java_generate_equals_and_hash = false; option ruby_package = 'a' 'b'; option (x) = 1;",
+        ['"options":{"javaGenerateEqualsAndHash":false,"javaGenericServices":true,"rubyPackage":"ab"}'],
+    ),
+    (P3 + "message M { string a = 1 [(x) = 1, ctype = STRING_PIECE, (x) = 1]; string b = 2 [(x) = 1]; }", ['"options":{"ctype":"STRING_PIECE"}', '"name":"b","number":2,"type"']),
 ]

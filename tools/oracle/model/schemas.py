@@ -42,9 +42,9 @@ class Use:
 class Workspace:
     """Schemas by their paths, with their names. Texts are bytes read as Latin-1; files are given where they are read already."""
 
-    def __init__(self, texts, files=None):
-        self.texts = dict(texts)
-        self.files = files or [file_of(path, texts[path]) for path in sorted(texts)]
+    def __init__(self, texts, as_written=False, files=None):
+        self.texts, self.as_written = dict(texts), as_written
+        self.files = files or [file_of(path, texts[path], as_written) for path in sorted(texts)]
         self.place_of = {file.path: place for place, file in enumerate(self.files)}
         self.symbols = list(self.declared())
         self.by_name = {symbol.name: symbol for symbol in self.symbols}

@@ -4,14 +4,14 @@ ghost use Rattle.std.specs.Prelude.{◌≡◌, ◌≢◌, ◌<◌, ℕ, length};
 ghost use Rattle.std.specs.List.{All};
 ghost use Rattle.proto_files.specs.GivenFiles.{file_at, paths_of};
 ghost use Rattle.proto_tree.specs.File.{tree_of_file};
-ghost use Rattle.proto_tree.specs.Reads.{Reads};
+ghost use Rattle.proto_tree.specs.Reads.{ReadsIn};
 
 use super::calls::{Ask, Told, expect_fault, expect_rows, expect_text, given_files, read};
 use proto_base::SchemaFault;
 use proto_files::Files;
 use proto_names::Link;
-use proto_text::{Source, Token, lex};
-use proto_tree::{File, parse};
+use proto_text::{Source, Token, lex_as};
+use proto_tree::{File, parse_as};
 use std::process::Abort;
 
 // Gives the second file a text; answers what stood there.
@@ -24,12 +24,14 @@ fn set_second<R: AllocGlobal + Abort>(
     ensures len { length files.new ≡ 2 }
     ensures paths { paths_of files.old ≡ paths_of files.new }
     ensures others { (file : ℕ) → file ≢ 1 → file_at files.old file ≡ file_at files.new file }
-    ensures read { Reads result.0 result.1.items (tree_of_file result.2) }
+    ensures profile { (file_at files.new 1).profile ≡ (file_at files.old 1).profile }
+    ensures read { ReadsIn (file_at files.old 1).profile result.0 result.1.items (tree_of_file result.2) }
 {
     let bytes = Vec::from_slice(rt.alloc(), text.as_bytes()).expect(rt, "memory");
     let source = Source::new(bytes).expect(rt, "a source");
-    let tokens = lex(rt.alloc(), &source).expect(rt, "tokens");
-    let tree = parse(rt.alloc(), &source, &tokens).expect(rt, "a tree");
+    let profile = files.profile(1);
+    let tokens = lex_as(rt.alloc(), &source, profile).expect(rt, "tokens");
+    let tree = parse_as(rt.alloc(), &source, &tokens, profile).expect(rt, "a tree");
     files.set(1, source, tokens, tree)
 }
 

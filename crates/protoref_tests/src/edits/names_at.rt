@@ -1,7 +1,7 @@
 //! The token at an offset, and the name that stands at a token. Places are counted in the texts.
 
 use super::calls::texts;
-use proto_base::{NoMemory, SchemaFault};
+use proto_base::{NoMemory, Profile, SchemaFault};
 use proto_edit::{Files, Workspace};
 use proto_names_at::{name_at, token_at};
 use protoref_test_cases::open;
@@ -36,6 +36,12 @@ const ROWS: &[Row] = &[
         "a.proto:27 M=M,a.proto:40 S=S,a.proto:48 R=S.R,a.proto:51 M=M,a.proto:71 M=M",
     ),
 ];
+
+/// The same of files as written: in the name and the value of a custom option no name stands.
+const WRITTEN: Row = (
+    "a.proto syntax = \"proto3\"; message M { M m = 1 [(x) = { M: m }]; }",
+    "a.proto:27 M=M,a.proto:31 M=M,a.proto:33 m=M.m",
+);
 
 /// A text of one file, and an offset in it with the word of the token there; `none` where no token is.
 const TEXT: &str = "a.proto syntax = \"proto3\"; // c\nmessage  M{} ";
@@ -153,6 +159,22 @@ fn told_of(alloc: Global, written: &'static str) -> Result<String, SchemaFault> 
     Ok(found?)
 }
 
+fn given(alloc: Global, written: &'static str) -> Result<Vec<(String, Vec<u8>)>, NoMemory> {
+    let mut files = Vec::new(alloc);
+    for (path, text) in &texts(alloc, written)? {
+        let path = String::from_str(alloc, path)?;
+        files.push((path, Vec::from_slice(alloc, text.as_bytes())?))?;
+    }
+    Ok(files)
+}
+
+fn told_as_written(alloc: Global, written: &'static str) -> Result<String, SchemaFault> {
+    let workspace = Workspace::open_as(alloc, given(alloc, written)?, Profile::AsWritten)?;
+    let found = told(alloc, &workspace);
+    workspace.release();
+    Ok(found?)
+}
+
 // The same once more, where memory was refused. In a run that refuses one allocation the rows still hold, whichever it is.
 fn told_in_the_end(alloc: Global, written: &'static str) -> Result<String, SchemaFault> {
     match told_of(alloc, written) {
@@ -179,6 +201,17 @@ fn is_the_name_that_stands_there(rt: HostRuntime) {
     for row in ROWS {
         expect_told(&rt, row);
     }
+}
+
+#[test]
+fn is_no_name_in_a_custom_option(rt: HostRuntime) {
+    let (written, wanted) = WRITTEN;
+    let found = match told_as_written(rt.alloc(), written) {
+        Err(SchemaFault::NoMemory) => told_as_written(rt.alloc(), written),
+        answer => answer,
+    };
+    let found = found.expect(&rt, "a workspace");
+    assert!(rt; found.as_str() == wanted, "{found}, not {wanted}");
 }
 
 #[test]

@@ -11,8 +11,8 @@ use super::calls::texts;
 use super::link_texts::link_text;
 use proto_base::SchemaFault;
 use proto_edit::{Descriptors, Files, Link, Workspace, to_json};
-use proto_text::{Source, lex};
-use proto_tree::parse;
+use proto_text::{Source, lex_as};
+use proto_tree::parse_as;
 use protoref_test_cases::open;
 use std::process::Abort;
 
@@ -40,8 +40,9 @@ fn edit<R: AllocGlobal + Abort>(rt: &R, files: &mut Files)
 {
     let bytes = Vec::from_slice(rt.alloc(), OTHER.as_bytes()).expect(rt, "memory");
     let source = Source::new(bytes).expect(rt, "a source");
-    let tokens = lex(rt.alloc(), &source).expect(rt, "tokens");
-    let tree = parse(rt.alloc(), &source, &tokens).expect(rt, "a tree");
+    let profile = files.profile(1);
+    let tokens = lex_as(rt.alloc(), &source, profile).expect(rt, "tokens");
+    let tree = parse_as(rt.alloc(), &source, &tokens, profile).expect(rt, "a tree");
     let (_source, _tokens, old) = files.set(1, source, tokens, tree);
     old.release();
 }

@@ -1,5 +1,6 @@
 use Rattle.std.proofs.Common.{◌≡◌, ◌++◌, ◌∷◌, [], ℕ, List, String, Global, take, map, ap, ◌∙◌, arith, take_all}
 use Rattle.proto_base.proofs.Common.{Vec, map_push, taken_more}
+use Rattle.proto_base.specs.declared.profile.Profile.TheVariants.{Core}
 use Rattle.proto_files.specs.GivenFiles.{FileOf, file_of, files_of}
 use Rattle.proto_all_faults.proofs.listing.copy_files.Goals as goal
 
@@ -11,7 +12,7 @@ loop-file-preserved c =
     let copy : String Global × Vec ℕ = (c.in_ok-path.path, c.in_ok-from_slice.field-0) in
     let path = c.in_ok-path.ensures.ok ∙ c.as_str.ensures.value in
     let bytes = c.in_ok-from_slice.ensures.items ∙ c.deref.ensures.value in
-    let same : file_of copy ≡ file_of file = λ j. record { path = path j; bytes = bytes j } in
+    let same : file_of copy ≡ file_of file = λ j. record { path = path j; bytes = bytes j; profile = Core } in
     ap files_of c.in_ok-push.ensures.items ∙ map_push file_of c.loop-file.copies.items copy
     ∙ ap (λ (fs : List FileOf). fs ++ file_of copy ∷ []) c.loop-file.invariant
     ∙ ap (λ (f : FileOf). files_of (take i given) ++ f ∷ []) same

@@ -1,5 +1,5 @@
 use Rattle.std.proofs.Common.{map, ap, arith}
-use Rattle.proto_files.specs.Common.{IsTextFault, TextFaults, fault_at, files_of}
+use Rattle.proto_files.specs.Common.{IsTextFault, TextFaults, fault_at, files_of_as}
 use Rattle.proto_all_faults.proofs.FirstPhases.{in_their_order}
 use Rattle.proto_all_faults.proofs.TextLists.{none_yet, read_end, read_turn}
 use Rattle.proto_all_faults.proofs.texts.text_faults.Goals as goal
@@ -9,13 +9,13 @@ loop-file-init c = none_yet IsTextFault _ (ap (map fault_at) c.new-found.ensures
 
 pub loop-file-preserved : goal.loop-file-preserved
 loop-file-preserved c =
-    read_turn IsTextFault c.args.given.now c.loop-file.file-index c.file-item.result c.as_str.result.now c.deref.result.now (map fault_at c.loop-file.found.items) (map fault_at c.add_text_fault.new.found.items)
+    read_turn IsTextFault c.args.profile c.args.given.now c.loop-file.file-index c.file-item.result c.as_str.result.now c.deref.result.now (map fault_at c.loop-file.found.items) (map fault_at c.add_text_fault.new.found.items)
     c.loop-file-test.true c.file-item.is c.as_str.ensures.value c.deref.ensures.value c.in_ok-add_text_fault.ensures c.loop-file.invariant
 
 pub returns : goal.returns
 returns c =
     let given = c.args.given.now in
     let found = map fault_at c.loop-file.found.items in
-    in_their_order (TextFaults (files_of given)) found (map fault_at c.in_order.result.items)
-    (read_end IsTextFault given c.loop-file.file-index found (omega (arith, c.loop-file-test.false)) c.loop-file.invariant)
+    in_their_order (TextFaults (files_of_as c.args.profile given)) found (map fault_at c.in_order.result.items)
+    (read_end IsTextFault c.args.profile given c.loop-file.file-index found (omega (arith, c.loop-file-test.false)) c.loop-file.invariant)
     c.in_order.ensures.rising c.in_order.ensures.same

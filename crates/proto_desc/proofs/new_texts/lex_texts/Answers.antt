@@ -28,5 +28,5 @@ returns-in_err-lex_text-clause-fault c =
 pub loop-text-preserved : goal.loop-text-preserved
 loop-text-preserved c = (
   text_push lexed_text given_text c.loop-text.lexed.items c.push.new.self.items c.loop-text.yielded c.in_ok-lex_text.field-0 c.in-Some.text c.in_ok-push.ensures.items c.loop-text.invariant.0 c.in_ok-lex_text.ensures.same,
-  all_push IsLexedText c.loop-text.lexed.items c.push.new.self.items c.in_ok-lex_text.field-0 c.in_ok-push.ensures.items c.loop-text.invariant.1 c.in_ok-lex_text.ensures.lexed,
+  all_push (IsLexedText c.args.files.now) c.loop-text.lexed.items c.push.new.self.items c.in_ok-lex_text.field-0 c.in_ok-push.ensures.items c.loop-text.invariant.1 c.in_ok-lex_text.ensures.lexed,
 )

@@ -16,7 +16,7 @@ parse_text-requires-clause-place c =
 pub parse_text-requires-clause-lexed : goal.parse_text-requires-clause-lexed
 parse_text-requires-clause-lexed c =
     let all = YieldsList-from_vec c.args.texts.items (search rules) (search rules) in
-    given_at IsLexedText c.args.texts.items (length c.loop-text.yielded) c.in-Some.text c.requires.lexed
+    given_at (IsLexedText c.args.files.now) c.args.texts.items (length c.loop-text.yielded) c.in-Some.text c.requires.lexed
     (YieldsList-turn all c.loop-text.yielded _ c.loop-text.yielded_by _ c.next.new.self c.in-Some.text c.in-Some.is c.next.ensures.steps)
 
 pub parse_text-requires-clause-steps : goal.parse_text-requires-clause-steps
@@ -41,6 +41,6 @@ returns-in_err-parse_text-clause-fault c =
 pub loop-text-preserved : goal.loop-text-preserved
 loop-text-preserved c = record {
   same = text_push read_text lexed_text c.loop-text.read.items c.push.new.self.items c.loop-text.yielded c.in_ok-parse_text.field-0 c.in-Some.text c.in_ok-push.ensures.items c.loop-text.invariant.same c.in_ok-parse_text.ensures.same;
-  read = all_push IsParsedText c.loop-text.read.items c.push.new.self.items c.in_ok-parse_text.field-0 c.in_ok-push.ensures.items c.loop-text.invariant.read c.in_ok-parse_text.ensures.read;
+  read = all_push (IsParsedText c.args.files.now) c.loop-text.read.items c.push.new.self.items c.in_ok-parse_text.field-0 c.in_ok-push.ensures.items c.loop-text.invariant.read c.in_ok-parse_text.ensures.read;
   counted = omega (arith, c.in_ok-parse_text.ensures.counted, c.loop-text.invariant.counted, length_push c.loop-text.yielded c.in-Some.text);
 }

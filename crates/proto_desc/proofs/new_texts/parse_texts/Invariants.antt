@@ -5,6 +5,6 @@ use Rattle.proto_desc.proofs.new_texts.parse_texts.Given as goal
 abbrev pub invariant-loop-text : goal.invariant-loop-text
 invariant-loop-text l = record {
   same : map read_text l.read.items ≡ map lexed_text l.yielded;
-  read : All IsParsedText l.read.items;
+  read : All (IsParsedText l.files) l.read.items;
   counted : l.steps ≡ l.initial.steps + length l.yielded;
 }

@@ -51,8 +51,8 @@ returns-clause-places c =
 pub returns-clause-read : goal.returns-clause-read
 returns-clause-read c =
     IfOk-weaker c.parse_texts.result
-    (λ (read : Vec ReadText). All IsParsedText read.items) (λ (read : Vec ReadText). All IsReadText read.items)
-    (λ read all. All-weaker IsParsedText IsReadText (λ r p. p.reads) read.items all) c.parse_texts.ensures.read
+    (λ (read : Vec ReadText). All (IsParsedText c.args.files.now) read.items) (λ (read : Vec ReadText). All (IsReadText c.args.files.now) read.items)
+    (λ read all. All-weaker (IsParsedText c.args.files.now) (IsReadText c.args.files.now) (λ r p. p.reads) read.items all) c.parse_texts.ensures.read
 
 pub returns-clause-fault : goal.returns-clause-fault
 returns-clause-fault c =

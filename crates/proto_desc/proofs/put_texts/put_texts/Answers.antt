@@ -1,11 +1,12 @@
-use Rattle.std.proofs.Common.{◌≡◌, ◌<◌, ◌+◌, List, [], ◌∷◌, ◌++◌, length, map, sym, ap, ◌∙◌, subst, arith, rules, is_ok, if◌then◌else◌, All}
+use Rattle.std.proofs.Common.{◌≡◌, ℕ, ◌<◌, ◌+◌, List, [], ◌∷◌, ◌++◌, length, get_or, map, sym, ap, ◌∙◌, subst, arith, rules, is_ok, if◌then◌else◌, All}
 use Rattle.std.specs.Prelude.{vec_len}
 use Rattle.proto_base.proofs.Common.{All-push, YieldsList-from_vec, YieldsList-turn, length_push, map_push}
 use Rattle.proto_files.proofs.Common.{file_at, FileOf}
+use Rattle.proto_files.specs.GivenFiles.{no_file}
 use Rattle.proto_files.proofs.FirstErrors.{given_at}
 use Rattle.proto_desc.specs.NewTexts.{IsReadText, TextAt, read_text, with_all, with_old, with_text}
 use Rattle.proto_desc.specs.declared.texts.ReadText.{ReadText}
-use Rattle.proto_desc.proofs.WithTexts.{length-with_all, text_and_back, with_more, with_older}
+use Rattle.proto_desc.proofs.WithTexts.{length-with_all, profile_stays, still_read, text_and_back, with_more, with_older}
 use Rattle.proto_desc.proofs.put_texts.put_texts.Goals as goal
 
 -- one is put, and what stood there is noted behind the others
@@ -19,6 +20,10 @@ put_one files now next old yielded t was within put place source is back = (
       ∙ back,
 )
 
+-- the languages stay
+languages : (files now : List FileOf) (ts : List TextAt) → now ≡ with_all files ts → (k : ℕ) → (file_at now k).profile ≡ (file_at files k).profile
+languages files now ts e k = ap (λ (fs : List FileOf). (file_at fs k).profile) e ∙ profile_stays files ts k no_file
+
 pub put_text-requires-clause-place : goal.put_text-requires-clause-place
 put_text-requires-clause-place c =
     let all = YieldsList-from_vec c.args.texts.items (search rules) (search rules) in
@@ -31,7 +36,8 @@ pub put_text-requires-clause-read : goal.put_text-requires-clause-read
 put_text-requires-clause-read c =
     let all = YieldsList-from_vec c.args.texts.items (search rules) (search rules) in
     let turn = YieldsList-turn all c.loop-text.yielded _ c.loop-text.yielded_by _ c.next.new.self c.in-Some.text c.in-Some.is c.next.ensures.steps in
-    given_at IsReadText c.args.texts.items (length c.loop-text.yielded) c.in-Some.text c.requires.read turn
+    still_read c.args.files.now c.loop-text.files c.in-Some.text (languages c.args.files.now c.loop-text.files (map read_text c.loop-text.yielded) c.loop-text.invariant.files)
+    (given_at (IsReadText c.args.files.now) c.args.texts.items (length c.loop-text.yielded) c.in-Some.text c.requires.read turn)
 
 pub unwrap-requires : goal.unwrap-requires
 unwrap-requires c =
@@ -58,10 +64,14 @@ loop-text-preserved c =
       files = one.0;
       back = ap (λ rs. with_old (map read_text rs) c.put_text.new.files) noted ∙ one.1;
       places = subst (λ rs. All (λ (t : ReadText). t.place < length files) rs) (sym noted) (All-push (λ (t : ReadText). t.place < length files) old was c.loop-text.invariant.places (omega (arith, there, c.put_text.ensures.place)));
-      read = subst (λ rs. All IsReadText rs) (sym noted) (All-push IsReadText old was c.loop-text.invariant.read c.put_text.ensures.read);
+      read = subst (λ rs. All (IsReadText files) rs) (sym noted) (All-push (IsReadText files) old was c.loop-text.invariant.read (still_read now files was (λ k. sym (languages files now (map read_text c.loop-text.yielded) c.loop-text.invariant.files k)) c.put_text.ensures.read));
       len = omega (arith, c.push.ensures.len ∙ ap (λ r. if is_ok r then vec_len c.loop-text.old + 1 else vec_len c.loop-text.old) c.unwrap.ensures, c.loop-text.invariant.len, length_push c.loop-text.yielded text);
       room = omega (arith, c.push.ensures.capacity, c.loop-text.invariant.room);
     }
 
 pub returns-clause-places : goal.returns-clause-places
 returns-clause-places c = λ k d l. omega (arith, c.loop-text.invariant.places k d l, ap length c.loop-text.invariant.files, length-with_all c.args.files.now (map read_text c.loop-text.yielded))
+
+pub returns-clause-read : goal.returns-clause-read
+returns-clause-read c = λ k d l.
+    still_read c.args.files.now c.loop-text.files (get_or c.loop-text.old.items k d) (languages c.args.files.now c.loop-text.files (map read_text c.loop-text.yielded) c.loop-text.invariant.files) (c.loop-text.invariant.read k d l)

@@ -8,7 +8,7 @@ invariant-loop-text l = record {
   files : l.files ≡ with_all l.initial.files (map read_text l.yielded);
   back : with_old (map read_text l.old.items) l.files ≡ l.initial.files;
   places : All (λ t. t.place < length l.initial.files) l.old.items;
-  read : All IsReadText l.old.items;
+  read : All (IsReadText l.initial.files) l.old.items;
   len : vec_len l.old ≡ length l.yielded;
   room : length l.fn.texts.items ≤ vec_capacity l.old;
 }

@@ -4,11 +4,13 @@ use Rattle.proto_base.specs.declared.fault.FaultKind.TheVariants as kind
 use Rattle.proto_ast.proofs.Common.{FieldOf, field_of}
 use Rattle.proto_desc_numbers.proofs.Common.{flaw_if, is_field_number, number_of_field, outside}
 use Rattle.proto_desc_checks.specs.FieldFlaws.{flaws_of_extension}
+use Rattle.proto_desc_checks.specs.FileFlaws.{bars_extend}
 use Rattle.proto_desc_checks.proofs.extends.add_flaws_with_fields.Goals as goal
 
 pub returns : goal.returns
 returns c =
     let scene = c.args.scene.now in
+    let barred = bars_extend scene.profile scene.is_proto3 in
     let found = c.args.found.now.items in
     let fields = map field_of c.args.fields.now in
     let wrong = λ (b : Bool). flaw_if b kind.NotInProto3 c.args.extend.now.keyword in
@@ -16,7 +18,7 @@ returns c =
     let each = λ (fs : List FieldOf). flat_map (flaws_of_extension scene) fs in
     on_ok_weaker c.add_extensions.result
     (λ e.
-    then_added (wrong scene.is_proto3) (numbers fields ++ each fields) found c.add_if.new.found.items _ (c.in_ok-add_if.ensures ∙ ap (λ (b : Bool). found ++ wrong b) c.is_proto3.ensures)
+    then_added (wrong barred) (numbers fields ++ each fields) found c.add_if.new.found.items _ (c.in_ok-add_if.ensures ∙ ap (λ (b : Bool). found ++ wrong b) c.bars_extend-is_barred.ensures)
     (then_added (numbers fields) (each fields) c.add_if.new.found.items c.add_numbers.new.found.items _ c.in_ok-add_numbers.ensures e)
-    ∙ ap (λ (fs : List FieldOf). found ++ (wrong scene.is_proto3 ++ (numbers fs ++ each fs))) c.requires)
+    ∙ ap (λ (fs : List FieldOf). found ++ (wrong barred ++ (numbers fs ++ each fs))) c.requires)
     c.add_extensions.ensures

@@ -7,10 +7,10 @@ use Rattle.proto_desc_checks.proofs.options.add_misplaced.Goals as goal
 
 pub loop-option-preserved : goal.loop-option-preserved
 loop-option-preserved c =
-    seen_more (λ o. flaw_if (not (is_allowed (text c.args.scene.now) c.args.element o)) kind.BadOption o.name) option_of c.args.options.now c.loop-option.option-index c.option-item.result c.option-item.result c.args.found.now.items c.loop-option.found.items _ c.loop-option-test.true c.option-item.is
+    seen_more (λ o. flaw_if (not (is_allowed c.args.scene.now.profile (text c.args.scene.now) c.args.element o)) kind.BadOption o.name) option_of c.args.options.now c.loop-option.option-index c.option-item.result c.option-item.result c.args.found.now.items c.loop-option.found.items _ c.loop-option-test.true c.option-item.is
     (c.in_ok-add_if.ensures ∙ ap (λ (b : Bool). c.loop-option.found.items ++ flaw_if (not b) kind.BadOption c.option-item.result.name) c.is_allowed-is_misplaced.ensures)
     c.loop-option.invariant
 
 pub returns : goal.returns
 returns c =
-    seen_all (λ o. flaw_if (not (is_allowed (text c.args.scene.now) c.args.element o)) kind.BadOption o.name) option_of c.args.options.now c.loop-option.option-index c.args.found.now.items c.loop-option.found.items c.loop-option-test.false c.loop-option.invariant
+    seen_all (λ o. flaw_if (not (is_allowed c.args.scene.now.profile (text c.args.scene.now) c.args.element o)) kind.BadOption o.name) option_of c.args.options.now c.loop-option.option-index c.args.found.now.items c.loop-option.found.items c.loop-option-test.false c.loop-option.invariant

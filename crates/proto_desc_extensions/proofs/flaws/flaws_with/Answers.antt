@@ -10,18 +10,18 @@ loop-file-preserved c =
     let files = c.args.files.now in
     let file = c.loop-file.file in
     let l : file < length files = omega (arith, c.loop-file-test.true, c.len-file-end.ensures.len) in
-    let fs = c.in_ok-flaws_of.field-0 in
+    let fs = c.in_ok-flaws_in.field-0 in
     let es = map told_by c.deref.result.now in
     let next : file + 1 ≡ suc file = omega arith in
     record {
       len = omega (arith, ap length c.in_ok-push.ensures.items, length-append c.loop-file.found.items (fs ∷ []), c.loop-file.invariant.len);
       each = λ reads are.
           each_pushed (λ k flaws. flaws.items ≡ workspace_flaws (Some past) files reads k) c.loop-file.found.items c.push.new.self.items fs file c.in_ok-push.ensures.items c.loop-file.invariant.len (c.loop-file.invariant.each reads are)
-          (c.in_ok-flaws_of.ensures.flaws (map (told files reads) (extensions_before (Some past) files reads file)) (c.loop-file.invariant.seen reads are)
-          ∙ flaws_told files reads c.args.link.now (c.requires.link reads are) file es (ap (map told_by) c.deref.ensures.value ∙ c.in_ok-extensions.ensures reads are));
+          (c.in_ok-flaws_in.ensures.flaws (map (told files reads) (extensions_before (Some past) files reads file)) (c.loop-file.invariant.seen reads are)
+          ∙ flaws_told files reads c.args.link.now (c.requires.link reads are) file c.profile.result c.profile.ensures es (ap (map told_by) c.deref.ensures.value ∙ c.in_ok-extensions.ensures reads are));
       seen = λ reads are.
-          seen_more files reads file (file + 1) next es (ap (map told_by) c.deref.ensures.value ∙ c.in_ok-extensions.ensures reads are) c.flaws_of.new.seen
-          (c.in_ok-flaws_of.ensures.seen (map (told files reads) (extensions_before (Some past) files reads file)) (c.loop-file.invariant.seen reads are));
+          seen_more files reads file (file + 1) next es (ap (map told_by) c.deref.ensures.value ∙ c.in_ok-extensions.ensures reads are) c.flaws_in.new.seen
+          (c.in_ok-flaws_in.ensures.seen (map (told files reads) (extensions_before (Some past) files reads file)) (c.loop-file.invariant.seen reads are));
     }
 
 pub returns : goal.returns

@@ -7,5 +7,6 @@ returns g c =
     on_ok_weaker c.close.result (λ ends. options_all
     (c.in_ok-is_open.ensures _ _
     (c.in_ok-is_open-2.ensures _ _
-    ends)))
+    (c.in_ok-is_open-3.ensures _ _
+    ends))))
     c.close.ensures

@@ -21,7 +21,7 @@ bounds-tokens-token c =
     let bytes = (file_at files file).bytes in
     let ts = c.tokens.result.now in
     let tree = tree_of_file c.tree.result.now in
-    let inside = place_inside c.additions_are_read.ensures bytes ts tree (c.tree.ensures ts c.tokens.ensures.tokens) in
+    let inside = place_inside c.additions_are_read.ensures (file_at files file).profile bytes ts tree (c.tree.ensures ts c.tokens.ensures.tokens) in
     let place = place_by tree (Some c.in-Some.token) c.in-Some.ensures in
     omega (arith, inside, place)
 
@@ -34,7 +34,7 @@ splice_change-requires-clause-span c =
     let d : Token = record { kind = Word; span = record { start = 0; end = 0 } } in
     elim c.match-end.branch [
       | in-Some w ↦
-          let inside = place_inside c.additions_are_read.ensures bytes w.tokens.result.now tree (c.tree.ensures w.tokens.result.now w.tokens.ensures.tokens) in
+          let inside = place_inside c.additions_are_read.ensures (file_at files file).profile bytes w.tokens.result.now tree (c.tree.ensures w.tokens.result.now w.tokens.ensures.tokens) in
           let behind = place_by tree (Some w.in-Some.token) w.in-Some.ensures in
           let l : w.in-Some.token < length w.tokens.result.now = omega (arith, inside, behind) in
           empty_span bytes (record { start = c.match-end.at; end = c.match-end.at }) refl (subst (IsCharBoundary bytes) (sym w.at-is) (w.tokens.ensures.spans w.in-Some.token d l).ends)
@@ -60,7 +60,7 @@ returns c =
     let place : c.match-end.at ≡ end_before rest (place_behind c.match-end.end) =
     elim c.match-end.branch [
       | in-Some w ↦
-          let inside = place_inside c.additions_are_read.ensures bytes w.tokens.result.now tree (c.tree.ensures w.tokens.result.now w.tokens.ensures.tokens) in
+          let inside = place_inside c.additions_are_read.ensures (file_at files file).profile bytes w.tokens.result.now tree (c.tree.ensures w.tokens.result.now w.tokens.ensures.tokens) in
           let behind = place_by tree (Some w.in-Some.token) w.in-Some.ensures in
           let l : w.in-Some.token < length w.tokens.result.now = omega (arith, inside, behind) in
           place_of_some rest w.tokens.result.now (one_token_list bytes rest w.tokens.result.now (are.tokens file within) w.tokens.ensures.tokens) w.in-Some.token d c.match-end.at l w.at-is

@@ -23,7 +23,7 @@ bounds-tokens-import c =
     let within = place_within files c.args.paths.file.now file c.requires.file in
     let same = one_token_list (file_at files file).bytes (read_at reads file).tokens c.tokens-tokens.result.now (are.tokens file within) c.tokens-tokens.ensures.tokens in
     let long = ap (λ (z : List Token). length z) same in
-    let x = import_inside (file_at files file).bytes (read_at reads file).tokens (read_at reads file).tree c.args.import (are.trees file within) (c.requires.import reads are).stands in
+    let x = import_inside (file_at files file).profile (file_at files file).bytes (read_at reads file).tokens (read_at reads file).tree c.args.import (are.trees file within) (c.requires.import reads are).stands in
     let a = x.0 in
     let b = x.1 in
     omega (arith, a, b, long)
@@ -37,7 +37,7 @@ bounds-tokens-import-2 c =
     let within = place_within files c.args.paths.file.now file c.requires.file in
     let same = one_token_list (file_at files file).bytes (read_at reads file).tokens c.tokens-tokens.result.now (are.tokens file within) c.tokens-tokens.ensures.tokens in
     let long = ap (λ (z : List Token). length z) same in
-    let x = import_inside (file_at files file).bytes (read_at reads file).tokens (read_at reads file).tree c.args.import (are.trees file within) (c.requires.import reads are).stands in
+    let x = import_inside (file_at files file).profile (file_at files file).bytes (read_at reads file).tokens (read_at reads file).tree c.args.import (are.trees file within) (c.requires.import reads are).stands in
     let b = x.1 in
     omega (arith, b, long)
 
@@ -50,7 +50,7 @@ splice_change-requires-clause-span c =
     let ts = c.tokens-tokens.result.now in
     let within = place_within files c.args.paths.file.now file c.requires.file in
     let same = one_token_list (file_at files file).bytes (read_at reads file).tokens ts (are.tokens file within) c.tokens-tokens.ensures.tokens in
-    let x = import_inside (file_at files file).bytes (read_at reads file).tokens (read_at reads file).tree c.args.import (are.trees file within) (c.requires.import reads are).stands in
+    let x = import_inside (file_at files file).profile (file_at files file).bytes (read_at reads file).tokens (read_at reads file).tree c.args.import (are.trees file within) (c.requires.import reads are).stands in
     let l = subst (λ (z : List Token). c.args.import.semicolon < length z) same x.1 in
     spans_tokens (file_at files file).bytes ts c.tokens-tokens.ensures.tokens c.args.import.keyword c.args.import.semicolon (record { kind = Word; span = record { start = 0; end = 0 } }) x.0 l
     (record { start = (get_or ts c.args.import.keyword (record { kind = Word; span = record { start = 0; end = 0 } })).span.start; end = (get_or ts c.args.import.semicolon (record { kind = Word; span = record { start = 0; end = 0 } })).span.end }) refl refl
@@ -79,7 +79,7 @@ returns-clause-ok c =
     let within = place_within files c.args.paths.file.now file c.requires.file in
     let same = one_token_list bytes rest ts (are.tokens file within) c.tokens-tokens.ensures.tokens in
     let stands = c.requires.import reads are in
-    let x = import_inside bytes rest (read_at reads file).tree i (are.trees file within) stands.stands in
+    let x = import_inside (file_at files file).profile bytes rest (read_at reads file).tree i (are.trees file within) stands.stands in
     let l = subst (λ (z : List Token). i.semicolon < length z) same x.1 in
     let le = x.0 in
     let k : i.keyword < length ts = omega (arith, l, le) in

@@ -10,7 +10,7 @@ use Rattle.proto_store.specs.Stores.{Held, HoldsFiles, HoldsJournal}
 use Rattle.proto_journal.specs.Undoing.{IsUndone}
 use Rattle.proto_journal.specs.Written.{Passes, Reopens}
 use Rattle.proto_journal.proofs.Holdings.{passes_from, through_from}
-use Rattle.proto_journal.proofs.PutPaths.{differ_from, undo_differs, undo_paths}
+use Rattle.proto_journal.proofs.PutPaths.{differ_from, undo_differs, undo_languages, undo_paths}
 use Rattle.proto_journal.proofs.Undone.{counts_no_entry, counts_stale, no_entry, not_asked, stale, undo_cut, undone}
 use Rattle.proto_journal.proofs.undoing.undo_last.Goals as goal
 
@@ -62,7 +62,7 @@ returns-clause-outcome g c =
     (g.S.Store.holds c.write_through.new.store) c.files.ensures.files c.files-2.ensures.files (c.ask_store.ensures.same ∙ c.read_journal.ensures.same) c.in-Err-Failed-write_through.ensures.err in (
       refl,
       undo_cut journal c.as_slice.result.now c.shortened_journal-last.result.now version edit entry first c.shortened_journal-last.ensures c.args.workspace.now c.in_ok-next.next
-          (undo_paths c.args.workspace.now c.in_ok-next.next entry is) is old (g.S.Store.holds c.write_through.new.store) c.in_ok-found.ensures there passes,
+          (undo_paths c.args.workspace.now c.in_ok-next.next entry is) (undo_languages c.args.workspace.now c.in_ok-next.next entry is) is old (g.S.Store.holds c.write_through.new.store) c.in_ok-found.ensures there passes,
     )
 
 pub returns-in-Ok-write_through-clause-outcome : goal.returns-in-Ok-write_through-clause-outcome
@@ -77,7 +77,7 @@ returns-in-Ok-write_through-clause-outcome g c =
     let first : Reopens version journal edit entry c.as_slice.result.now = subst (λ (t : List ℕ). Reopens version journal edit entry t) (sym c.as_slice.ensures.value) c.in_ok-first.ensures in
     rw c.replace.ensures.after (subst (λ (e : List ChangeOf). IsUndone e c.args.workspace.now c.in_ok-next.next old (g.S.Store.holds c.write_through.new.store)) (sym c.into_entry.ensures)
     (undone journal c.as_slice.result.now c.shortened_journal-last.result.now version edit entry first c.shortened_journal-last.ensures c.args.workspace.now c.in_ok-next.next
-    (undo_paths c.args.workspace.now c.in_ok-next.next entry is) is old (g.S.Store.holds c.write_through.new.store) c.in_ok-found.ensures there
+    (undo_paths c.args.workspace.now c.in_ok-next.next entry is) (undo_languages c.args.workspace.now c.in_ok-next.next entry is) is old (g.S.Store.holds c.write_through.new.store) c.in_ok-found.ensures there
     (through_from c.files-2.result.now c.in_ok-next.next c.shortened_journal-last.result.now (g.S.Store.holds c.ask_store.new.store) old (g.S.Store.holds c.write_through.new.store)
     c.files-2.ensures.files (c.ask_store.ensures.same ∙ c.read_journal.ensures.same) c.in-Ok-write_through.ensures.ok)))
 

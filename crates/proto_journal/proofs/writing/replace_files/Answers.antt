@@ -2,7 +2,7 @@ use Rattle.std.proofs.Common.{arith, ◌≡◌, ◌<◌, ◌∙◌, length, map,
 use Rattle.proto_files.specs.GivenFiles.{paths_of}
 use Rattle.proto_edit_entries.specs.Entries.{change_of}
 use Rattle.proto_journal.proofs.Between.{as_long}
-use Rattle.proto_journal.proofs.Replacing.{all_replaced, err_of, next_cut, next_left, next_listed, next_replaced, none_replaced, same_paths}
+use Rattle.proto_journal.proofs.Replacing.{all_replaced, err_of, next_cut, next_left, next_listed, next_replaced, none_replaced, same_languages, same_paths}
 use Rattle.proto_journal.proofs.writing.replace_files.Goals as goal
 
 pub loop-place-init : goal.loop-place-init
@@ -20,23 +20,26 @@ pub replace_file-requires-clause-listed : goal.replace_file-requires-clause-list
 replace_file-requires-clause-listed g c =
     let lt : c.loop-place.place < length c.args.after.now = omega arith in
     let paths : paths_of c.args.after.now ≡ paths_of c.args.before.now = same_paths (map change_of c.args.changes.now) c.args.before.now c.args.after.now c.requires.differ in
-    next_listed (g.S.Store.holds c.args.store.now) c.args.before.now c.args.after.now c.loop-place.place lt paths (g.S.Store.holds c.loop-place.store) c.loop-place.invariant.holds
+    let languages = same_languages (map change_of c.args.changes.now) c.args.before.now c.args.after.now c.requires.differ in
+    next_listed (g.S.Store.holds c.args.store.now) c.args.before.now c.args.after.now c.loop-place.place lt paths languages (g.S.Store.holds c.loop-place.store) c.loop-place.invariant.holds
 
 pub returns-in_err-left-clause-err : goal.returns-in_err-left-clause-err
 returns-in_err-left-clause-err g c =
     let lt : c.loop-place.place < length c.args.after.now = omega arith in
     let paths : paths_of c.args.after.now ≡ paths_of c.args.before.now = same_paths (map change_of c.args.changes.now) c.args.before.now c.args.after.now c.requires.differ in
-    err_of _ _ (next_cut (g.S.Store.holds c.args.store.now) c.args.before.now c.args.after.now c.loop-place.place lt paths c.len-place-end.ensures.workspace.ordered
+    let languages = same_languages (map change_of c.args.changes.now) c.args.before.now c.args.after.now c.requires.differ in
+    err_of _ _ (next_cut (g.S.Store.holds c.args.store.now) c.args.before.now c.args.after.now c.loop-place.place lt paths languages c.len-place-end.ensures.workspace.ordered
     (g.S.Store.holds c.loop-place.store) (g.S.Store.holds c.replace_file.new.store) c.loop-place.invariant.holds c.in_err-left.ensures.err)
 
 pub loop-place-preserved : goal.loop-place-preserved
 loop-place-preserved g c =
     let lt : c.loop-place.place < length c.args.after.now = omega arith in
     let paths : paths_of c.args.after.now ≡ paths_of c.args.before.now = same_paths (map change_of c.args.changes.now) c.args.before.now c.args.after.now c.requires.differ in
+    let languages = same_languages (map change_of c.args.changes.now) c.args.before.now c.args.after.now c.requires.differ in
     let more = next_left c.args.before.now c.args.after.now c.loop-place.place (map change_of c.loop-place.left.now) (map change_of c.in_ok-left.left.now)
     (g.S.Store.holds c.loop-place.store) (g.S.Store.holds c.replace_file.new.store) paths lt c.loop-place.invariant.differ c.in_ok-left.ensures.ok in
     record {
-      holds = next_replaced (g.S.Store.holds c.args.store.now) c.args.before.now c.args.after.now c.loop-place.place lt paths c.len-place-end.ensures.workspace.ordered
+      holds = next_replaced (g.S.Store.holds c.args.store.now) c.args.before.now c.args.after.now c.loop-place.place lt paths languages c.len-place-end.ensures.workspace.ordered
           (g.S.Store.holds c.loop-place.store) (g.S.Store.holds c.replace_file.new.store) c.loop-place.invariant.holds more.1;
       differ = more.0;
       count = c.in_ok-left.ensures.count ∙ c.loop-place.invariant.count;

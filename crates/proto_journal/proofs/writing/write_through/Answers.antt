@@ -2,7 +2,7 @@ use Rattle.std.proofs.Common.{map, sym, subst, Option}
 use Rattle.proto_edit_entries.specs.Entries.{change_of}
 use Rattle.proto_store.specs.Stores.{Held, HoldsFiles}
 use Rattle.proto_journal.proofs.Holdings.{cut_files, cut_first, cut_last, files_stay, went_through}
-use Rattle.proto_journal.proofs.Replacing.{err_of, on_err, on_ok, same_paths}
+use Rattle.proto_journal.proofs.Replacing.{err_of, on_err, on_ok, same_languages, same_paths}
 use Rattle.proto_journal.proofs.writing.write_through.Goals as goal
 
 pub replace_files-requires-clause-files : goal.replace_files-requires-clause-files
@@ -23,7 +23,7 @@ returns-in_err-replace_files-clause-err g c =
 pub returns-clause-err : goal.returns-clause-err
 returns-clause-err g c =
     on_err c.replace_journal-2.result _ _ (λ e. cut_last c.args.before.now c.args.after.now c.args.first.now c.args.last.now (g.S.Store.holds c.args.store.now)
-    (g.S.Store.holds c.replace_journal.new.self) (g.S.Store.holds c.replace_files.new.store) (g.S.Store.holds c.replace_journal-2.new.self) (same_paths (map change_of c.args.changes.now) c.args.before.now c.args.after.now c.requires.differ) c.in_ok-replace_journal.ensures.ok
+    (g.S.Store.holds c.replace_journal.new.self) (g.S.Store.holds c.replace_files.new.store) (g.S.Store.holds c.replace_journal-2.new.self) (same_paths (map change_of c.args.changes.now) c.args.before.now c.args.after.now c.requires.differ) (same_languages (map change_of c.args.changes.now) c.args.before.now c.args.after.now c.requires.differ) c.in_ok-replace_journal.ensures.ok
     c.in_ok-replace_files.ensures.ok e) c.replace_journal-2.ensures.err
 
 pub returns-clause-ok : goal.returns-clause-ok

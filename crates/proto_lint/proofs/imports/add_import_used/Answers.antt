@@ -20,5 +20,5 @@ returns-in_ok-add_unless c = λ (reads : List ReadOf) are.
     let again = c.as_str-then-is_none.ensures.value ∙ sym c.as_str.ensures.value in
     let is : import_path r i ≡ path = ap or_nothing (ap value_of (sym c.text.ensures) ∙ c.in_ok-path.ensures.value) ∙ sym c.as_str.ensures.value in
     let uses = leads_is_used files reads are file c.args.marks.now (c.requires.marks chosen) path c.in_ok-is_used.is_used (c.in_ok-is_used.ensures reads are) in
-    used_found c.args.linter.now.rules.now.chosen r (names_of_files files reads) (paths_of files) file i (map found_of c.args.found.now.items) (map found_of c.add_unless.new.found.items) path c.in_ok-is_used.is_used chosen plain is uses
+    used_found c.args.linter.now.rules.now.chosen r (names_of_files files reads) (paths_of files) file i (map found_of c.args.found.now.items) (map found_of c.add_unless.new.found.items) path c.in_ok-is_used.is_used c.passes-passes.result chosen plain is uses c.passes-passes.ensures
     (grind (rules, c.in_ok-add_unless.ensures.added, again)))

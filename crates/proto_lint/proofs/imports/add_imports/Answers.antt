@@ -22,7 +22,7 @@ add_statements-requires-clause-strings c =
     λ k d l.
     (let i : Import = (get_or all k d).now in
     let there : Contains (import_statements_in tree) i = subst (λ (is : List Import). Contains is i) same (contains_map (λ x. x.now) all (get_or all k d) (Contains-get_or all k d l)) in
-    subst (λ (r : LintFile). IsString (word_in r i.path)) (sym (c.requires.reading reads are)) (paths_are_strings (file_at files file).bytes (read_at reads file).tokens tree (are.trees file c.requires.file) i there))
+    subst (λ (r : LintFile). IsString (word_in r i.path)) (sym (c.requires.reading reads are)) (paths_are_strings (file_at files file).profile (file_at files file).bytes (read_at reads file).tokens tree (are.trees file c.requires.file) i there))
 
 pub returns : goal.returns
 returns c =

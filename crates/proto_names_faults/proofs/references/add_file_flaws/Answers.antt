@@ -19,7 +19,7 @@ add_use_flaws-requires-clause-plain c =
     let words : map (lexeme_at bytes) r.tokens ≡ c.new-words.result = ap (map (lexeme_at bytes)) tokens ∙ sym c.new-words.ensures.some.2 in
     subst (λ (us : List Use). All (λ u. ArePlain (map (word_at c.new-words.result) (dotted u.reference.now.words))) us) (sym c.deref.ensures.value)
     (subst (λ (ls : List Lexeme). All (λ u. ArePlain (map (word_at ls) (dotted u.reference.now.words))) c.args.listing.now.used.items) words
-    (words_plain bytes r c.args.listing.now reads c.requires.listing.2))
+    (words_plain (file_at c.args.files.now c.args.view.now.file).profile bytes r c.args.listing.now reads c.requires.listing.2))
 
 pub returns : goal.returns
 returns c =

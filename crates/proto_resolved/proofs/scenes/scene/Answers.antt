@@ -13,4 +13,4 @@ returns c = λ reads are.
     ∙ same_meant c.args.link.now (enum_in c.args.table.now) (enum_at files reads) (get_or c.args.link.now.meant c.args.file []) (c.requires.table reads are)
     ∙ means_are files reads c.args.link.now (c.requires.link reads are) c.args.file c.requires.file in
     scene_is files c.args.file c.requires.file c.new-words.result c.new-words.ensures.words (tree_of_file c.tree.result.now) c.tree.ensures reads are
-    c.is_proto3-is_proto3.result c.is_proto3-is_proto3.ensures (map meant_of c.in_ok-means.means.items) means c.new.result c.new.ensures)
+    c.profile.result c.profile.ensures c.is_proto3-is_proto3.result c.is_proto3-is_proto3.ensures (map meant_of c.in_ok-means.means.items) means c.new.result c.new.ensures)

@@ -1,7 +1,7 @@
 use Rattle.std.proofs.Common.{◌≡◌, List, ℕ, ◌++◌, [], ◌∷◌, sym, ◌∙◌, subst, rules, map, Option, String, Global, string_bytes}
-use Rattle.proto_base.proofs.Common.{Vec, files_of}
+use Rattle.proto_base.proofs.Common.{Vec}
 use Rattle.std.specs.Vec.Iter.{into_iter_items}
-use Rattle.proto_store.specs.Stores.{Held, HoldsBytes, HoldsFiles, IsListed, ListsPaths}
+use Rattle.proto_store.specs.Stores.{Held, HoldsBytes, HoldsGiven, IsListed, ListsPaths}
 use Rattle.proto_store.proofs.Loading.{Loads, empty_if_short, in_order, loads_all, loads_more, loads_none, next_is_listed}
 use Rattle.proto_store.proofs.files.all_files.Goals as goal
 
@@ -51,7 +51,7 @@ returns-clause-files g c =
     let held : Option Held = g.S.Store.holds c.list.new.self in
     let done : List (String Global × Vec ℕ) = c.loop-path.files.items in
     let none : into_iter_items c.loop-path.path-iterator ≡ [] = empty_if_short (into_iter_items c.loop-path.path-iterator) (sym c.loop-path.path-iterator.rest.ok.0 ∙ c.in-None.ensures.steps.0) in
-    subst (λ h. HoldsFiles h (files_of done)) c.list.ensures.same (loads_all held done (into_iter_items c.loop-path.path-iterator) none c.loop-path.invariant.so_far)
+    subst (λ h. HoldsGiven h done) c.list.ensures.same (loads_all held done (into_iter_items c.loop-path.path-iterator) none c.loop-path.invariant.so_far)
 
 pub returns-clause-order : goal.returns-clause-order
 returns-clause-order g c = in_order (g.S.Store.holds c.args.store.now) (map string_bytes c.in_ok-paths.paths.items) c.in_ok-paths.ensures.paths

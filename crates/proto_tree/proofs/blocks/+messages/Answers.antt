@@ -4,7 +4,7 @@ use Rattle.proto_tree.specs.declared.context.Context.TheVariants as context
 use Rattle.proto_tree.specs.declared.piece.Header.TheVariants as header
 use Rattle.proto_tree.specs.declared.piece.Piece.TheVariants as piece
 use Rattle.proto_tree.specs.declared.tree.Member.TheVariants as member
-use Rattle.proto_tree.specs.File.{trees, field_tree, oneof_tree, enum_item_tree, enum_tree, extension_tree, extend_tree, member_tree, message_tree}
+use Rattle.proto_tree.specs.File.{trees, oneof_item_tree, oneof_tree, enum_item_tree, enum_tree, extension_tree, extend_tree, member_tree, message_tree}
 use Rattle.proto_tree.proofs.Nodes.{statement_item, not_here, close_item, block_seen, fault_behind, fault_inside, opening_shorter, read_push, no_other_in_message, member_tree-Message, member_tree-Oneof, member_tree-Enum, member_tree-Extend}
 use Rattle.proto_tree.proofs.blocks.+messages.Goals as goal
 
@@ -60,7 +60,7 @@ pub member-returns-in_ok-items-in-Oneof : goal.member-returns-in_ok-items-in-One
 member-returns-in_ok-items-in-Oneof t c =
     let met = rw c.in-Open.is at c.in_ok-piece.ensures in
     let found = rw c.in-Oneof.is at met in
-    block_seen context.Message (header.Oneof c.in-Oneof.heading) c.in-Open.«open» (trees field_tree c.in_ok-items-in-Oneof.items.items) (member_tree (member.Oneof c.block-oneof.result)) c.in_ok-items-in-Oneof.close c.args.tokens.now c.in_ok-piece.rest.now c.in_ok-items-in-Oneof.rest.now found refl c.in_ok-items-in-Oneof.ensures (member_tree-Oneof c.block-oneof.result ∙ ap oneof_tree c.block-oneof.ensures)
+    block_seen context.Message (header.Oneof c.in-Oneof.heading) c.in-Open.«open» (trees oneof_item_tree c.in_ok-items-in-Oneof.items.items) (member_tree (member.Oneof c.block-oneof.result)) c.in_ok-items-in-Oneof.close c.args.tokens.now c.in_ok-piece.rest.now c.in_ok-items-in-Oneof.rest.now found refl c.in_ok-items-in-Oneof.ensures (member_tree-Oneof c.block-oneof.result ∙ ap oneof_tree c.block-oneof.ensures)
 
 pub member-returns-in_ok-items-in-Enum : goal.member-returns-in_ok-items-in-Enum
 member-returns-in_ok-items-in-Enum t c =

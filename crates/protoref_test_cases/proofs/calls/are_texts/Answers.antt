@@ -4,6 +4,7 @@ use Rattle.protoref_test_cases.specs.Rows.{is_file, row_file}
 use Rattle.proto_files.specs.GivenFiles.{FileOf}
 use Rattle.protoref_test_cases.proofs.Lists.{same_from}
 use Rattle.protoref_test_cases.proofs.calls.are_texts.Goals as goal
+use Rattle.proto_files.specs.GivenFiles.{no_file}
 
 pub returns-then-not-is_text : goal.returns-then-not-is_text
 returns-then-not-is_text c =
@@ -11,7 +12,7 @@ returns-then-not-is_text c =
     let texts = c.args.texts.now in
     let place = c.loop-place.place in
     let row : Bor (List ℕ) × Bor (List ℕ) → FileOf = λ t. row_file t.0.now t.1.now in
-    let none : FileOf = record { path = []; bytes = [] } in
+    let none : FileOf = no_file in
     let nowhere : Bor (List ℕ) = record { ref_ptr = (0, 0); now = [] } in
     let behind = pointwise is_file (drop (place + 1) files) (drop (place + 1) (map row texts)) in
     let told : List FileOf → Bool = λ fs. is_file (get_or fs place none) (row (get_or texts place (nowhere, nowhere))) in
@@ -26,7 +27,7 @@ loop-place-preserved c =
     let texts = c.args.texts.now in
     let place = c.loop-place.place in
     let row : Bor (List ℕ) × Bor (List ℕ) → FileOf = λ t. row_file t.0.now t.1.now in
-    let none : FileOf = record { path = []; bytes = [] } in
+    let none : FileOf = no_file in
     let nowhere : Bor (List ℕ) = record { ref_ptr = (0, 0); now = [] } in
     let behind = pointwise is_file (drop (place + 1) files) (drop (place + 1) (map row texts)) in
     let told : List FileOf → Bool = λ fs. is_file (get_or fs place none) (row (get_or texts place (nowhere, nowhere))) in

@@ -1,5 +1,0 @@
-use Rattle.std.proofs.Common.{rules}
-use Rattle.proto_ast.proofs.options.value_kind.Goals as goal
-
-pub returns-in-Method-text : goal.returns-in-Method-text
-returns-in-Method-text c = search rules
