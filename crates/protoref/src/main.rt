@@ -7,7 +7,7 @@ ghost use Rattle.std.specs.Prelude.{◌≡◌, ◌≤◌, IfOk};
 
 use errand::{Errand, Way, errand_for, way_for};
 use proto_base::Profile;
-use protoref_arguments::{Request, UsageError, asks_version, language_of, parse_arguments};
+use protoref_arguments::{UsageError, parse_arguments};
 use protoref_commands::{
     Command, FolderStore, Retained, RunFault, Status, Store, StoreFault, fault_line, run_keeping,
     write_text,
@@ -37,7 +37,7 @@ fn answer<R: Files<File = File> + Env + Clock + Print + AllocGlobal>(
     rt: &R,
 ) -> Result<u8, &'static str> {
     let asked = match words(rt) {
-        Ok(words) => asked_by(rt, words.as_slice()),
+        Ok(words) => parse_arguments(rt.alloc(), words.as_slice()),
         Err(fault) => Err(fault),
     };
     match asked {
@@ -45,17 +45,6 @@ fn answer<R: Files<File = File> + Env + Clock + Print + AllocGlobal>(
         Err(UsageError::BadCommandLine) => Err(BAD_COMMAND_LINE),
         Err(UsageError::NoMemory) => Err(fault_line(&RunFault::NoMemory)),
     }
-}
-
-// The language of the schemas that the words ask for, and the request. Only of all words is the
-// version asked for.
-fn asked_by<R: AllocGlobal>(rt: &R, words: &[String]) -> Result<(Profile, Request), UsageError> {
-    if asks_version(words) {
-        return Ok((Profile::Core, Request::Version));
-    }
-    let (profile, words) = language_of(words);
-    let request = parse_arguments(rt.alloc(), words)?;
-    Ok((profile, request))
 }
 
 fn carry_out<R: Files<File = File> + Clock + Print + AllocGlobal>(

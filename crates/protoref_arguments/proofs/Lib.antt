@@ -1,6 +1,7 @@
+mod Answered
 mod Answering
+mod AskedLanguages
 mod Building
 mod Lines
 mod Marking
 mod Naming
-mod AskedLanguages

@@ -4,9 +4,12 @@ use Rattle.std.specs.List.{list_all, list_any}
 use Rattle.std.specs.Option.{option_map_or}
 use Rattle.std.specs.Str.{bytes_eq}
 use Rattle.proto_base.specs.Texts.{Text, Path}
+use Rattle.proto_base.specs.declared.profile.Profile.{Profile}
+use Rattle.proto_base.specs.declared.profile.Profile.TheVariants.{Core}
 use Rattle.proto_lint_rules.specs.Rules.{identifier}
 use Rattle.proto_lint_rules.specs.declared.rule.Rule.{Rule}
 use Rattle.proto_lint_rules.specs.declared.rule.Rule.TheVariants as rule
+use Rattle.protoref_arguments.specs.Languages.{asked_in}
 
 -- a command of the program
 pub data Command : Type 0 where
@@ -95,6 +98,8 @@ names_rule word = list_any (λ r. bytes_eq word (identifier r)) rules
 pub data AskedCommand : Type 0 where
   -- a text of help
   help : AskedCommand
+  -- the version of the program
+  version : AskedCommand
   -- the descriptors of the schemas in the folder ROOT
   compile_of : Path → AskedCommand
   -- what lint finds in the schemas in ROOT by the rules with these identifiers
@@ -151,3 +156,9 @@ asked_by_words (word ∷ words) = if asks_help word then help
 abbrev pub asks_version : List Text → Bool
 asks_version (word ∷ []) = bytes_eq word (codes "--version")
 asks_version words = false
+
+-- the language that a command line asks for, and what it asks for: the version, where all its words
+-- ask for that; else what the words of the command do
+abbrev pub asked_by_line : List Text → Profile × AskedCommand
+asked_by_line words = if asks_version words then (Core, version)
+    else ((asked_in words).0, asked_by_words (asked_in words).1)

@@ -6,10 +6,11 @@ use Rattle.clap.specs.declared.error.kind.ErrorKind.{ErrorKind}
 use Rattle.clap.specs.declared.error.kind.ErrorKind.TheVariants as kind
 use Rattle.std.specs.Str.{bytes_eq}
 use Rattle.proto_base.specs.Texts.{Text}
+use Rattle.proto_base.specs.declared.profile.Profile.{Profile}
 use Rattle.proto_lint_rules.specs.Rules.{identifier, is_chosen}
 use Rattle.proto_lint_rules.specs.declared.rule.Rule.{Rule}
 use Rattle.proto_lint_rules.specs.declared.rule_set.RuleSet.{RuleSet}
-use Rattle.protoref_arguments.specs.CommandLines.{AskedCommand, names_rule, help, compile_of, lint_of, rename_of, delete_field_of, add_import_of, drop_import_of, undo_of, log_of, recover_of, migrate_of, bad_line}
+use Rattle.protoref_arguments.specs.CommandLines.{AskedCommand, names_rule, help, version, compile_of, lint_of, rename_of, delete_field_of, add_import_of, drop_import_of, undo_of, log_of, recover_of, migrate_of, bad_line}
 use Rattle.protoref_arguments.specs.declared.request.Request.{Request}
 use Rattle.protoref_arguments.specs.declared.request.Request.TheVariants as request
 use Rattle.protoref_arguments.specs.declared.request.UsageError.{UsageError}
@@ -28,11 +29,10 @@ ask_for (name ∷ names) rule = name_rule (name ∷ names) rule
 abbrev pub IsSetOf : List Text → RuleSet → Type 0
 IsSetOf names set = (rule : Rule) → is_chosen set.chosen rule ≡ ask_for names rule
 
--- a request is what is asked for, text by text; what stands in a help is not said, and a command
--- does not ask for the version
+-- a request is what is asked for, text by text; what stands in a help is not said
 abbrev pub IsRequest : AskedCommand → Request → Type 0
 IsRequest asked (request.Help text) = asked ≡ help
-IsRequest asked request.Version = ⊥
+IsRequest asked request.Version = asked ≡ version
 IsRequest asked (request.Compile root) = asked ≡ compile_of (string_bytes root)
 IsRequest asked (request.Lint root set) =
     (names : List Text) × (asked ≡ lint_of (string_bytes root) names) × IsSetOf names set
@@ -49,14 +49,20 @@ IsRequest asked (request.Log root) = asked ≡ log_of (string_bytes root)
 IsRequest asked (request.Recover root) = asked ≡ recover_of (string_bytes root)
 IsRequest asked (request.Migrate root) = asked ≡ migrate_of (string_bytes root)
 
--- the answer to what is asked for: that request; a bad command line exactly where nothing is asked
--- for; or out of memory, which may come at any words
-abbrev pub IsAnswerTo : AskedCommand → Result Request UsageError → Type 0
-IsAnswerTo asked (Ok request) = IsRequest asked request
-IsAnswerTo asked (Err fault.BadCommandLine) = asked ≡ bad_line
+-- the answer to a command line: the language and the request that are asked for; a bad command line
+-- exactly where nothing is asked for; or out of memory, which may come at any words
+abbrev pub IsAnswerTo : Profile × AskedCommand → Result (Profile × Request) UsageError → Type 0
+IsAnswerTo asked (Ok answer) = (answer.0 ≡ asked.0) × IsRequest asked.1 answer.1
+IsAnswerTo asked (Err fault.BadCommandLine) = asked.1 ≡ bad_line
 IsAnswerTo asked (Err fault.NoMemory) = Unit {0}
 
 -- ---- the parts of an answer
+
+-- the reply to the words of a command: as the answer to a line, but for the language
+abbrev pub IsReplyTo : AskedCommand → Result Request UsageError → Type 0
+IsReplyTo asked (Ok request) = IsRequest asked request
+IsReplyTo asked (Err fault.BadCommandLine) = asked ≡ bad_line
+IsReplyTo asked (Err fault.NoMemory) = Unit {0}
 
 -- a fault is out of memory, or a bad command line where it is one
 abbrev pub IsWordsFaultOf : Bool → UsageError → Type 0

@@ -7,31 +7,48 @@ ghost use Rattle.clap.specs.Walk.{all_of, first_of, rows_of, texts};
 ghost use Rattle.clap.specs.Words.{found_of, subcommand_rows_of};
 ghost use Rattle.proto_lint_rules.specs.Rules.{is_chosen};
 ghost use Rattle.proto_lint_rules.specs.declared.rule.Rule.{Rule};
-ghost use Rattle.protoref_arguments.specs.CommandLines.{asked_by_words, asks_help, asks_version, names_rule, taken, lint, rename, delete_field, add_import, drop_import};
+ghost use Rattle.protoref_arguments.specs.CommandLines.{asked_by_line, asked_by_words, asks_help, asks_version, names_rule, taken, lint, rename, delete_field, add_import, drop_import};
 ghost use Rattle.protoref_arguments.specs.Marked.{begins_dashed, is_bad_at, words_marked, marks_for_word};
 ghost use Rattle.protoref_arguments.specs.Matched.{asked_by_matches, asked_of, with_one, with_root, with_two};
-ghost use Rattle.protoref_arguments.specs.Requests.{IsAnswerTo, IsWordsFaultOf, IsHelpOf, IsSetFor, IsTextOf, name_rule};
+ghost use Rattle.protoref_arguments.specs.Requests.{IsAnswerTo, IsReplyTo, IsWordsFaultOf, IsHelpOf, IsSetFor, IsTextOf, name_rule};
 
 use crate::commands::program;
+use crate::language::language_of;
 use crate::request::{Request, UsageError};
 use clap::error::ErrorKind;
 use clap::{ArgMatches, Error};
+use proto_base::Profile;
 use proto_lint_rules::{Rule, RuleSet};
 use std::alloc::Global;
 
-/// All words behind the program's name ask for the version: they are `--version` alone.
-pub fn asks_version(words: &[String]) -> bool
+/// Reads the words, of which the first is the program's name: the language of the schemas, and what
+/// is asked for. `--version` alone behind the program's name asks for the version. Else the first word
+/// there may be `--as-written`, which asks for the language as written, and the others are those of a
+/// command. Behind the command each word is the text that it is, whatever it begins with, unless the
+/// first of them asks for help.
+/// `BadCommandLine` comes where the words are none of the program's, or name a rule that there is
+/// not; `NoMemory` where memory runs out.
+pub fn parse_arguments(alloc: Global, words: &[String]) -> Result<(Profile, Request), UsageError>
+    ensures { IsAnswerTo (asked_by_line (drop 1 (map string_bytes words.now))) result }
+{
+    if asks_version(words) {
+        return Ok((Profile::Core, Request::Version));
+    }
+    let (profile, words) = language_of(words);
+    let request = request_by_words(alloc, words)?;
+    Ok((profile, request))
+}
+
+// The words behind the program's name ask for the version.
+fn asks_version(words: &[String]) -> bool
     ensures { result ≡ asks_version (drop 1 (map string_bytes words.now)) }
 {
     words.len() == 2 && words[1].as_str() == "--version"
 }
 
-/// Reads the words of a command, of which the first is the program's name. Behind the command each
-/// word is the text that it is, whatever it begins with, unless the first of them asks for help.
-/// `BadCommandLine` comes where the words are no command's, as `--version` is none, or name a rule
-/// that there is not; `NoMemory` where memory runs out.
-pub fn parse_arguments(alloc: Global, words: &[String]) -> Result<Request, UsageError>
-    ensures { IsAnswerTo (asked_by_words (drop 1 (map string_bytes words.now))) result }
+// What the words of a command ask for.
+fn request_by_words(alloc: Global, words: &[String]) -> Result<Request, UsageError>
+    ensures { IsReplyTo (asked_by_words (drop 1 (map string_bytes words.now))) result }
 {
     let words = marked_words(alloc, words)?;
     let program = program(alloc)?;
@@ -92,7 +109,7 @@ fn asks_help(word: &str) -> bool
 
 // What the matches ask for.
 fn request_of(alloc: Global, matches: &ArgMatches<'_>) -> Result<Request, UsageError>
-    ensures { IsAnswerTo (asked_of (subcommand_rows_of matches.now)) result }
+    ensures { IsReplyTo (asked_of (subcommand_rows_of matches.now)) result }
 {
     let Some((command, matches)) = matches.subcommand() else {
         return Err(UsageError::BadCommandLine);
@@ -102,7 +119,7 @@ fn request_of(alloc: Global, matches: &ArgMatches<'_>) -> Result<Request, UsageE
 
 // What the command with this name and these matches asks for.
 fn request_in(alloc: Global, command: &str, matches: &ArgMatches<'_>) -> Result<Request, UsageError>
-    ensures { IsAnswerTo (asked_by_matches command.now (rows_of (found_of matches.now))) result }
+    ensures { IsReplyTo (asked_by_matches command.now (rows_of (found_of matches.now))) result }
 {
     let root = text_of(alloc, matches, "ROOT")?;
     request_with(alloc, command, matches, root)
@@ -115,7 +132,7 @@ fn request_with(
     matches: &ArgMatches<'_>,
     root: String,
 ) -> Result<Request, UsageError>
-    ensures { IsAnswerTo
+    ensures { IsReplyTo
         (with_root command.now (rows_of (found_of matches.now)) (string_bytes root)) result }
 {
     match command {
@@ -134,7 +151,7 @@ fn request_with(
 }
 
 fn lint_of(matches: &ArgMatches<'_>, root: String) -> Result<Request, UsageError>
-    ensures { IsAnswerTo (taken lint (string_bytes root
+    ensures { IsReplyTo (taken lint (string_bytes root
         ∷ unwrap_or (all_of (codes "RULE") (rows_of (found_of matches.now))) [])) result }
 {
     let rules = rules_in(matches)?;
@@ -153,7 +170,7 @@ fn rules_in(matches: &ArgMatches<'_>) -> Result<RuleSet, UsageError>
 }
 
 fn rename_of(alloc: Global, matches: &ArgMatches<'_>, root: String) -> Result<Request, UsageError>
-    ensures { IsAnswerTo (with_two rename (codes "NAME") (codes "TO")
+    ensures { IsReplyTo (with_two rename (codes "NAME") (codes "TO")
         (rows_of (found_of matches.now)) (string_bytes root)) result }
 {
     let name = text_of(alloc, matches, "NAME")?;
@@ -166,7 +183,7 @@ fn delete_field_of(
     matches: &ArgMatches<'_>,
     root: String,
 ) -> Result<Request, UsageError>
-    ensures { IsAnswerTo (with_one delete_field (codes "NAME")
+    ensures { IsReplyTo (with_one delete_field (codes "NAME")
         (rows_of (found_of matches.now)) (string_bytes root)) result }
 {
     let name = text_of(alloc, matches, "NAME")?;
@@ -178,7 +195,7 @@ fn add_import_of(
     matches: &ArgMatches<'_>,
     root: String,
 ) -> Result<Request, UsageError>
-    ensures { IsAnswerTo (with_two add_import (codes "FILE") (codes "PATH")
+    ensures { IsReplyTo (with_two add_import (codes "FILE") (codes "PATH")
         (rows_of (found_of matches.now)) (string_bytes root)) result }
 {
     let file = text_of(alloc, matches, "FILE")?;
@@ -191,7 +208,7 @@ fn drop_import_of(
     matches: &ArgMatches<'_>,
     root: String,
 ) -> Result<Request, UsageError>
-    ensures { IsAnswerTo (with_two drop_import (codes "FILE") (codes "PATH")
+    ensures { IsReplyTo (with_two drop_import (codes "FILE") (codes "PATH")
         (rows_of (found_of matches.now)) (string_bytes root)) result }
 {
     let file = text_of(alloc, matches, "FILE")?;

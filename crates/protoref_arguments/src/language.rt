@@ -9,7 +9,7 @@ use proto_base::Profile;
 /// program's name may be `--as-written`: the language is the one as written then, and that word
 /// stands in the place of the program's name in what is answered. Else it is the core language, and
 /// all words are answered.
-pub fn language_of(words: &[String]) -> (Profile, &[String])
+pub(crate) fn language_of(words: &[String]) -> (Profile, &[String])
     ensures language { result.0 ≡ (asked_in (drop 1 (map string_bytes words.now))).0 }
     ensures words { drop 1 (map string_bytes result.1.now)
         ≡ (asked_in (drop 1 (map string_bytes words.now))).1 }

@@ -7,6 +7,5 @@ mod help;
 mod language;
 mod request;
 
-pub use command_line::{asks_version, parse_arguments};
-pub use language::language_of;
+pub use command_line::parse_arguments;
 pub use request::{Request, UsageError};

@@ -1,7 +1,7 @@
 //! Which command the words of the command line ask for.
 
 use proto_base::Profile;
-use protoref_arguments::{Request, UsageError, asks_version, language_of, parse_arguments};
+use protoref_arguments::{Request, UsageError, parse_arguments};
 use protoref_commands::{Rule, RuleSet};
 use std::process::Abort;
 
@@ -36,10 +36,11 @@ fn words_of<R: AllocGlobal + Abort>(rt: &R, line: &str) -> Vec<String> {
     words
 }
 
-// Whether the words ask for what is wanted.
-fn is_asked<R: AllocGlobal + Abort>(rt: &R, words: &[String], wanted: &str) -> bool {
-    match parse_arguments(rt.alloc(), words) {
-        Ok(request) => asks_for(rt, &request, wanted),
+// Whether the line asks for what is wanted, in the language that is wanted.
+fn is_asked<R: AllocGlobal + Abort>(rt: &R, line: &str, wanted: &str, language: Profile) -> bool {
+    let words = words_of(rt, line);
+    match parse_arguments(rt.alloc(), words.as_slice()) {
+        Ok((profile, request)) => profile == language && asks_for(rt, &request, wanted),
         Err(UsageError::BadCommandLine) => wanted == REFUSAL,
         Err(UsageError::NoMemory) => false,
     }
@@ -47,72 +48,41 @@ fn is_asked<R: AllocGlobal + Abort>(rt: &R, words: &[String], wanted: &str) -> b
 
 fn expect_rows<R: AllocGlobal + Abort>(rt: &R, rows: &[Row]) {
     for (line, wanted) in rows {
-        let words = words_of(rt, line);
-        let is_wanted = is_asked(rt, words.as_slice(), wanted);
+        let is_wanted = is_asked(rt, line, wanted, Profile::Core);
         assert!(rt; is_wanted, "at {line}");
     }
 }
 
-/// Lines, what each asks for, and whether of the language as written.
-const LANGUAGES: &[(&str, &str, bool)] = &[
-    ("protoref compile .", "compile|.", false),
-    ("protoref --as-written compile .", "compile|.", true),
-    (
-        "protoref --as-written rename . A.b c",
-        "rename|.|A.b|c",
-        true,
-    ),
-    ("protoref --as-written --help", "help|Usage: protoref", true),
-    (
-        "protoref compile --as-written",
-        "compile|--as-written",
-        false,
-    ),
-    // The word stands first, once and in just this spelling.
-    ("protoref --as-written", REFUSAL, true),
-    ("protoref --as-written --version", REFUSAL, true),
-    (
-        "protoref --as-written --as-written compile .",
-        REFUSAL,
-        true,
-    ),
-    ("protoref --As-Written compile .", REFUSAL, false),
-    ("protoref --as-written= compile .", REFUSAL, false),
-    ("protoref compile . --as-written", REFUSAL, false),
-    ("protoref", REFUSAL, false),
+/// Lines, and what each asks for in the language as written.
+const AS_WRITTEN: &[Row] = &[
+    ("protoref --as-written compile .", "compile|."),
+    ("protoref --as-written rename . A.b c", "rename|.|A.b|c"),
+    ("protoref --as-written --help", "help|Usage: protoref"),
+    // The word stands once, and before a command.
+    ("protoref --as-written", REFUSAL),
+    ("protoref --as-written --version", REFUSAL),
+    ("protoref --as-written --as-written compile .", REFUSAL),
+];
+
+/// Lines that ask for no language, and what each asks for.
+const CORE: &[Row] = &[
+    ("protoref compile .", "compile|."),
+    ("protoref compile --as-written", "compile|--as-written"),
+    ("protoref --version", "version"),
+    // The word stands first, in just this spelling.
+    ("protoref --As-Written compile .", REFUSAL),
+    ("protoref --as-written= compile .", REFUSAL),
+    ("protoref compile . --as-written", REFUSAL),
+    ("protoref", REFUSAL),
 ];
 
 #[test]
 fn the_first_word_asks_for_a_language(rt: HostRuntime) {
-    for (line, wanted, is_as_written) in LANGUAGES {
-        let words = words_of(&rt, line);
-        let (profile, words) = language_of(words.as_slice());
-        let is_wanted = is_asked(&rt, words, wanted)
-            && (profile == Profile::AsWritten) == *is_as_written;
+    for (line, wanted) in AS_WRITTEN {
+        let is_wanted = is_asked(&rt, line, wanted, Profile::AsWritten);
         assert!(&rt; is_wanted, "at {line}");
     }
-}
-
-/// Lines, and whether they ask for the version.
-const VERSIONS: &[(&str, bool)] = &[
-    ("protoref --version", true),
-    // The word stands alone, in just this spelling.
-    ("protoref", false),
-    ("protoref --Version", false),
-    ("protoref version", false),
-    ("protoref --version .", false),
-    ("protoref --version --help", false),
-    ("protoref --as-written --version", false),
-    ("protoref lint --version", false),
-];
-
-#[test]
-fn one_word_asks_for_the_version(rt: HostRuntime) {
-    for (line, is_version) in VERSIONS {
-        let words = words_of(&rt, line);
-        let is_wanted = asks_version(words.as_slice()) == *is_version;
-        assert!(&rt; is_wanted, "at {line}");
-    }
+    expect_rows(&rt, CORE);
 }
 
 fn asks_for<R: Abort>(rt: &R, request: &Request, wanted: &str) -> bool {
