@@ -115,18 +115,20 @@ pub(crate) fn program<'a>(alloc: Global) -> Result<Command<'a>, NoMemory>
     ensures { IfOk result (λ c. app_of c ≡ program) }
 {
     let commands = commands_of(alloc, COMMANDS)?;
-    Ok(program_alone(alloc).subcommands(commands)?)
+    let alone = program_alone(alloc)?;
+    Ok(alone.subcommands(commands)?)
 }
 
-// The program, with no command yet.
-fn program_alone<'a>(alloc: Global) -> Command<'a>
-    ensures { app_of result ≡ record { top = bare; subs = [] } }
+// The program, with no command yet. Usage has its own name, since another word may stand first.
+fn program_alone<'a>(alloc: Global) -> Result<Command<'a>, NoMemory>
+    ensures { IfOk result (λ c. app_of c ≡ record { top = bare; subs = [] }) }
 {
-    Command::new(alloc, "protoref")
+    let alone = Command::new(alloc, "protoref")
         .about("Compiles, lints and edits Protocol Buffers schemas")
         .after_help(help::PROGRAM)
         .disable_help_subcommand(true)
-        .subcommand_required(true)
+        .subcommand_required(true);
+    Ok(alone.bin_name("protoref")?)
 }
 
 // The commands of a table.
