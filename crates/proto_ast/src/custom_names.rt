@@ -7,8 +7,8 @@ ghost use Rattle.proto_ast.specs.CustomNames.{custom_name, custom_name_between, 
 ghost use Rattle.proto_ast.specs.Parts.{separated};
 
 use proto_tree::{
-    Enum, EnumItem, Extend, File, Item, Member, Message, Method, MethodEnd, MethodItem, Oneof,
-    OneofItem, Reference, Separated, Service, ServiceItem, Setting, Settings,
+    Enum, EnumItem, Extend, File, Item, Member, Message, Method, MethodEnd, MethodItem, OnHeap,
+    Oneof, OneofItem, Reference, Separated, Service, ServiceItem, Setting, Settings,
 };
 
 fn first_token(name: &Reference) -> u32
@@ -24,7 +24,7 @@ fn in_setting(setting: &Setting) -> Option<u32>
     ensures { result ≡ custom_name setting.now }
 {
     match setting {
-        Setting::Custom(custom) => Some(first_token(&custom.name)),
+        Setting::Custom(custom) => Some(first_token(&custom.get().name)),
         Setting::Plain(_) => None,
     }
 }
@@ -43,11 +43,11 @@ fn in_list(list: &Separated<Setting>) -> Option<u32>
     None
 }
 
-fn in_settings(settings: &Option<Settings>) -> Option<u32>
+fn in_settings(settings: &Option<OnHeap<Settings>>) -> Option<u32>
     ensures { result ≡ custom_name_between settings.now }
 {
     match settings {
-        Some(settings) => in_list(&settings.list),
+        Some(settings) => in_list(&settings.get().list),
         None => None,
     }
 }

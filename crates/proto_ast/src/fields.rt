@@ -8,7 +8,7 @@ ghost use Rattle.proto_ast.specs.Views.{field_of, option_of};
 use crate::separated::push;
 use proto_base::NoMemory;
 use proto_tree::{
-    Constant, Extension, Field, FieldType, MapField, Member, OneofItem, Separated, Setting,
+    Constant, Extension, Field, FieldType, MapField, Member, OnHeap, OneofItem, Separated, Setting,
     Settings,
 };
 use std::alloc::Global;
@@ -30,7 +30,7 @@ pub struct FieldAt<'a> {
     pub kind: &'a FieldType,
     pub name: u32,
     pub number: u32,
-    pub settings: Option<&'a Settings>,
+    pub settings: Option<&'a OnHeap<Settings>>,
 }
 
 /// Adds the option that a setting is; a custom option is none of these.
@@ -70,13 +70,14 @@ fn push_settings<'a>(
 /// The options between brackets that are set by their words, in order.
 pub fn options_between<'a>(
     alloc: Global,
-    settings: Option<&'a Settings>,
+    settings: Option<&'a OnHeap<Settings>>,
 ) -> Result<Vec<OptionAt<'a>>, NoMemory>
     ensures { IfOk result (λ options. map option_of options.items
         ≡ settings_of (option_map (λ s. s.now) settings.entry)) }
 {
     let mut options = Vec::new(alloc);
     if let Some(settings) = settings {
+        let settings = settings.get();
         push_settings(&mut options, &settings.list)?;
     }
     Ok(options)

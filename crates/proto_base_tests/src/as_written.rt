@@ -239,6 +239,7 @@ fn is_option(file: &File) -> bool {
     let Setting::Custom(custom) = &option.setting else {
         return false;
     };
+    let custom = custom.get();
     let CustomValue::Aggregate(value) = &custom.value else {
         return false;
     };

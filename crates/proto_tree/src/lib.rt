@@ -11,6 +11,7 @@ pub mod laws;
 mod list;
 mod methods;
 mod names;
+mod on_heap;
 mod options;
 mod parsing;
 mod piece;
@@ -23,6 +24,7 @@ mod tree;
 mod words;
 
 pub use list::Sequence;
+pub use on_heap::OnHeap;
 pub use parsing::{ParseFault, parse, parse_as};
 pub use steps::{Steps, parse_counted, parse_counted_as};
 pub use tree::{

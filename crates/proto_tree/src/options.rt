@@ -6,6 +6,7 @@ ghost use Rattle.proto_tree.specs.Reading.{Gives, starts, stated, token, many, s
 
 use crate::class::{Class, Expected, Lexeme};
 use crate::list::Sequence;
+use crate::on_heap::OnHeap;
 use crate::piece::{Piece, Statement};
 use crate::reading::{Listed, Stop, first, more_items, one, option, separated_items, starts, take};
 use crate::tree::{
@@ -192,6 +193,7 @@ fn setting(alloc: Global, rest: &[Lexeme]) -> Result<(Setting, &[Lexeme]), Stop>
 {
     if starts(rest, Expected::One(Class::NameParenthesis)) {
         let (custom, rest) = custom(alloc, rest)?;
+        let custom = OnHeap::new(alloc, custom)?;
         return Ok((Setting::Custom(custom), rest));
     }
     let (plain, rest) = plain(alloc, rest)?;
@@ -210,7 +212,10 @@ impl Listed for Setting {
 
 /// The settings of a field or a value, where it has some.
 #[tactic(auto, unfolding(crate::specs::Reading::settings_at))]
-pub fn settings(alloc: Global, rest: &[Lexeme]) -> Result<(Option<Settings>, &[Lexeme]), Stop>
+pub fn settings(
+    alloc: Global,
+    rest: &[Lexeme],
+) -> Result<(Option<OnHeap<Settings>>, &[Lexeme]), Stop>
     ensures { Gives (λ x. (x.0, x.1.now)) result (maybe_settings rest.now) }
 {
     if !starts(rest, Expected::One(Class::LeftBracket)) {
@@ -220,7 +225,8 @@ pub fn settings(alloc: Global, rest: &[Lexeme]) -> Result<(Option<Settings>, &[L
     let name = Expected::OptionName;
     let (list, rest) = separated_items(alloc, rest, Class::Comma, name, name)?;
     let (close, rest) = one(rest, Class::RightBracket)?;
-    Ok((Some(Settings { open, list, close }), rest))
+    let settings = OnHeap::new(alloc, Settings { open, list, close })?;
+    Ok((Some(settings), rest))
 }
 
 /// `option name = value;`

@@ -5,6 +5,7 @@ ghost use Rattle.proto_tree.specs.Reading.{Gives, starts, stated, syntax_at, imp
 
 use crate::class::{Class, Expected, Lexeme};
 use crate::names::{field_type, package_name};
+use crate::on_heap::OnHeap;
 use crate::options::settings;
 use crate::piece::{Piece, Statement};
 use crate::ranges::Numeral;
@@ -74,7 +75,7 @@ struct NumberAndSettings<N: Drop> {
     name: u32,
     equals: u32,
     number: N,
-    settings: Option<Settings>,
+    settings: Option<OnHeap<Settings>>,
     semicolon: u32,
 }
 

@@ -2,6 +2,7 @@
 //! kept.
 
 use crate::list::Sequence;
+use crate::on_heap::OnHeap;
 
 /// A separator and what stands behind it.
 #[derive(Drop)]
@@ -105,7 +106,7 @@ pub struct Custom {
 #[derive(Drop)]
 pub enum Setting {
     Plain(Plain),
-    Custom(Custom),
+    Custom(OnHeap<Custom>),
 }
 
 /// `[name = value, ..]`
@@ -158,7 +159,7 @@ pub struct Field {
     pub name: u32,
     pub equals: u32,
     pub number: u32,
-    pub settings: Option<Settings>,
+    pub settings: Option<OnHeap<Settings>>,
     pub semicolon: u32,
 }
 
@@ -174,7 +175,7 @@ pub struct MapField {
     pub name: u32,
     pub equals: u32,
     pub number: u32,
-    pub settings: Option<Settings>,
+    pub settings: Option<OnHeap<Settings>>,
     pub semicolon: u32,
 }
 
@@ -229,7 +230,7 @@ pub struct Value {
     pub name: u32,
     pub equals: u32,
     pub number: Signed,
-    pub settings: Option<Settings>,
+    pub settings: Option<OnHeap<Settings>>,
     pub semicolon: u32,
 }
 
