@@ -2,7 +2,7 @@
 use Rattle.std.proofs.Common.{◌≡◌, ◌↔◌, ◌⊎◌, ℕ, ◌+◌, ◌<◌, Bool, true, false, List, [], length, get_or, take, map, string_bytes, Option, Some, None, refl, sym, ap, subst, ◌∙◌, inl, inr, arith, Contains, true≢false}
 use Rattle.proto_base.proofs.Common.{cases_eq, contains_map, from_map, option_map_or}
 use Rattle.proto_base.specs.declared.fault.FaultKind.TheVariants.{ImportCycle}
-use Rattle.proto_names_rules.proofs.Common.{AskedImport, Fault, Import, ImportFault, IsAcyclic, Leads, at, cycle, double as double_import, fault, file_with_path, imports_of, onward, stop, unknown as unknown_import}
+use Rattle.proto_names_rules.proofs.Common.{AskedImport, Fault, Import, ImportFault, IsAcyclic, Leads, cycle, double as double_import, fault, file_with_path, imports_of, onward, stop, unknown as unknown_import}
 use Rattle.proto_names_imports.specs.Common.{IsMarked, PathFault, Walks, all_asked, asked_by, double, goes, stays, unknown}
 use Rattle.proto_names_imports.specs.declared.import.WrittenImport.{WrittenImport}
 use Rattle.proto_names_imports.proofs.ImportGraph.{IsGraph, import_contained}

@@ -1,5 +1,5 @@
 -- What is wrong with imports, one import more and one file more.
-use Rattle.std.proofs.Common.{◌≡◌, ◌↔◌, ◌⊎◌, ℕ, ◌+◌, ◌<◌, Bool, true, false, List, [], length, get_or, take, Option, None, string_bytes, sym, ap, subst, inl, inr, arith, bytes_eq, take_all}
+use Rattle.std.proofs.Common.{◌≡◌, ◌↔◌, ◌⊎◌, ℕ, ◌+◌, ◌<◌, Bool, true, false, List, [], length, get_or, take, None, string_bytes, sym, subst, inl, inr, arith, bytes_eq, take_all}
 use Rattle.std.specs.List.{list_any}
 use Rattle.proto_base.proofs.Common.{option_map_or}
 use Rattle.proto_base.specs.declared.fault.FaultKind.TheVariants.{DoubleImport, ImportCycle, UnknownImport}

@@ -2,7 +2,7 @@
 use Rattle.std.proofs.Common.{◌≡◌, ◌↔◌, ◌⊎◌, ◌||◌, ℕ, zero, suc, ◌+◌, ◌<◌, Bool, true, false, not, List, [], ◌∷◌, ◌++◌, length, get_or, take, map, string_bytes, Option, Some, None, refl, sym, ap, subst, ◌∙◌, inl, inr, arith, Contains, bytes_eq, append_assoc, append-nil, is_some, length-take-le, true≢false}
 use Rattle.std.specs.List.{list_any}
 use Rattle.proto_base.proofs.Common.{Contains-append_cases, Contains-append_left, Contains-append_right, any_from, any_to, contains_cases, contains_head, contains_later, contains_map, from_map, list_any_more, map-append, none-some, same_from_word, word_from_same}
-use Rattle.proto_names_rules.proofs.Common.{AskedImport, Fault, Follows, after_follows, at, fault, file_with_path, follows_after}
+use Rattle.proto_names_rules.proofs.Common.{AskedImport, Fault, Follows, after_follows, fault, file_with_path, follows_after}
 use Rattle.proto_names_imports.specs.Common.{PathFault, all_asked, asked_by, double, unknown}
 use Rattle.proto_names_imports.specs.declared.import.WrittenImport.{WrittenImport}
 use Rattle.proto_names_imports.proofs.Common.{take_more}

@@ -41,15 +41,11 @@ fn name_flaws(alloc: Global, files: &Files) -> Result<Vec<Flaw>, NoMemory>
         (NameFault (text_of files.now reads) (link_skeleton files.now reads).declared) ws.items) }
 {
     let listings = listings(alloc, files)?;
-    flaws_by_listings(alloc, files, &listings)
+    clashing_flaws(alloc, files, &listings)
 }
 
 /// The same by the listings of the files.
-fn flaws_by_listings(
-    alloc: Global,
-    files: &Files,
-    listings: &[Listing],
-) -> Result<Vec<Flaw>, NoMemory>
+fn clashing_flaws(alloc: Global, files: &Files, listings: &[Listing]) -> Result<Vec<Flaw>, NoMemory>
     requires { AreListings files.now listings.now }
     ensures { IfOk result (λ ws. (reads : List ReadOf) → AreRead files.now reads → AreFlawsOf
         (NameFault (text_of files.now reads) (link_skeleton files.now reads).declared) ws.items) }

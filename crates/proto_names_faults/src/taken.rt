@@ -19,8 +19,7 @@ pub(crate) fn take_name(
     ensures names { OnOk result ((other : List ℕ) → contains_text taken.new other
         ≡ (contains_text taken.old other || bytes_eq text.now other)) }
 {
-    let was = taken.contains(text);
     let own = String::from_str(alloc, text)?;
-    taken.insert(own)?;
-    Ok(was)
+    let is_new = taken.insert(own)?;
+    Ok(!is_new)
 }

@@ -1,4 +1,4 @@
-use Rattle.std.proofs.Common.{◌≡◌, ◌++◌, ◌∷◌, [], ℕ, List, String, Global, take, map, ap, ◌∙◌, arith, take_all}
+use Rattle.std.proofs.Common.{◌≡◌, ◌++◌, ◌∷◌, [], ℕ, List, String, Global, take, ap, ◌∙◌, arith, take_all}
 use Rattle.proto_base.proofs.Common.{Vec, map_push, taken_more}
 use Rattle.proto_base.specs.declared.profile.Profile.TheVariants.{Core}
 use Rattle.proto_files.specs.GivenFiles.{FileOf, file_of, files_of}

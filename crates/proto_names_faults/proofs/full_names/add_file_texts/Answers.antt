@@ -1,9 +1,7 @@
 use Rattle.std.proofs.Common.{◌≡◌, ◌+◌, ◌++◌, ◌≤◌, ℕ, List, [], drop, length, map, refl, sym, ◌∙◌, ap, subst, arith, append-nil, length-drop, take_all}
-use Rattle.std.specs.Cow.{cow_str_bytes}
 use Rattle.proto_names_outline.specs.Listing.{needs}
-use Rattle.proto_names_rules.specs.Forest.{under}
 use Rattle.proto_names_table.specs.Spelled.{named_on}
-use Rattle.proto_names_faults.specs.Common.{NamedText, name_at, shown, text_above}
+use Rattle.proto_names_faults.specs.Common.{NamedText, name_at, shown}
 use Rattle.proto_names_faults.proofs.FullNames.{texts_turn}
 use Rattle.proto_names_faults.proofs.full_names.add_file_texts.Goals as goal
 

@@ -2,7 +2,7 @@ use Rattle.std.proofs.Common.{length, sym, ap, subst, arith, All}
 use Rattle.std.proofs.lemmas.Result.{IfOk-weaker}
 use Rattle.proto_names_table.proofs.Common.{AreSpelled}
 use Rattle.proto_names_faults.proofs.NamesAsRead.{clashes_as_read}
-use Rattle.proto_names_faults.proofs.clashing.flaws_by_listings.Goals as goal
+use Rattle.proto_names_faults.proofs.clashing.clashing_flaws.Goals as goal
 
 pub all_spelled-requires : goal.all_spelled-requires
 all_spelled-requires c = c.requires
