@@ -3,7 +3,7 @@
 
 use crate::expecting::{expect_bytes, expect_text, parts};
 use crate::streams::{Reader, Writer};
-use proto_frames::{WriteFault, read_frame, write_frame};
+use proto_frames::{read_frame, write_frame};
 use std::io::{BufRead, BufReader};
 use std::process::Abort;
 
@@ -90,27 +90,25 @@ fn shown<R: AllocGlobal + Abort, B: BufRead>(rt: &R, reader: &mut B) -> String {
 }
 
 // What is read where each call gives at most so many bytes, and fails after so many calls.
-fn shown_by<R: AllocGlobal + Abort>(rt: &R, bytes: &[u8], most: usize, calls: usize) -> String {
+fn expect_by<R: AllocGlobal + Abort>(
+    rt: &R,
+    bytes: &[u8],
+    (most, calls): (usize, usize),
+    said: &str,
+) {
     let reader = Reader { bytes, most, calls };
-    match BufReader::new(rt.alloc(), reader) {
-        Ok(mut reader) => shown(rt, &mut reader),
-        Err(_) => String::new(rt.alloc()),
-    }
-}
-
-// What is read where each call gives at most so many bytes.
-fn expect_by<R: AllocGlobal + Abort>(rt: &R, stream: &[u8], most: usize, said: &str) {
-    let by = shown_by(rt, stream, most, usize::MAX);
-    expect_text(rt, by.as_str(), said);
+    let mut reader = BufReader::new(rt.alloc(), reader).expect(rt, "memory");
+    let found = shown(rt, &mut reader);
+    expect_text(rt, found.as_str(), said);
 }
 
 fn expect_read<R: AllocGlobal + Abort>(rt: &R, stream: &[u8], said: &str) {
     let mut bytes = stream;
     let found = shown(rt, &mut bytes);
     expect_text(rt, found.as_str(), said);
-    expect_by(rt, stream, 1, said);
-    expect_by(rt, stream, 7, said);
-    expect_by(rt, stream, 5000, said);
+    expect_by(rt, stream, (1, usize::MAX), said);
+    expect_by(rt, stream, (7, usize::MAX), said);
+    expect_by(rt, stream, (5000, usize::MAX), said);
 }
 
 fn expect_streams<R: AllocGlobal + Abort>(rt: &R, rows: &str) {
@@ -155,21 +153,16 @@ fn long_streams_are_read(rt: HostRuntime) {
 const TWO: &[u8] = b"Content-Length: 2\r\n\r\n{}Content-Length: 2\r\n\r\n[]";
 
 // What is read of two frames of 23 bytes, where a reader answers so many calls before it fails.
-fn expect_failed<R: AllocGlobal + Abort>(rt: &R, calls: usize, said: &str) {
-    let by = shown_by(rt, TWO, 1, calls);
-    expect_text(rt, by.as_str(), said);
-}
-
 #[test]
 fn readers_fail(rt: HostRuntime) {
-    expect_failed(&rt, 0, "Input");
-    expect_failed(&rt, 1, "Input");
-    expect_failed(&rt, 17, "Input");
-    expect_failed(&rt, 22, "Input");
-    expect_failed(&rt, 23, "<{}>Input");
-    expect_failed(&rt, 45, "<{}>Input");
-    expect_failed(&rt, 46, "<{}><[]>Input");
-    expect_failed(&rt, 47, "<{}><[]>end");
+    expect_by(&rt, TWO, (1, 0), "Input");
+    expect_by(&rt, TWO, (1, 1), "Input");
+    expect_by(&rt, TWO, (1, 17), "Input");
+    expect_by(&rt, TWO, (1, 22), "Input");
+    expect_by(&rt, TWO, (1, 23), "<{}>Input");
+    expect_by(&rt, TWO, (1, 45), "<{}>Input");
+    expect_by(&rt, TWO, (1, 46), "<{}><[]>Input");
+    expect_by(&rt, TWO, (1, 47), "<{}><[]>end");
 }
 
 // What a writer has that takes so many bytes a call and answers so many calls, and how the write
@@ -177,21 +170,14 @@ fn readers_fail(rt: HostRuntime) {
 fn expect_written<R: AllocGlobal + Abort>(
     rt: &R,
     content: &str,
-    pace: (usize, usize),
+    (most, calls): (usize, usize),
     wanted: &str,
     ending: &str,
 ) {
-    let mut writer = Writer {
-        bytes: Vec::new(rt.alloc()),
-        most: pace.0,
-        calls: pace.1,
-    };
+    let bytes = Vec::new(rt.alloc());
+    let mut writer = Writer { bytes, most, calls };
     let answer = write_frame(rt.alloc(), &mut writer, content.as_bytes());
     expect_bytes(rt, writer.bytes.as_slice(), wanted);
-    expect_ending(rt, answer, ending);
-}
-
-fn expect_ending<R: AllocGlobal + Abort>(rt: &R, answer: Result<(), WriteFault>, ending: &str) {
     let ended = format!(in rt.alloc(); "{answer:?}").expect(rt, "memory");
     expect_text(rt, ended.as_str(), ending);
 }

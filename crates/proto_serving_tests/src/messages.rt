@@ -3,7 +3,7 @@
 use crate::editors::{EMACS, NEOVIM, NEOVIM_ESCAPES, NEOVIM_RANGES};
 use crate::expecting::{expect_text, parts};
 use proto_messages::{
-    Document, DocumentPosition, Id, Message, Notification, Position, Range, Request, read_message,
+    Document, DocumentPosition, Id, Message, Notification, Range, Request, read_message,
 };
 use std::alloc::{AllocError, Global};
 use std::process::Abort;
@@ -144,28 +144,22 @@ const NOTIFICATIONS: &str =
 {"method":"textDocument/willSave","params":{}} => other
 {"method":"textDocument/rename","params":{}} => other"#;
 
-fn place_text(
-    alloc: Global,
-    method: &str,
-    uri: &str,
-    at: Position,
-    more: &str,
-) -> Result<String, AllocError> {
-    format!(in alloc; "{method} {uri} {}:{} {more}", at.line, at.character)
-}
-
 fn at_text(
     alloc: Global,
     method: &str,
     at: &DocumentPosition,
     more: &str,
 ) -> Result<String, AllocError> {
-    place_text(alloc, method, at.uri.as_str(), at.position, more)
+    let (uri, place) = (at.uri.as_str(), at.position);
+    format!(in alloc; "{method} {uri} {}:{} {more}", place.line, place.character)
 }
 
 fn range_text(alloc: Global, uri: &str, range: Range) -> Result<String, AllocError> {
-    let end = place_text(alloc, "to", uri, range.end, "-")?;
-    place_text(alloc, "codeAction", uri, range.start, end.as_str())
+    let (start, end) = (range.start, range.end);
+    format!(in alloc;
+        "codeAction {uri} {}:{} to {uri} {}:{} -",
+        start.line, start.character, end.line, end.character
+    )
 }
 
 fn yes_or_no(is_so: bool) -> &'static str {
@@ -182,10 +176,11 @@ fn initialize_text(
     root: &Option<String>,
     offers_utf8: bool,
 ) -> Result<String, AllocError> {
-    match root {
-        Some(root) => format!(in alloc; "initialize {root} {offers_utf8}"),
-        None => with_text(alloc, "initialize -", yes_or_no(offers_utf8)),
-    }
+    let root = match root {
+        Some(root) => root.as_str(),
+        None => "-",
+    };
+    format!(in alloc; "initialize {root} {offers_utf8}")
 }
 
 fn request_text(alloc: Global, request: &Request) -> Result<String, AllocError> {
@@ -292,36 +287,18 @@ fn expect_all<R: AllocGlobal + Abort>(rt: &R, rows: &str) {
 
 #[test]
 fn what_editors_send(rt: HostRuntime) {
-    expect_all(&rt, NEOVIM);
     expect_all(&rt, NEOVIM_RANGES);
     expect_all(&rt, NEOVIM_ESCAPES);
     expect_all(&rt, EMACS);
 }
 
 #[test]
-fn messages_and_what_is_none(rt: HostRuntime) {
+fn messages_and_parameters(rt: HostRuntime) {
     expect_all(&rt, NO_MESSAGES);
     expect_all(&rt, MESSAGES);
-    expect_one(&rt, b"\t{ \"method\" : \"exit\" }\r\n", "exit");
-}
-
-#[test]
-fn parameters_of_initialize(rt: HostRuntime) {
     expect_all(&rt, INITIALIZE);
-}
-
-#[test]
-fn positions(rt: HostRuntime) {
     expect_all(&rt, POSITIONS);
-}
-
-#[test]
-fn parameters_of_requests(rt: HostRuntime) {
     expect_all(&rt, REQUESTS);
-}
-
-#[test]
-fn parameters_of_notifications(rt: HostRuntime) {
     expect_all(&rt, NOTIFICATIONS);
 }
 
@@ -330,7 +307,8 @@ fn expect_one<R: AllocGlobal + Abort>(rt: &R, bytes: &[u8], wanted: &str) {
 }
 
 #[test]
-fn bytes_that_are_no_text(rt: HostRuntime) {
+fn bytes_of_messages(rt: HostRuntime) {
+    expect_one(&rt, b"\t{ \"method\" : \"exit\" }\r\n", "exit");
     expect_one(&rt, b"{\"method\":\"\xff\"}", "no JSON");
     expect_one(&rt, b"\xef\xbb\xbf{\"method\":\"exit\"}", "no JSON");
     expect_one(&rt, b"{\"method\":\"exit\"}\0", "no JSON");
@@ -353,6 +331,7 @@ fn depths(rt: HostRuntime) {
     expect_nested(&rt, 100_000, "no JSON");
 }
 
+// Also where none is refused, all that neovim sent is read.
 #[test]
 fn one_is_refused(rt: HostRuntime) {
     let rows = NEOVIM;

@@ -11,7 +11,6 @@ use std::alloc::{AllocError, Global};
 use std::process::Abort;
 
 /// Results, by name.
-#[derive(Clone, Copy)]
 enum Sample {
     Capabilities(PositionEncoding),
     Null,
@@ -24,25 +23,59 @@ enum Sample {
     NoActions,
 }
 
-/// Results.
-const SAMPLES: &[Sample] = &[
-    Sample::Capabilities(PositionEncoding::Utf16),
-    Sample::Capabilities(PositionEncoding::Utf8),
-    Sample::Null,
-    Sample::Location,
-    Sample::NoLocations,
-    Sample::Renameable,
-    Sample::Edits(None),
-    Sample::Edits(Some(10)),
-    Sample::Symbols,
-    Sample::Action(ActionKind::QuickFix),
-    Sample::Action(ActionKind::Refactor),
-    Sample::NoActions,
+/// What a server sends.
+enum Sent {
+    /// A result under the id 7.
+    Result(Sample),
+    /// The null result of a request whose id is a text.
+    UnderText,
+    /// An error under the number of its request, if it has one.
+    Error(ErrorCode, Option<i64>),
+    /// A document with one diagnostic, of this name.
+    Diagnostic(Option<u64>, Severity, &'static str),
+    /// One with none.
+    NoDiagnostics,
+    Shown(MessageType),
+    Logged(MessageType),
+}
+
+/// Messages.
+const MESSAGES: &[Sent] = &[
+    Sent::Result(Sample::Capabilities(PositionEncoding::Utf16)),
+    Sent::Result(Sample::Capabilities(PositionEncoding::Utf8)),
+    Sent::Result(Sample::Null),
+    Sent::Result(Sample::Location),
+    Sent::Result(Sample::NoLocations),
+    Sent::Result(Sample::Renameable),
+    Sent::Result(Sample::Edits(None)),
+    Sent::Result(Sample::Edits(Some(10))),
+    Sent::Result(Sample::Symbols),
+    Sent::Result(Sample::Action(ActionKind::QuickFix)),
+    Sent::Result(Sample::Action(ActionKind::Refactor)),
+    Sent::Result(Sample::NoActions),
+    Sent::UnderText,
+    Sent::Error(ErrorCode::ParseError, None),
+    Sent::Error(ErrorCode::InvalidRequest, None),
+    Sent::Error(ErrorCode::MethodNotFound, Some(1)),
+    Sent::Error(ErrorCode::InvalidParams, Some(-1)),
+    Sent::Error(ErrorCode::ServerNotInitialized, Some(i64::MAX)),
+    Sent::Error(ErrorCode::RequestFailed, Some(i64::MIN)),
+    Sent::Diagnostic(Some(10), Severity::Warning, "FIELD_NAMES"),
+    Sent::Diagnostic(None, Severity::Error, "17 NumberRange"),
+    Sent::NoDiagnostics,
+    Sent::Shown(MessageType::Error),
+    Sent::Logged(MessageType::Error),
+    Sent::Shown(MessageType::Warning),
+    Sent::Logged(MessageType::Warning),
+    Sent::Shown(MessageType::Info),
+    Sent::Logged(MessageType::Info),
+    Sent::Shown(MessageType::Log),
+    Sent::Logged(MessageType::Log),
 ];
 
-/// The messages of these under the id 7, each on a line; that of a location is as the recorded server
-/// wrote it, but for the order of the keys.
-const RESULTS: &str =
+/// Their texts, each on a line; that of a location is as the recorded server wrote it, but for the
+/// order of the keys.
+const TEXTS: &str =
     r#"{"id":7,"jsonrpc":"2.0","result":{"capabilities":{"codeActionProvider":{"codeActionKinds":["quickfix","refactor"]},"definitionProvider":true,"documentSymbolProvider":true,"positionEncoding":"utf-16","referencesProvider":true,"renameProvider":{"prepareProvider":true},"textDocumentSync":{"change":1,"openClose":true,"save":{"includeText":false}}},"serverInfo":{"name":"protoref_serve"}}}
 {"id":7,"jsonrpc":"2.0","result":{"capabilities":{"codeActionProvider":{"codeActionKinds":["quickfix","refactor"]},"definitionProvider":true,"documentSymbolProvider":true,"positionEncoding":"utf-8","referencesProvider":true,"renameProvider":{"prepareProvider":true},"textDocumentSync":{"change":1,"openClose":true,"save":{"includeText":false}}},"serverInfo":{"name":"protoref_serve"}}}
 {"id":7,"jsonrpc":"2.0","result":null}
@@ -51,10 +84,28 @@ const RESULTS: &str =
 {"id":7,"jsonrpc":"2.0","result":{"placeholder":"Order","range":{"end":{"character":27,"line":3},"start":{"character":22,"line":3}}}}
 {"id":7,"jsonrpc":"2.0","result":{"documentChanges":[{"edits":[{"newText":"Purchase","range":{"end":{"character":27,"line":3},"start":{"character":22,"line":3}}}],"textDocument":{"uri":"file:///ws/shop/a.proto","version":null}}]}}
 {"id":7,"jsonrpc":"2.0","result":{"documentChanges":[{"edits":[{"newText":"Purchase","range":{"end":{"character":27,"line":3},"start":{"character":22,"line":3}}}],"textDocument":{"uri":"file:///ws/shop/a.proto","version":10}}]}}
-{"id":7,"jsonrpc":"2.0","result":[{"children":[{"children":[],"kind":8,"name":"id","range":{"end":{"character":2,"line":1},"start":{"character":1,"line":1}},"selectionRange":{"end":{"character":2,"line":1},"start":{"character":1,"line":1}}}],"kind":23,"name":"M","range":{"end":{"character":9,"line":2},"start":{"character":0,"line":0}},"selectionRange":{"end":{"character":9,"line":0},"start":{"character":8,"line":0}}},{"children":[],"kind":10,"name":"E","range":{"end":{"character":2,"line":1},"start":{"character":1,"line":1}},"selectionRange":{"end":{"character":2,"line":1},"start":{"character":1,"line":1}}}]}
+{"id":7,"jsonrpc":"2.0","result":[{"children":[{"children":[],"kind":8,"name":"id","range":{"end":{"character":2,"line":1},"start":{"character":1,"line":1}},"selectionRange":{"end":{"character":2,"line":1},"start":{"character":1,"line":1}}}],"kind":23,"name":"M","range":{"end":{"character":9,"line":2},"start":{"character":0,"line":0}},"selectionRange":{"end":{"character":9,"line":0},"start":{"character":8,"line":0}}},{"children":[],"kind":10,"name":"E","range":{"end":{"character":2,"line":1},"start":{"character":1,"line":1}},"selectionRange":{"end":{"character":2,"line":1},"start":{"character":1,"line":1}}},{"children":[],"kind":4,"name":"E","range":{"end":{"character":2,"line":1},"start":{"character":1,"line":1}},"selectionRange":{"end":{"character":2,"line":1},"start":{"character":1,"line":1}}},{"children":[],"kind":6,"name":"E","range":{"end":{"character":2,"line":1},"start":{"character":1,"line":1}},"selectionRange":{"end":{"character":2,"line":1},"start":{"character":1,"line":1}}},{"children":[],"kind":11,"name":"E","range":{"end":{"character":2,"line":1},"start":{"character":1,"line":1}},"selectionRange":{"end":{"character":2,"line":1},"start":{"character":1,"line":1}}},{"children":[],"kind":22,"name":"E","range":{"end":{"character":2,"line":1},"start":{"character":1,"line":1}},"selectionRange":{"end":{"character":2,"line":1},"start":{"character":1,"line":1}}}]}
 {"id":7,"jsonrpc":"2.0","result":[{"edit":{"documentChanges":[{"edits":[{"newText":"Purchase","range":{"end":{"character":27,"line":3},"start":{"character":22,"line":3}}}],"textDocument":{"uri":"file:///ws/shop/a.proto","version":0}}]},"kind":"quickfix","title":"a \"title\""}]}
 {"id":7,"jsonrpc":"2.0","result":[{"edit":{"documentChanges":[{"edits":[{"newText":"Purchase","range":{"end":{"character":27,"line":3},"start":{"character":22,"line":3}}}],"textDocument":{"uri":"file:///ws/shop/a.proto","version":0}}]},"kind":"refactor","title":"a \"title\""}]}
-{"id":7,"jsonrpc":"2.0","result":[]}"#;
+{"id":7,"jsonrpc":"2.0","result":[]}
+{"id":"a/\"\u001f😀","jsonrpc":"2.0","result":null}
+{"error":{"code":-32700,"message":"é\n"},"id":null,"jsonrpc":"2.0"}
+{"error":{"code":-32600,"message":"é\n"},"id":null,"jsonrpc":"2.0"}
+{"error":{"code":-32601,"message":"é\n"},"id":1,"jsonrpc":"2.0"}
+{"error":{"code":-32602,"message":"é\n"},"id":-1,"jsonrpc":"2.0"}
+{"error":{"code":-32002,"message":"é\n"},"id":9223372036854775807,"jsonrpc":"2.0"}
+{"error":{"code":-32803,"message":"é\n"},"id":-9223372036854775808,"jsonrpc":"2.0"}
+{"jsonrpc":"2.0","method":"textDocument/publishDiagnostics","params":{"diagnostics":[{"code":"FIELD_NAMES","message":"a finding","range":{"end":{"character":6,"line":0},"start":{"character":0,"line":0}},"severity":2,"source":"protoref"}],"uri":"file:///ws/shop/a.proto","version":10}}
+{"jsonrpc":"2.0","method":"textDocument/publishDiagnostics","params":{"diagnostics":[{"code":"17 NumberRange","message":"a finding","range":{"end":{"character":6,"line":0},"start":{"character":0,"line":0}},"severity":1,"source":"protoref"}],"uri":"file:///ws/shop/a.proto"}}
+{"jsonrpc":"2.0","method":"textDocument/publishDiagnostics","params":{"diagnostics":[],"uri":"file:///ws/shop/a.proto","version":0}}
+{"jsonrpc":"2.0","method":"window/showMessage","params":{"message":"m","type":1}}
+{"jsonrpc":"2.0","method":"window/logMessage","params":{"message":"m","type":1}}
+{"jsonrpc":"2.0","method":"window/showMessage","params":{"message":"m","type":2}}
+{"jsonrpc":"2.0","method":"window/logMessage","params":{"message":"m","type":2}}
+{"jsonrpc":"2.0","method":"window/showMessage","params":{"message":"m","type":3}}
+{"jsonrpc":"2.0","method":"window/logMessage","params":{"message":"m","type":3}}
+{"jsonrpc":"2.0","method":"window/showMessage","params":{"message":"m","type":4}}
+{"jsonrpc":"2.0","method":"window/logMessage","params":{"message":"m","type":4}}"#;
 
 const URI: &str = "file:///ws/shop/a.proto";
 
@@ -113,24 +164,36 @@ fn leaf(alloc: Global, name: &str, kind: SymbolKind) -> Result<Symbol, AllocErro
     })
 }
 
+/// The kinds of the symbols that stand last, with none in them.
+const KINDS: &[SymbolKind] = &[
+    SymbolKind::Enum,
+    SymbolKind::Package,
+    SymbolKind::Method,
+    SymbolKind::Interface,
+    SymbolKind::EnumMember,
+];
+
 fn symbols(alloc: Global) -> Result<Vec<Symbol>, AllocError> {
-    let mut children = Vec::new(alloc);
-    children.push(leaf(alloc, "id", SymbolKind::Field)?)?;
     let mut list = Vec::new(alloc);
-    list.push(Symbol {
-        name: String::from_str(alloc, "M")?,
-        kind: SymbolKind::Struct,
-        range: range((0, 0), (2, 9)),
-        selection: range((0, 8), (0, 9)),
-        children,
-    })?;
-    list.push(leaf(alloc, "E", SymbolKind::Enum)?)?;
+    list.push(message(alloc)?)?;
+    for kind in KINDS {
+        list.push(leaf(alloc, "E", *kind)?)?;
+    }
     Ok(list)
 }
 
-fn answer(alloc: Global, sample: Sample) -> Result<Answer, AllocError> {
+// A symbol with one in it.
+fn message(alloc: Global) -> Result<Symbol, AllocError> {
+    let mut symbol = leaf(alloc, "M", SymbolKind::Struct)?;
+    symbol.range = range((0, 0), (2, 9));
+    symbol.selection = range((0, 8), (0, 9));
+    symbol.children.push(leaf(alloc, "id", SymbolKind::Field)?)?;
+    Ok(symbol)
+}
+
+fn answer(alloc: Global, sample: &Sample) -> Result<Answer, AllocError> {
     match sample {
-        Sample::Capabilities(encoding) => Ok(Answer::Capabilities(encoding)),
+        Sample::Capabilities(encoding) => Ok(Answer::Capabilities(*encoding)),
         Sample::Null => Ok(Answer::Null),
         Sample::Location => Ok(Answer::Locations(locations(alloc)?)),
         Sample::NoLocations => Ok(Answer::Locations(Vec::new(alloc))),
@@ -138,64 +201,21 @@ fn answer(alloc: Global, sample: Sample) -> Result<Answer, AllocError> {
             let name = String::from_str(alloc, "Order")?;
             Ok(Answer::Renameable(range((3, 22), (3, 27)), name))
         }
-        Sample::Edits(version) => Ok(Answer::Edits(edits(alloc, version)?)),
+        Sample::Edits(version) => Ok(Answer::Edits(edits(alloc, *version)?)),
         Sample::Symbols => Ok(Answer::Symbols(symbols(alloc)?)),
-        Sample::Action(kind) => Ok(Answer::Actions(actions(alloc, kind)?)),
+        Sample::Action(kind) => Ok(Answer::Actions(actions(alloc, *kind)?)),
         Sample::NoActions => Ok(Answer::Actions(Vec::new(alloc))),
     }
 }
 
-fn result(alloc: Global, sample: Sample) -> Result<Vec<u8>, AllocError> {
+fn result(alloc: Global, sample: &Sample) -> Result<Vec<u8>, AllocError> {
     let answer = answer(alloc, sample)?;
     result_message(alloc, &Id::Number(7), &answer)
 }
 
-// Each of them, unless memory is refused.
-fn expect_results<R: AllocGlobal + Abort>(rt: &R) -> Result<(), AllocError> {
-    let mut rows = RESULTS.lines();
-    for sample in SAMPLES {
-        let wanted = rows.next().expect(rt, "a row");
-        let text = result(rt.alloc(), *sample)?;
-        expect_bytes(rt, text.as_slice(), wanted);
-    }
-    expect_that(rt, rows.next().is_none(), "as many rows");
-    Ok(())
-}
-
-#[test]
-fn results(rt: HostRuntime) {
-    assert!(rt; expect_results(&rt).is_ok());
-}
-
-/// Kinds of symbols, and their numbers in the protocol.
-const KINDS: &[(SymbolKind, &str)] = &[
-    (SymbolKind::Package, "\"kind\":4,"),
-    (SymbolKind::Method, "\"kind\":6,"),
-    (SymbolKind::Field, "\"kind\":8,"),
-    (SymbolKind::Enum, "\"kind\":10,"),
-    (SymbolKind::Interface, "\"kind\":11,"),
-    (SymbolKind::EnumMember, "\"kind\":22,"),
-    (SymbolKind::Struct, "\"kind\":23,"),
-];
-
-// The message of a symbol of this kind.
-fn symbol(alloc: Global, kind: SymbolKind) -> Result<Vec<u8>, AllocError> {
-    let mut list = Vec::new(alloc);
-    list.push(leaf(alloc, "a", kind)?)?;
-    result_message(alloc, &Id::Number(1), &Answer::Symbols(list))
-}
-
-fn expect_kind<R: AllocGlobal + Abort>(rt: &R, kind: SymbolKind, wanted: &str) {
-    let text = symbol(rt.alloc(), kind).expect(rt, "memory");
-    let text = std::str::from_utf8(text.as_slice()).expect(rt, "UTF-8");
-    expect_that(rt, text.contains(wanted), wanted);
-}
-
-#[test]
-fn kinds_of_symbols(rt: HostRuntime) {
-    for (kind, wanted) in KINDS {
-        expect_kind(&rt, *kind, wanted);
-    }
+fn under_text(alloc: Global) -> Result<Vec<u8>, AllocError> {
+    let id = Id::Text(String::from_str(alloc, "a/\"\u{1f}😀")?);
+    result_message(alloc, &id, &Answer::Null)
 }
 
 fn error(alloc: Global, code: ErrorCode, number: Option<i64>) -> Result<Vec<u8>, AllocError> {
@@ -203,48 +223,6 @@ fn error(alloc: Global, code: ErrorCode, number: Option<i64>) -> Result<Vec<u8>,
         Some(number) => error_message(alloc, Some(&Id::Number(number)), code, "é\n"),
         None => error_message(alloc, None, code, "é\n"),
     }
-}
-
-// An error under the number of its request, if it has one.
-fn expect_error<R: AllocGlobal + Abort>(
-    rt: &R,
-    code: ErrorCode,
-    number: Option<i64>,
-    wanted: &str,
-) {
-    let text = error(rt.alloc(), code, number).expect(rt, "memory");
-    expect_bytes(rt, text.as_slice(), wanted);
-}
-
-#[test]
-fn errors(rt: HostRuntime) {
-    let wanted = r#"{"error":{"code":-32700,"message":"é\n"},"id":null,"jsonrpc":"2.0"}"#;
-    expect_error(&rt, ErrorCode::ParseError, None, wanted);
-    let wanted = r#"{"error":{"code":-32600,"message":"é\n"},"id":null,"jsonrpc":"2.0"}"#;
-    expect_error(&rt, ErrorCode::InvalidRequest, None, wanted);
-    let wanted = r#"{"error":{"code":-32601,"message":"é\n"},"id":1,"jsonrpc":"2.0"}"#;
-    expect_error(&rt, ErrorCode::MethodNotFound, Some(1), wanted);
-    let wanted = r#"{"error":{"code":-32602,"message":"é\n"},"id":-1,"jsonrpc":"2.0"}"#;
-    expect_error(&rt, ErrorCode::InvalidParams, Some(-1), wanted);
-    let wanted =
-        r#"{"error":{"code":-32002,"message":"é\n"},"id":9223372036854775807,"jsonrpc":"2.0"}"#;
-    expect_error(&rt, ErrorCode::ServerNotInitialized, Some(i64::MAX), wanted);
-    let wanted =
-        r#"{"error":{"code":-32803,"message":"é\n"},"id":-9223372036854775808,"jsonrpc":"2.0"}"#;
-    expect_error(&rt, ErrorCode::RequestFailed, Some(i64::MIN), wanted);
-}
-
-// The null result of a request of this text as id.
-fn under(alloc: Global, id: &str) -> Result<Vec<u8>, AllocError> {
-    let id = Id::Text(String::from_str(alloc, id)?);
-    result_message(alloc, &id, &Answer::Null)
-}
-
-#[test]
-fn ids_that_are_texts(rt: HostRuntime) {
-    let text = under(rt.alloc(), "a/\"\u{1f}😀").expect(&rt, "memory");
-    let wanted = r#"{"id":"a/\"\u001f😀","jsonrpc":"2.0","result":null}"#;
-    expect_bytes(&rt, text.as_slice(), wanted);
 }
 
 fn diagnostic(alloc: Global, severity: Severity, code: &str) -> Result<Diagnostic, AllocError> {
@@ -256,10 +234,15 @@ fn diagnostic(alloc: Global, severity: Severity, code: &str) -> Result<Diagnosti
     })
 }
 
-fn one(alloc: Global, severity: Severity, code: &str) -> Result<Vec<Diagnostic>, AllocError> {
-    let mut list = Vec::new(alloc);
-    list.push(diagnostic(alloc, severity, code)?)?;
-    Ok(list)
+fn one_diagnostic(
+    alloc: Global,
+    version: Option<u64>,
+    severity: Severity,
+    code: &str,
+) -> Result<Vec<u8>, AllocError> {
+    let mut diagnostics = Vec::new(alloc);
+    diagnostics.push(diagnostic(alloc, severity, code)?)?;
+    published(alloc, version, diagnostics)
 }
 
 fn published(
@@ -276,66 +259,38 @@ fn published(
     diagnostics_message(alloc, &document)
 }
 
-fn expect_published<R: AllocGlobal + Abort>(
-    rt: &R,
-    version: Option<u64>,
-    diagnostics: Vec<Diagnostic>,
-    wanted: &str,
-) {
-    let text = published(rt.alloc(), version, diagnostics).expect(rt, "memory");
-    expect_bytes(rt, text.as_slice(), wanted);
+fn written(alloc: Global, message: &Sent) -> Result<Vec<u8>, AllocError> {
+    match message {
+        Sent::Result(sample) => result(alloc, sample),
+        Sent::UnderText => under_text(alloc),
+        Sent::Error(code, number) => error(alloc, *code, *number),
+        Sent::Diagnostic(version, severity, code) => {
+            one_diagnostic(alloc, *version, *severity, code)
+        }
+        Sent::NoDiagnostics => published(alloc, Some(0), Vec::new(alloc)),
+        Sent::Shown(kind) => show_message(alloc, *kind, "m"),
+        Sent::Logged(kind) => log_message(alloc, *kind, "m"),
+    }
+}
+
+// Each of them, unless memory is refused.
+fn expect_messages<R: AllocGlobal + Abort>(rt: &R) -> Result<(), AllocError> {
+    let mut rows = TEXTS.lines();
+    for message in MESSAGES {
+        let wanted = rows.next().expect(rt, "a row");
+        let text = written(rt.alloc(), message)?;
+        expect_bytes(rt, text.as_slice(), wanted);
+    }
+    expect_that(rt, rows.next().is_none(), "as many rows");
+    Ok(())
 }
 
 #[test]
-fn diagnostics(rt: HostRuntime) {
-    let found = one(rt.alloc(), Severity::Warning, "FIELD_NAMES").expect(&rt, "memory");
-    expect_published(&rt, Some(10), found, WARNING);
-    let found = one(rt.alloc(), Severity::Error, "17 NumberRange").expect(&rt, "memory");
-    expect_published(&rt, None, found, ERROR);
-    expect_published(&rt, Some(0), Vec::new(rt.alloc()), NOTHING);
-}
-
-const WARNING: &str =
-    r#"{"jsonrpc":"2.0","method":"textDocument/publishDiagnostics","params":{"diagnostics":[{"code":"FIELD_NAMES","message":"a finding","range":{"end":{"character":6,"line":0},"start":{"character":0,"line":0}},"severity":2,"source":"protoref"}],"uri":"file:///ws/shop/a.proto","version":10}}"#;
-
-const ERROR: &str =
-    r#"{"jsonrpc":"2.0","method":"textDocument/publishDiagnostics","params":{"diagnostics":[{"code":"17 NumberRange","message":"a finding","range":{"end":{"character":6,"line":0},"start":{"character":0,"line":0}},"severity":1,"source":"protoref"}],"uri":"file:///ws/shop/a.proto"}}"#;
-
-const NOTHING: &str =
-    r#"{"jsonrpc":"2.0","method":"textDocument/publishDiagnostics","params":{"diagnostics":[],"uri":"file:///ws/shop/a.proto","version":0}}"#;
-
-fn expect_messages<R: AllocGlobal + Abort>(rt: &R, kind: MessageType, wanted: (&str, &str)) {
-    let shown = show_message(rt.alloc(), kind, "m").expect(rt, "memory");
-    expect_bytes(rt, shown.as_slice(), wanted.0);
-    let logged = log_message(rt.alloc(), kind, "m").expect(rt, "memory");
-    expect_bytes(rt, logged.as_slice(), wanted.1);
-}
-
-#[test]
-fn messages_for_users(rt: HostRuntime) {
-    let wanted = (
-        r#"{"jsonrpc":"2.0","method":"window/showMessage","params":{"message":"m","type":1}}"#,
-        r#"{"jsonrpc":"2.0","method":"window/logMessage","params":{"message":"m","type":1}}"#,
-    );
-    expect_messages(&rt, MessageType::Error, wanted);
-    let wanted = (
-        r#"{"jsonrpc":"2.0","method":"window/showMessage","params":{"message":"m","type":2}}"#,
-        r#"{"jsonrpc":"2.0","method":"window/logMessage","params":{"message":"m","type":2}}"#,
-    );
-    expect_messages(&rt, MessageType::Warning, wanted);
-    let wanted = (
-        r#"{"jsonrpc":"2.0","method":"window/showMessage","params":{"message":"m","type":3}}"#,
-        r#"{"jsonrpc":"2.0","method":"window/logMessage","params":{"message":"m","type":3}}"#,
-    );
-    expect_messages(&rt, MessageType::Info, wanted);
-    let wanted = (
-        r#"{"jsonrpc":"2.0","method":"window/showMessage","params":{"message":"m","type":4}}"#,
-        r#"{"jsonrpc":"2.0","method":"window/logMessage","params":{"message":"m","type":4}}"#,
-    );
-    expect_messages(&rt, MessageType::Log, wanted);
+fn messages_are_written(rt: HostRuntime) {
+    assert!(rt; expect_messages(&rt).is_ok());
 }
 
 #[test]
 fn one_is_refused(rt: HostRuntime) {
-    assert!(rt; expect_results(&rt).is_ok() || expect_results(&rt).is_ok());
+    assert!(rt; expect_messages(&rt).is_ok() || expect_messages(&rt).is_ok());
 }

@@ -189,17 +189,9 @@ fn expect_rows<R: AllocGlobal + Abort>(rt: &R, rows: &str, paces: Option<(Pace, 
 }
 
 #[test]
-fn over_bytes(rt: HostRuntime) {
+fn streams_are_served(rt: HostRuntime) {
     expect_rows(&rt, STREAMS, None);
-}
-
-#[test]
-fn over_what_is_read_ahead(rt: HostRuntime) {
     expect_rows(&rt, STREAMS, Some(((256, 1000), (1000, 1000))));
-}
-
-#[test]
-fn one_byte_at_a_time(rt: HostRuntime) {
     expect_rows(&rt, SLOW, Some(((1, 1000), (1, 1000))));
 }
 

@@ -1,6 +1,6 @@
-//! Splices as text edits, written as `LINE:COLUMN-LINE:COLUMN=NEW`.
+//! Splices as text edits, written as `LINE:COLUMN-LINE:COLUMN=NEW;`.
 
-use crate::expecting::expect_text;
+use crate::expecting::{expect_text, parts};
 use proto_base::MAX_LEN;
 use proto_positions::{Encoding, RangeEdit, have_positions, text_edits};
 use proto_text::{Splice, Splices};
@@ -9,18 +9,32 @@ use std::process::Abort;
 /// a is byte 0, é 1 and 2, 😀 3 to 6, b 7, CR LF 8 and 9, c 10, a lone CR 11, d 12, LF 13.
 const TEXT: &str = "aé😀b\r\nc\rd\n";
 
-/// The offset, the old and the new text of each splice.
-type Rows = &'static [(u32, &'static str, &'static str)];
+/// Splices of that text, written as `OFFSET=OLD=NEW;`, and their text edits in UTF-16 and in UTF-8,
+/// or `none`: two that stand at one offset keep their order; an end within a line end, or past the
+/// text, has no position.
+const SPLICES: &str = " =>  => |\
+0=a=b; => 0:0-0:1=b; => 0:0-0:1=b;|\
+1=é=e;3=😀=;7=b\r\n=x; => 0:1-0:2=e;0:2-0:4=;0:4-1:0=x; => 0:1-0:3=e;0:3-0:7=;0:7-1:0=x;|\
+10==x;10==y;11=\rd=é; => 1:0-1:0=x;1:0-1:0=y;1:1-2:1=é; => 1:0-1:0=x;1:0-1:0=y;1:1-2:1=é;|\
+14==e; => 3:0-3:0=e; => 3:0-3:0=e;|\
+8=\r=; => none => none|\
+9=\n=; => none => none|\
+14=a=; => none => none";
 
-fn put_splices<R: AllocGlobal + Abort>(rt: &R, rows: Rows) -> Vec<Splice> {
+fn splice<R: AllocGlobal + Abort>(rt: &R, written: &str) -> Splice {
+    let (at, rest) = written.split_once('=').expect(rt, "an offset");
+    let (old, new) = rest.split_once('=').expect(rt, "two texts");
+    Splice {
+        at: at.parse().expect(rt, "a number"),
+        old: String::from_str(rt.alloc(), old).expect(rt, "memory"),
+        new: String::from_str(rt.alloc(), new).expect(rt, "memory"),
+    }
+}
+
+fn splices<R: AllocGlobal + Abort>(rt: &R, written: &str) -> Vec<Splice> {
     let mut splices = Vec::new(rt.alloc());
-    for (at, old, new) in rows {
-        let splice = Splice {
-            at: *at,
-            old: String::from_str(rt.alloc(), old).expect(rt, "memory"),
-            new: String::from_str(rt.alloc(), new).expect(rt, "memory"),
-        };
-        splices.push(splice).expect(rt, "memory");
+    for part in written.split_terminator(';') {
+        splices.push(splice(rt, part)).expect(rt, "memory");
     }
     splices
 }
@@ -50,40 +64,19 @@ fn shown<R: AllocGlobal + Abort>(rt: &R, encoding: Encoding, splices: &Splices) 
     out
 }
 
-fn expect_shown<R: AllocGlobal + Abort>(
-    rt: &R,
-    encoding: Encoding,
-    splices: &Splices,
-    wanted: &str,
-) {
-    let found = shown(rt, encoding, splices);
-    expect_text(rt, found.as_str(), wanted);
-}
-
-// The text edits of splices in UTF-16 and in UTF-8.
-fn expect_edits<R: AllocGlobal + Abort>(rt: &R, rows: Rows, wide: &str, bytes: &str) {
-    let splices = Splices::new(put_splices(rt, rows)).expect(rt, "splices in order");
-    expect_shown(rt, Encoding::Utf16, &splices, wide);
-    expect_shown(rt, Encoding::Utf8, &splices, bytes);
+fn expect_edits<R: AllocGlobal + Abort>(rt: &R, written: &str, wide: &str, bytes: &str) {
+    let splices = Splices::new(splices(rt, written)).expect(rt, "splices in order");
+    let found = shown(rt, Encoding::Utf16, &splices);
+    expect_text(rt, found.as_str(), wide);
+    let found = shown(rt, Encoding::Utf8, &splices);
+    expect_text(rt, found.as_str(), bytes);
 }
 
 #[test]
 fn splices_are_text_edits(rt: HostRuntime) {
-    expect_edits(&rt, &[], "", "");
-    expect_edits(&rt, &[(0, "a", "b")], "0:0-0:1=b;", "0:0-0:1=b;");
-    expect_edits(
-        &rt,
-        &[(1, "é", "e"), (3, "😀", ""), (7, "b\r\n", "x")],
-        "0:1-0:2=e;0:2-0:4=;0:4-1:0=x;",
-        "0:1-0:3=e;0:3-0:7=;0:7-1:0=x;",
-    );
-    // Two that stand at one offset keep their order.
-    let wanted = "1:0-1:0=x;1:0-1:0=y;1:1-2:1=é;";
-    let rows = &[(10, "", "x"), (10, "", "y"), (11, "\rd", "é")];
-    expect_edits(&rt, rows, wanted, wanted);
-    expect_edits(&rt, &[(14, "", "e")], "3:0-3:0=e;", "3:0-3:0=e;");
-    // An end within a line end, or past the text.
-    expect_edits(&rt, &[(8, "\r", "")], "none", "none");
-    expect_edits(&rt, &[(9, "\n", "")], "none", "none");
-    expect_edits(&rt, &[(14, "a", "")], "none", "none");
+    for row in SPLICES.split('|') {
+        let (written, wanted) = parts(&rt, row);
+        let (wide, bytes) = parts(&rt, wanted);
+        expect_edits(&rt, written, wide, bytes);
+    }
 }
