@@ -41,6 +41,10 @@ idempotency_levels = codes "IDEMPOTENCY_UNKNOWN" ∷ codes "NO_SIDE_EFFECTS" ∷
 abbrev pub c_types : List Text
 c_types = codes "STRING" ∷ codes "CORD" ∷ codes "STRING_PIECE" ∷ []
 
+-- what `jstype` may say
+abbrev pub js_types : List Text
+js_types = codes "JS_NORMAL" ∷ codes "JS_STRING" ∷ codes "JS_NUMBER" ∷ []
+
 -- the kind, where the name is one of these; else another kind
 abbrev pub kind_if : List Text → ValueKind → Option ValueKind → Text → Option ValueKind
 kind_if names kind other name = if is_one_of names name then Some kind else other
@@ -68,15 +72,38 @@ value_kind_of element.Method name =
     kind_if (codes "deprecated" ∷ []) value_kind.Truth
     (kind_if (codes "idempotency_level" ∷ []) value_kind.IdempotencyLevel None name) name
 
+-- the options of a file as written that the core language has not, and whose value is a text
+abbrev pub written_file_texts : List Text
+written_file_texts =
+    codes "ruby_package" ∷ codes "swift_prefix" ∷ codes "php_class_prefix"
+    ∷ codes "php_metadata_namespace" ∷ []
+
+-- those that are true or false
+abbrev pub written_file_truths : List Text
+written_file_truths =
+    codes "java_generate_equals_and_hash" ∷ codes "java_generic_services"
+    ∷ codes "java_string_check_utf8" ∷ codes "cc_generic_services"
+    ∷ codes "py_generic_services" ∷ codes "php_generic_services" ∷ []
+
+-- those of a field or an extension that are true or false
+abbrev pub written_field_truths : List Text
+written_field_truths = codes "lazy" ∷ codes "unverified_lazy" ∷ codes "weak" ∷ []
+
 -- the same of the options that the language as written has besides
 abbrev pub written_kind_of : Element → Text → Option ValueKind
 written_kind_of element.File name =
-    kind_if (codes "ruby_package" ∷ []) value_kind.Text
-    (kind_if (codes "java_generate_equals_and_hash" ∷ codes "java_generic_services" ∷ [])
-    value_kind.Truth None name) name
-written_kind_of element.Field name = kind_if (codes "ctype" ∷ []) value_kind.CType None name
-written_kind_of element.Extension name = kind_if (codes "ctype" ∷ []) value_kind.CType None name
-written_kind_of element.Message name = None
+    kind_if written_file_texts value_kind.Text
+    (kind_if written_file_truths value_kind.Truth None name) name
+written_kind_of element.Field name =
+    kind_if written_field_truths value_kind.Truth
+    (kind_if (codes "ctype" ∷ []) value_kind.CType
+    (kind_if (codes "jstype" ∷ []) value_kind.JsType None name) name) name
+written_kind_of element.Extension name =
+    kind_if written_field_truths value_kind.Truth
+    (kind_if (codes "ctype" ∷ []) value_kind.CType
+    (kind_if (codes "jstype" ∷ []) value_kind.JsType None name) name) name
+written_kind_of element.Message name =
+    kind_if (codes "no_standard_descriptor_accessor" ∷ []) value_kind.Truth None name
 written_kind_of element.Service name = None
 written_kind_of element.EnumValue name = None
 written_kind_of element.Enum name = None
@@ -135,6 +162,7 @@ is_of_kind text value_kind.Truth c = is_some (truth_of text c)
 is_of_kind text value_kind.OptimizeMode c = is_word_of optimize_modes (word_of text c)
 is_of_kind text value_kind.IdempotencyLevel c = is_word_of idempotency_levels (word_of text c)
 is_of_kind text value_kind.CType c = is_word_of c_types (word_of text c)
+is_of_kind text value_kind.JsType c = is_word_of js_types (word_of text c)
 is_of_kind text value_kind.Default c = true
 
 -- whether there is a kind and a value is of it

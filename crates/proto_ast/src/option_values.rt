@@ -2,7 +2,7 @@
 
 ghost use Rattle.std.specs.Prelude.{◌≡◌, ◌∷◌, ◌++◌, find, flat_map, map, option_map, IfOk, OnOk};
 ghost use Rattle.std.specs.String.{string_bytes};
-ghost use Rattle.proto_ast.specs.Options.{c_types, is_allowed, is_named, idempotency_levels, is_of_kind, is_word_of, optimize_modes, text_of_constant, text_option, truth_named, truth_of, truth_option, word_of, word_option};
+ghost use Rattle.proto_ast.specs.Options.{c_types, is_allowed, is_named, idempotency_levels, is_of_kind, is_word_of, js_types, optimize_modes, text_of_constant, text_option, truth_named, truth_of, truth_option, word_of, word_option};
 ghost use Rattle.proto_ast.specs.Scenes.{text, value};
 ghost use Rattle.proto_ast.specs.Views.{option_of};
 
@@ -75,6 +75,12 @@ fn is_c_type(word: Option<&str>) -> bool
     matches!(word, Some("STRING" | "CORD" | "STRING_PIECE"))
 }
 
+fn is_js_type(word: Option<&str>) -> bool
+    ensures { result ≡ is_word_of js_types (option_map (λ w. w.now) word.entry) }
+{
+    matches!(word, Some("JS_NORMAL" | "JS_STRING" | "JS_NUMBER"))
+}
+
 fn is_of_kind(scene: &Scene, kind: ValueKind, value: &Constant) -> bool
     ensures { result ≡ is_of_kind (text scene.now) kind value.now }
 {
@@ -84,6 +90,7 @@ fn is_of_kind(scene: &Scene, kind: ValueKind, value: &Constant) -> bool
         ValueKind::OptimizeMode => is_optimize_mode(word(scene, value)),
         ValueKind::IdempotencyLevel => is_idempotency_level(word(scene, value)),
         ValueKind::CType => is_c_type(word(scene, value)),
+        ValueKind::JsType => is_js_type(word(scene, value)),
         ValueKind::Default => true,
     }
 }

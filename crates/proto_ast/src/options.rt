@@ -33,6 +33,8 @@ pub enum ValueKind {
     IdempotencyLevel,
     /// `STRING`, `CORD` or `STRING_PIECE`.
     CType,
+    /// `JS_NORMAL`, `JS_STRING` or `JS_NUMBER`.
+    JsType,
     /// What a field's type says.
     Default,
 }
@@ -73,8 +75,24 @@ fn written_file_option(name: &str) -> Option<ValueKind>
     ensures { result ≡ written_kind_of element.File name.now }
 {
     match name {
-        "ruby_package" => Some(ValueKind::Text),
-        "java_generate_equals_and_hash" | "java_generic_services" => Some(ValueKind::Truth),
+        "ruby_package" | "swift_prefix" | "php_class_prefix" | "php_metadata_namespace" => {
+            Some(ValueKind::Text)
+        }
+        "java_generate_equals_and_hash"
+        | "java_generic_services"
+        | "java_string_check_utf8"
+        | "cc_generic_services"
+        | "py_generic_services"
+        | "php_generic_services" => Some(ValueKind::Truth),
+        _ => None,
+    }
+}
+
+fn written_message_option(name: &str) -> Option<ValueKind>
+    ensures { result ≡ written_kind_of element.Message name.now }
+{
+    match name {
+        "no_standard_descriptor_accessor" => Some(ValueKind::Truth),
         _ => None,
     }
 }
@@ -83,7 +101,9 @@ fn written_field_option(name: &str) -> Option<ValueKind>
     ensures { result ≡ written_kind_of element.Field name.now }
 {
     match name {
+        "lazy" | "unverified_lazy" | "weak" => Some(ValueKind::Truth),
         "ctype" => Some(ValueKind::CType),
+        "jstype" => Some(ValueKind::JsType),
         _ => None,
     }
 }
@@ -95,11 +115,8 @@ fn written_option(element: Element, name: &str) -> Option<ValueKind>
     match element {
         Element::File => written_file_option(name),
         Element::Field | Element::Extension => written_field_option(name),
-        Element::Message
-        | Element::Service
-        | Element::EnumValue
-        | Element::Enum
-        | Element::Method => None,
+        Element::Message => written_message_option(name),
+        Element::Service | Element::EnumValue | Element::Enum | Element::Method => None,
     }
 }
 

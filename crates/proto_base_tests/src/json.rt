@@ -5,8 +5,9 @@ use proto_base::NoMemory;
 use proto_descriptors::{
     CType, EnumDescriptor, EnumOptions, EnumReservedRange, EnumValueDescriptor, EnumValueOptions,
     FieldDescriptor, FieldOptions, FieldRole, FieldType, FileDescriptor, FileOptions,
-    IdempotencyLevel, Label, MessageDescriptor, MessageOptions, MethodDescriptor, MethodOptions,
-    NumberRange, OptimizeMode, ServiceDescriptor, ServiceOptions, Syntax, copy_files,
+    IdempotencyLevel, JsType, Label, MessageDescriptor, MessageOptions, MethodDescriptor,
+    MethodOptions, NumberRange, OptimizeMode, ServiceDescriptor, ServiceOptions, Syntax,
+    copy_files,
 };
 use proto_descriptors_json::text_of_files;
 use std::alloc::Global;
@@ -127,6 +128,13 @@ fn empty_file(alloc: Global, name: String, syntax: Syntax) -> FileDescriptor {
             java_generate_equals_and_hash: None,
             java_generic_services: None,
             ruby_package: None,
+            java_string_check_utf8: None,
+            cc_generic_services: None,
+            py_generic_services: None,
+            php_generic_services: None,
+            swift_prefix: None,
+            php_class_prefix: None,
+            php_metadata_namespace: None,
         },
         syntax,
     }
@@ -148,8 +156,9 @@ fn empty_message(alloc: Global, name: String, map_entry: bool) -> MessageDescrip
         reserved_range: Vec::new(alloc),
         reserved_name: Vec::new(alloc),
         options: MessageOptions {
-            deprecated: None,
             map_entry,
+            deprecated: None,
+            no_standard_descriptor_accessor: None,
         },
     }
 }
@@ -174,9 +183,13 @@ fn field_of<R: AllocGlobal + Abort>(
         },
         proto3_optional: false,
         options: FieldOptions {
-            ctype: None,
-            packed: None,
             deprecated: None,
+            ctype: None,
+            jstype: None,
+            packed: None,
+            lazy: None,
+            unverified_lazy: None,
+            weak: None,
         },
     }
 }
@@ -447,6 +460,7 @@ enum Named {
     Mode(OptimizeMode),
     Level(IdempotencyLevel),
     CType(CType),
+    JsType(JsType),
 }
 
 /// All of them, with their names in descriptor.proto and in its order.
@@ -486,6 +500,9 @@ const NAMES: &[(Named, &str)] = &[
     (Named::CType(CType::String), "STRING"),
     (Named::CType(CType::Cord), "CORD"),
     (Named::CType(CType::StringPiece), "STRING_PIECE"),
+    (Named::JsType(JsType::Normal), "JS_NORMAL"),
+    (Named::JsType(JsType::String), "JS_STRING"),
+    (Named::JsType(JsType::Number), "JS_NUMBER"),
 ];
 
 fn name_of(named: &Named) -> &'static str {
@@ -495,6 +512,7 @@ fn name_of(named: &Named) -> &'static str {
         Named::Mode(mode) => mode.name(),
         Named::Level(level) => level.name(),
         Named::CType(c_type) => c_type.name(),
+        Named::JsType(js_type) => js_type.name(),
     }
 }
 

@@ -73,6 +73,14 @@ fn options_of_file(
         "csharp_namespace",
         "php_namespace",
     )?;
+    let (swift_prefix, php_class_prefix, php_metadata_namespace) = texts(
+        alloc,
+        scene,
+        options,
+        "swift_prefix",
+        "php_class_prefix",
+        "php_metadata_namespace",
+    )?;
     let ruby_package = text_option(alloc, scene, options, "ruby_package")?;
     Ok(FileOptions {
         java_package,
@@ -92,6 +100,13 @@ fn options_of_file(
         ),
         java_generic_services: truth_option(scene, options, "java_generic_services"),
         ruby_package,
+        java_string_check_utf8: truth_option(scene, options, "java_string_check_utf8"),
+        cc_generic_services: truth_option(scene, options, "cc_generic_services"),
+        py_generic_services: truth_option(scene, options, "py_generic_services"),
+        php_generic_services: truth_option(scene, options, "php_generic_services"),
+        swift_prefix,
+        php_class_prefix,
+        php_metadata_namespace,
     })
 }
 

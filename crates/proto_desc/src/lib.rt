@@ -28,8 +28,9 @@ pub use proto_base::{NoMemory, SchemaFault as CheckFault, SchemaFault as OpenFau
 pub use proto_descriptors::{
     CType, EnumDescriptor, EnumOptions, EnumReservedRange, EnumValueDescriptor, EnumValueOptions,
     FieldDescriptor, FieldOptions, FieldRole, FieldType, FileDescriptor, FileOptions,
-    IdempotencyLevel, Label, MessageDescriptor, MessageOptions, MethodDescriptor, MethodOptions,
-    NumberRange, OneofDescriptor, OptimizeMode, ServiceDescriptor, ServiceOptions, Syntax,
+    IdempotencyLevel, JsType, Label, MessageDescriptor, MessageOptions, MethodDescriptor,
+    MethodOptions, NumberRange, OneofDescriptor, OptimizeMode, ServiceDescriptor, ServiceOptions,
+    Syntax,
 };
 pub use proto_tree::Steps;
 pub use schema::{CheckedSchema, Schema};

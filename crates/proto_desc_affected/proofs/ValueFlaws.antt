@@ -1,5 +1,5 @@
 -- What is wrong with a proto3 file is the same without the names of values.
-use Rattle.std.proofs.Common.{◌≡◌, ℕ, Bool, true, not, ◌&&◌, if◌then◌else◌, List, [], ◌++◌, map, flat_map, find, Option, Some, None, option_map, is_some, codes, refl, sym, ap, ◌∙◌}
+use Rattle.std.proofs.Common.{◌≡◌, ℕ, Bool, true, not, ◌&&◌, ◌||◌, if◌then◌else◌, List, [], ◌++◌, map, flat_map, find, Option, Some, None, option_map, is_some, codes, refl, sym, ap, ◌∙◌}
 use Rattle.proto_base.specs.declared.fault.FaultKind.TheVariants as kind
 use Rattle.proto_tree.specs.declared.piece.Header.{Header}
 use Rattle.proto_tree.specs.declared.piece.Header.TheVariants as header
@@ -11,7 +11,7 @@ use Rattle.proto_ast.specs.declared.options.Element.{Element}
 use Rattle.proto_ast.specs.declared.options.Element.TheVariants as element
 use Rattle.proto_desc_numbers.specs.declared.flaw.Flaw.{Flaw}
 use Rattle.proto_desc_numbers.proofs.Common.{flaw_if, number_of_field, range_of, is_field_number, outside, field_number_flaws}
-use Rattle.proto_desc_checks.specs.FieldFlaws.{default_flaws, enum_of_type, field_flaws, flaws_of_extension, is_of_proto2, is_packable_type, is_past_zero, lacks_label, map_key_flaws, option_flaws, packed_flaws, proto3_defaults, required_extensions, required_flaws, type_flaws, type_token, wrong_default}
+use Rattle.proto_desc_checks.specs.FieldFlaws.{asks_js_type, asks_lazy, default_flaws, enum_of_type, field_flaws, flaws_of_extension, is_message_type, is_of_proto2, is_packable_type, is_past_zero, lacks_label, map_key_flaws, may_have_js_type, misfit_flaws, option_flaws, proto3_defaults, required_extensions, required_flaws, type_flaws, type_token, wrong_default}
 use Rattle.proto_desc_checks.specs.FileFlaws.{bars_extend, block_flaws, extend_flaws, extension_flaws, file_flaws, json_clashes, message_flaws, name_flaws}
 use Rattle.proto_desc_checks.proofs.KnownNames.{flat_map_same}
 use Rattle.proto_desc_affected.specs.Values.{ValueNamesMatterToNoProto3Flaws, enum_without_names, without_value_names}
@@ -48,9 +48,15 @@ module _ (scene : Scene) (proto3 : scene.is_proto3 ≡ true) where
   packable_same (field_type.Scalar t) = refl
   packable_same (field_type.Reference r) = some_nameless scene r
 
-  packed_same : (f : FieldOf) → packed_flaws bare f ≡ packed_flaws scene f
-  packed_same f =
-      ap (λ b. flat_map (λ o. flaw_if (is_named (text scene) (codes "packed") o && not (has_label scene (codes "repeated") f && b)) kind.BadOption o.name) f.options) (packable_same f.kind)
+  message_type_same : (t : FieldType) → is_message_type bare t ≡ is_message_type scene t
+  message_type_same (field_type.Scalar t) = refl
+  message_type_same (field_type.Reference r) = ap not (some_nameless scene r)
+
+  misfits_same : (f : FieldOf) → misfit_flaws bare f ≡ misfit_flaws scene f
+  misfits_same f = λ i. flat_map (λ o. flaw_if
+      (((is_named (text scene) (codes "packed") o && not (has_label scene (codes "repeated") f && packable_same f.kind i))
+      || (asks_js_type (text scene) o && not (may_have_js_type scene f)))
+      || (asks_lazy (text scene) o && not (is_some f.map_key || message_type_same f.kind i))) kind.BadOption o.name) f.options
 
   -- only here the names of values are asked for, and not of a proto3 file
   default_same : (f : FieldOf) → default_flaws bare f ≡ default_flaws scene f
@@ -63,7 +69,7 @@ module _ (scene : Scene) (proto3 : scene.is_proto3 ≡ true) where
       none g = ap g proto3
 
   pub field_same : (on : Element) (f : FieldOf) → field_flaws bare on f ≡ field_flaws scene on f
-  field_same on f = λ i. type_same f i ++ (option_flaws scene on f.options ++ (packed_same f i ++ (default_same f i ++ proto3_defaults scene f)))
+  field_same on f = λ i. type_same f i ++ (option_flaws scene on f.options ++ (misfits_same f i ++ (default_same f i ++ proto3_defaults scene f)))
 
   -- ---- blocks
 

@@ -32,6 +32,8 @@ use Rattle.proto_descriptors.specs.declared.enumeration.EnumOptions.{EnumOptions
 use Rattle.proto_descriptors.specs.declared.enumeration.EnumReservedRange.{EnumReservedRange}
 use Rattle.proto_descriptors.specs.declared.field.CType.{CType}
 use Rattle.proto_descriptors.specs.declared.field.CType.TheVariants as c_type
+use Rattle.proto_descriptors.specs.declared.field.JsType.{JsType}
+use Rattle.proto_descriptors.specs.declared.field.JsType.TheVariants as js_type
 use Rattle.proto_descriptors.specs.declared.field.FieldOptions.{FieldOptions}
 use Rattle.proto_descriptors.specs.declared.field.FieldType.{FieldType}
 use Rattle.proto_descriptors.specs.declared.field.FieldType.TheVariants as field_type
@@ -146,12 +148,23 @@ c_type_named w =
     else (if bytes_eq w (codes "STRING_PIECE") then c_type.StringPiece
     else c_type.String)
 
--- the options at a field that its descriptor keeps: `ctype`, `packed` and `deprecated`
+-- the JavaScript type of a word; a word that names no other type is the usual one
+abbrev pub js_type_named : Text → JsType
+js_type_named w =
+    if bytes_eq w (codes "JS_STRING") then js_type.String
+    else (if bytes_eq w (codes "JS_NUMBER") then js_type.Number
+    else js_type.Normal)
+
+-- the options at a field that its descriptor keeps: all but `json_name` and `default`
 abbrev pub field_options : Scene → List OptionOf → FieldOptions
 field_options scene options = record {
   ctype = option_map c_type_named (word_option (text scene) (codes "ctype") options);
   packed = truth_option (text scene) (codes "packed") options;
+  jstype = option_map js_type_named (word_option (text scene) (codes "jstype") options);
+  lazy = truth_option (text scene) (codes "lazy") options;
+  unverified_lazy = truth_option (text scene) (codes "unverified_lazy") options;
   deprecated = truth_option (text scene) (codes "deprecated") options;
+  weak = truth_option (text scene) (codes "weak") options;
 }
 
 -- a field, with what is said of its message: its full name, the extendee of an extension and the
@@ -239,10 +252,13 @@ oneof_names scene (Block (header.Oneof h) opens within closes rest) =
     text scene h.name ∷ oneof_names scene rest
 oneof_names scene (Block h opens within closes rest) = oneof_names scene rest
 
--- the options of a message: `deprecated`, and whether it is the entry of a map field
+-- the options of a message: `deprecated`, `no_standard_descriptor_accessor`, and whether it is the
+-- entry of a map field
 abbrev pub message_options : Scene → Bool → List OptionOf → MessageOptions
 message_options scene is_entry options = record {
   deprecated = truth_option (text scene) (codes "deprecated") options;
+  no_standard_descriptor_accessor =
+      truth_option (text scene) (codes "no_standard_descriptor_accessor") options;
   map_entry = is_entry;
 }
 
@@ -275,7 +291,15 @@ entry_field word number_in_text kind type_name = record {
   oneof_index = None;
   json_name = Some word;
   proto3_optional = false;
-  options = record { ctype = None; packed = None; deprecated = None };
+  options = record {
+    ctype = None;
+    packed = None;
+    jstype = None;
+    lazy = None;
+    unverified_lazy = None;
+    deprecated = None;
+    weak = None;
+  };
 }
 
 -- the generated entry of a map field
@@ -291,7 +315,11 @@ entry_described scene f = record {
   oneof_decl = [];
   reserved_range = [];
   reserved_name = [];
-  options = record { deprecated = None; map_entry = true };
+  options = record {
+    deprecated = None;
+    no_standard_descriptor_accessor = None;
+    map_entry = true;
+  };
 }
 
 -- the messages right in a message or a file of this full name, each with those nested in it; an
@@ -392,6 +420,14 @@ file_options scene options = record {
       truth_option (text scene) (codes "java_generate_equals_and_hash") options;
   java_generic_services = truth_option (text scene) (codes "java_generic_services") options;
   ruby_package = text_option (text scene) (value scene) (codes "ruby_package") options;
+  java_string_check_utf8 = truth_option (text scene) (codes "java_string_check_utf8") options;
+  cc_generic_services = truth_option (text scene) (codes "cc_generic_services") options;
+  py_generic_services = truth_option (text scene) (codes "py_generic_services") options;
+  php_generic_services = truth_option (text scene) (codes "php_generic_services") options;
+  swift_prefix = text_option (text scene) (value scene) (codes "swift_prefix") options;
+  php_class_prefix = text_option (text scene) (value scene) (codes "php_class_prefix") options;
+  php_metadata_namespace =
+      text_option (text scene) (value scene) (codes "php_metadata_namespace") options;
 }
 
 -- the package's name, where the file has one

@@ -41,7 +41,11 @@ fn entry_field(
         options: FieldOptions {
             ctype: None,
             packed: None,
+            jstype: None,
+            lazy: None,
+            unverified_lazy: None,
             deprecated: None,
+            weak: None,
         },
     })
 }
@@ -85,6 +89,7 @@ pub(crate) fn entry_descriptor(
         reserved_name: Vec::new(alloc),
         options: MessageOptions {
             deprecated: None,
+            no_standard_descriptor_accessor: None,
             map_entry: true,
         },
     })

@@ -6,7 +6,7 @@ ghost use Rattle.proto_ast.specs.Options.{value_named};
 ghost use Rattle.proto_ast.specs.Scenes.{text};
 ghost use Rattle.proto_ast.specs.Views.{field_of, option_of};
 ghost use Rattle.proto_ast.specs.Labels.{has_label};
-ghost use Rattle.proto_desc_build.specs.Described.{c_type_named, label_of, field_type_of, field_type_name, default_text, field_options, field_with, field_described, extension_described};
+ghost use Rattle.proto_desc_build.specs.Described.{c_type_named, js_type_named, label_of, field_type_of, field_type_name, default_text, field_options, field_with, field_described, extension_described};
 ghost use Rattle.proto_descriptors.specs.Views.{field_desc, role_extendee, role_json_name};
 
 use crate::described_names::type_text;
@@ -18,7 +18,9 @@ use proto_ast::{
 };
 use proto_base::NoMemory;
 use proto_case::entry_name;
-use proto_descriptors::{CType, FieldDescriptor, FieldOptions, FieldRole, FieldType, Label};
+use proto_descriptors::{
+    CType, FieldDescriptor, FieldOptions, FieldRole, FieldType, JsType, Label,
+};
 use proto_names_rules::below;
 use proto_tree::{Constant, Reference};
 use std::alloc::Global;
@@ -100,14 +102,29 @@ fn c_type_named(word: &str) -> CType
     }
 }
 
+fn js_type_named(word: &str) -> JsType
+    ensures { result ≡ js_type_named word.now }
+{
+    match word {
+        "JS_STRING" => JsType::String,
+        "JS_NUMBER" => JsType::Number,
+        _ => JsType::Normal,
+    }
+}
+
 fn field_options(scene: &Scene, options: &[OptionAt]) -> FieldOptions
     ensures { result ≡ field_options scene.now (map option_of options.now) }
 {
     let c_type = word_option(scene, options, "ctype");
+    let js_type = word_option(scene, options, "jstype");
     FieldOptions {
         ctype: c_type.map(c_type_named),
         packed: truth_option(scene, options, "packed"),
+        jstype: js_type.map(js_type_named),
+        lazy: truth_option(scene, options, "lazy"),
+        unverified_lazy: truth_option(scene, options, "unverified_lazy"),
         deprecated: truth_option(scene, options, "deprecated"),
+        weak: truth_option(scene, options, "weak"),
     }
 }
 

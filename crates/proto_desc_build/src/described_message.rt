@@ -328,6 +328,11 @@ fn options_of_message(
     let options = message_options(alloc, members)?;
     Ok(MessageOptions {
         deprecated: truth_option(scene, &options, "deprecated"),
+        no_standard_descriptor_accessor: truth_option(
+            scene,
+            &options,
+            "no_standard_descriptor_accessor",
+        ),
         map_entry: false,
     })
 }

@@ -19,7 +19,7 @@ use Rattle.proto_ast.specs.declared.options.Element.TheVariants as element
 use Rattle.proto_desc_numbers.specs.declared.flaw.Flaw.{Flaw}
 use Rattle.proto_desc_checks.specs.Capped.{CapsKeepTheLeast}
 use Rattle.proto_desc_numbers.proofs.Common.{flaw, flaw_if, marked, first_of_signed, number_of_field, number_of_value, range_of, enum_range_of, most_field, least_value, most_value, is_within, is_field_number, is_value_number, outside, is_sound_range, broken_ranges, reserved_numbers, overlaps, repeated_numbers, end_of, field_number_flaws, Alike, AlikeCaps, equal_alike, within_alike, caps_back, past_or_none, capped, alike_at, alike_signed, alike_end, field_limit, value_limit}
-use Rattle.proto_desc_checks.specs.Common.{bars_extend, extend_flaws, flaws_of_extension, required_extensions, option_flaws, packed_flaws, default_flaws, proto3_defaults, wrong_default, type_flaws, is_default_of, is_scalar_default, holds_number, signed_32, signed_64, unsigned_32, unsigned_64, field_flaws, name_flaws, json_clashes, extension_flaws, message_flaws, allows_alias, alias_flaws, first_value_flaws, value_number_flaws, value_option_flaws, is_empty, enum_flaws, block_flaws, file_flaws}
+use Rattle.proto_desc_checks.specs.Common.{bars_extend, extend_flaws, flaws_of_extension, required_extensions, option_flaws, misfit_flaws, default_flaws, proto3_defaults, wrong_default, type_flaws, is_default_of, is_scalar_default, holds_number, signed_32, signed_64, unsigned_32, unsigned_64, field_flaws, name_flaws, json_clashes, extension_flaws, message_flaws, allows_alias, alias_flaws, first_value_flaws, value_number_flaws, value_option_flaws, is_empty, enum_flaws, block_flaws, file_flaws}
 use Rattle.proto_desc_numbers.proofs.CappedCovers.{Beneath, Covered, covered_equal, covered_join, covered_more, covered_unless, covered_flat, least_kept}
 use Rattle.proto_desc_numbers.proofs.CappedRanges.{outside_here, outside_same, covered_repeated, broken_here, broken_same, sound_same, inside_same, covered_overlaps, covered_reserved}
 use Rattle.proto_desc_checks.proofs.KnownNames.{flat_map_same}
@@ -76,7 +76,7 @@ module _ (scene : Scene) (c d : Option ℕ) (caps : AlikeCaps c d) where
 
   field_same : (on : Element) (f : FieldOf) → field_flaws one on f ≡ field_flaws two on f
   field_same on f =
-      ap (λ l. type_flaws one f ++ (option_flaws one on f.options ++ (packed_flaws one f ++ (l ++ proto3_defaults one f)))) (default_same f)
+      ap (λ l. type_flaws one f ++ (option_flaws one on f.options ++ (misfit_flaws one f ++ (l ++ proto3_defaults one f)))) (default_same f)
 
   -- ---- messages
 

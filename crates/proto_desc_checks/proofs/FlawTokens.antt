@@ -33,7 +33,7 @@ use Rattle.proto_desc_numbers.specs.declared.flaw.Flaw.{Flaw}
 use Rattle.proto_desc_numbers.specs.declared.numbers.NumberAt.{NumberAt}
 use Rattle.proto_ast.specs.declared.ranges.RangeAt.{RangeAt}
 use Rattle.proto_desc_numbers.proofs.Common.{after_earlier, flaw_if, marked, broken_ranges, enum_range_of, first_of_signed, is_field_number, is_inside, is_sound_range, is_value_number, least_value, most_field, most_value, number_of_field, number_of_value, outside, overlaps, range_of, repeated_numbers, reserved_numbers, share, field_number_flaws}
-use Rattle.proto_desc_checks.specs.Common.{bars_extend, extend_flaws, flaws_of_extension, required_extensions, default_flaws, field_flaws, has_closed_enum, lacks_label, map_key_flaws, misplaced_options, option_flaws, packed_flaws, proto3_defaults, repeated_options, required_flaws, starts_wrong, type_flaws, type_token, wrong_default, alias_flaws, allows_alias, block_flaws, enum_flaws, extension_flaws, file_flaws, first_value_flaws, is_empty, json_clashes, message_flaws, name_flaws, reserved_again, value_number_flaws, value_option_flaws, with_reserved_name}
+use Rattle.proto_desc_checks.specs.Common.{bars_extend, extend_flaws, flaws_of_extension, required_extensions, default_flaws, field_flaws, has_closed_enum, lacks_label, map_key_flaws, misplaced_options, option_flaws, misfit_flaws, proto3_defaults, repeated_options, required_flaws, starts_wrong, type_flaws, type_token, wrong_default, alias_flaws, allows_alias, block_flaws, enum_flaws, extension_flaws, file_flaws, first_value_flaws, is_empty, json_clashes, message_flaws, name_flaws, reserved_again, value_number_flaws, value_option_flaws, with_reserved_name}
 use Rattle.proto_tree.specs.declared.tree.Setting.{Setting}
 use Rattle.proto_tree.specs.declared.tree.Setting.TheVariants as setting
 use Rattle.proto_base.specs.declared.profile.Profile.{Profile}
@@ -373,7 +373,7 @@ module _ (Here : ℕ → Type 0) where
     field_stands on f h =
         join (type_flaws scene f) _ (types_stand f h)
         (join (option_flaws scene on f.options) _ (options_stand on f.options h.of_options)
-        (join (packed_flaws scene f) _ (each (λ o. Here o.name) _ (λ o m. flaw_here _ kind.BadOption o.name m) f.options h.of_options)
+        (join (misfit_flaws scene f) _ (each (λ o. Here o.name) _ (λ o m. flaw_here _ kind.BadOption o.name m) f.options h.of_options)
         (join (default_flaws scene f) (proto3_defaults scene f)
         (either scene.is_proto3 [] (wrong_default scene f (find (is_named (text scene) (codes "default")) f.options)) tt (wrong_default_stand f f.options h.of_options (is_named (text scene) (codes "default"))))
         (each (λ o. Here o.name) _ (λ o m. flaw_here _ kind.NotInProto3 o.name m) f.options h.of_options))))

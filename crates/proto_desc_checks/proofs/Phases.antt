@@ -15,7 +15,7 @@ use Rattle.proto_desc_numbers.specs.declared.flaw.Flaw.{Flaw}
 use Rattle.proto_desc_numbers.specs.declared.numbers.NumberAt.{NumberAt}
 use Rattle.proto_ast.specs.declared.ranges.RangeAt.{RangeAt}
 use Rattle.proto_desc_numbers.proofs.Common.{flaw, flaw_if, after_earlier, marked, number_of_field, number_of_value, range_of, enum_range_of, most_field, least_value, most_value, is_field_number, is_value_number, outside, is_sound_range, broken_ranges, is_inside, reserved_numbers, share, overlaps, repeated_numbers, field_number_flaws}
-use Rattle.proto_desc_checks.specs.Common.{bars_extend, extend_flaws, flaws_of_extension, required_extensions, option_flaws, type_token, lacks_label, required_flaws, no_map_keys, map_key_flaws, starts_wrong, has_closed_enum, may_be_packed, packed_flaws, may_default, wrong_default, default_flaws, proto3_defaults, type_flaws, field_flaws, name_flaws, json_clashes, extension_flaws, message_flaws, allows_alias, alias_flaws, first_value_flaws, is_empty, value_number_flaws, value_option_flaws, enum_flaws, block_flaws, file_flaws}
+use Rattle.proto_desc_checks.specs.Common.{bars_extend, extend_flaws, flaws_of_extension, required_extensions, option_flaws, type_token, lacks_label, required_flaws, no_map_keys, map_key_flaws, starts_wrong, has_closed_enum, misfit_flaws, may_default, wrong_default, default_flaws, proto3_defaults, type_flaws, field_flaws, name_flaws, json_clashes, extension_flaws, message_flaws, allows_alias, alias_flaws, first_value_flaws, is_empty, value_number_flaws, value_option_flaws, enum_flaws, block_flaws, file_flaws, is_misfit}
 
 abbrev IsOfChecks : Flaw → Type 0
 IsOfChecks f = phase_of f.kind ≡ 6
@@ -87,8 +87,8 @@ of_type scene f =
     (both (one_if (starts_wrong scene f) kind.FirstNotZero (type_token f.kind) refl)
     (one_if (has_closed_enum scene f) kind.ClosedEnum (type_token f.kind) refl))))
 
-of_packed : (scene : Scene) (f : FieldOf) → AreOfChecks (packed_flaws scene f)
-of_packed scene f = each_if (λ (o : OptionOf). is_named (text scene) (codes "packed") o && not (may_be_packed scene f)) kind.BadOption (λ o. o.name) f.options refl
+of_misfits : (scene : Scene) (f : FieldOf) → AreOfChecks (misfit_flaws scene f)
+of_misfits scene f = each_if (is_misfit scene f) kind.BadOption (λ o. o.name) f.options refl
 
 of_wrong_default : (scene : Scene) (f : FieldOf) (o : Option OptionOf) → AreOfChecks (wrong_default scene f o)
 of_wrong_default scene f None = none
@@ -104,7 +104,7 @@ of_field : (scene : Scene) (on : Element) (f : FieldOf) → AreOfChecks (field_f
 of_field scene on f =
     both (of_type scene f)
     (both (of_options scene on f.options)
-    (both (of_packed scene f)
+    (both (of_misfits scene f)
     (both (of_default scene f)
     (of_proto3_default scene f))))
 

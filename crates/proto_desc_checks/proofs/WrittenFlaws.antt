@@ -17,7 +17,7 @@ use Rattle.proto_ast.specs.declared.options.Element.TheVariants as element
 use Rattle.proto_ast.specs.declared.options.ValueKind.{ValueKind}
 use Rattle.proto_desc_numbers.specs.declared.flaw.Flaw.{Flaw}
 use Rattle.proto_desc_numbers.proofs.Common.{flaw_if, enum_range_of, field_number_flaws, is_field_number, number_of_field, number_of_value, outside, range_of}
-use Rattle.proto_desc_checks.specs.Common.{block_flaws, default_flaws, enum_flaws, extend_flaws, extension_flaws, field_flaws, file_flaws, flaws_of_extension, is_empty, json_clashes, message_flaws, name_flaws, option_flaws, packed_flaws, proto3_defaults, repeated_options, required_extensions, type_flaws, value_number_flaws, value_option_flaws}
+use Rattle.proto_desc_checks.specs.Common.{block_flaws, default_flaws, enum_flaws, extend_flaws, extension_flaws, field_flaws, file_flaws, flaws_of_extension, is_empty, json_clashes, message_flaws, name_flaws, option_flaws, misfit_flaws, proto3_defaults, repeated_options, required_extensions, type_flaws, value_number_flaws, value_option_flaws}
 use Rattle.proto_desc_checks.specs.Written.{FlawsAsWrittenAreOfCore, in_language}
 
 -- each of these is one of those (a record, so that the lists are found from it)
@@ -66,7 +66,7 @@ module _ (scene : Scene) where
   field_less on f =
       join (same {xs = type_flaws scene f})
       (join (options_less on f.options)
-      (same {xs = packed_flaws scene f ++ (default_flaws scene f ++ proto3_defaults scene f)}))
+      (same {xs = misfit_flaws scene f ++ (default_flaws scene f ++ proto3_defaults scene f)}))
 
   message_less : (within : Tree) → Within (message_flaws now within) (message_flaws was within)
   message_less within =

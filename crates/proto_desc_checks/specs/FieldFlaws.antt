@@ -1,5 +1,5 @@
 -- What is wrong with one field, or one extension: its label, its type, its options and its default.
-use Rattle.std.specs.Prelude.{ℕ, ℤ, pos, negsuc, ◌^◌, ◌-◌, Bool, false, not, ◌&&◌, if◌then◌else◌, List, [], ◌∷◌, ◌++◌, map, flat_map, find, Option, Some, None, is_some, is_none, codes}
+use Rattle.std.specs.Prelude.{ℕ, ℤ, pos, negsuc, ◌^◌, ◌-◌, Bool, false, not, ◌&&◌, ◌||◌, if◌then◌else◌, List, [], ◌∷◌, ◌++◌, map, flat_map, find, Option, Some, None, is_some, is_none, codes}
 use Rattle.std.specs.Str.{bytes_eq}
 use Rattle.proto_base.specs.Texts.{Text}
 use Rattle.proto_base.specs.declared.fault.FaultKind.TheVariants as kind
@@ -9,7 +9,7 @@ use Rattle.proto_tree.specs.declared.tree.FieldType.{FieldType}
 use Rattle.proto_tree.specs.declared.tree.FieldType.TheVariants as field_type
 use Rattle.proto_tree.specs.References.{first_of}
 use Rattle.proto_ast.specs.Labels.{has_label}
-use Rattle.proto_ast.specs.Options.{is_allowed, is_named, is_one_of, truth_of, word_of}
+use Rattle.proto_ast.specs.Options.{is_allowed, is_named, is_one_of, is_true, is_word_of, truth_of, word_of}
 use Rattle.proto_ast.specs.Parts.{FieldOf, OptionOf}
 use Rattle.proto_ast.specs.Scenes.{Scene, EnumOf, signed_value, enum_meant, text}
 use Rattle.proto_ast.specs.declared.options.Element.{Element}
@@ -33,8 +33,7 @@ repeated_options scene options =
     marked kind.BadOption (map (λ o. o.name) options)
     (after_earlier bytes_eq (map (λ o. text scene o.name) options))
 
--- what is wrong with the options of an element, but for `packed` and `default` where they do not
--- fit
+-- what is wrong with the options of an element, but for those that do not fit a field's type
 abbrev pub option_flaws : Scene → Element → List OptionOf → List Flaw
 option_flaws scene on options = misplaced_options scene on options ++ repeated_options scene options
 
@@ -109,12 +108,75 @@ is_packable_type scene (field_type.Reference r) = is_some (enum_meant scene r)
 abbrev pub may_be_packed : Scene → FieldOf → Bool
 may_be_packed scene f = has_label scene (codes "repeated") f && is_packable_type scene f.kind
 
--- 27 BadOption at each `packed`, of any value, of a field that may not have it
-abbrev pub packed_flaws : Scene → FieldOf → List Flaw
-packed_flaws scene f =
-    flat_map (λ o. flaw_if
-    (is_named (text scene) (codes "packed") o && not (may_be_packed scene f))
-    kind.BadOption o.name) f.options
+-- `packed`, of any value, at a field that may not have it
+abbrev pub is_packed_misfit : Scene → FieldOf → OptionOf → Bool
+is_packed_misfit scene f o =
+    is_named (text scene) (codes "packed") o && not (may_be_packed scene f)
+
+-- ---- `jstype`
+
+-- what `jstype` may say of whole numbers of 64 bits alone
+abbrev pub other_js_types : List Text
+other_js_types = codes "JS_STRING" ∷ codes "JS_NUMBER" ∷ []
+
+-- an option says that numbers of 64 bits have another type in JavaScript
+abbrev pub asks_js_type : (ℕ → Text) → OptionOf → Bool
+asks_js_type text o =
+    is_named text (codes "jstype") o && is_word_of other_js_types (word_of text o.value)
+
+-- the scalar types of whole numbers of 64 bits
+abbrev pub long_types : List Text
+long_types =
+    codes "int64" ∷ codes "uint64" ∷ codes "sint64" ∷ codes "fixed64" ∷ codes "sfixed64" ∷ []
+
+-- a type of whole numbers of 64 bits
+abbrev pub is_long_type : Scene → FieldType → Bool
+is_long_type scene (field_type.Scalar t) = is_one_of long_types (text scene t)
+is_long_type scene (field_type.Reference r) = false
+
+-- a field of such a type may have another type in JavaScript (a map field is of its entries)
+abbrev pub may_have_js_type : Scene → FieldOf → Bool
+may_have_js_type scene f = is_none f.map_key && is_long_type scene f.kind
+
+-- another type in JavaScript for a field that may not have one
+abbrev pub is_js_type_misfit : Scene → FieldOf → OptionOf → Bool
+is_js_type_misfit scene f o = asks_js_type (text scene) o && not (may_have_js_type scene f)
+
+-- ---- `lazy` and `unverified_lazy`
+
+-- the options that say that a message is read only when it is asked for
+abbrev pub lazy_options : List Text
+lazy_options = codes "lazy" ∷ codes "unverified_lazy" ∷ []
+
+-- an option says so
+abbrev pub asks_lazy : (ℕ → Text) → OptionOf → Bool
+asks_lazy text o = is_one_of lazy_options (text o.name) && is_true (truth_of text o.value)
+
+-- a type that is a message: a reference that means no enum
+abbrev pub is_message_type : Scene → FieldType → Bool
+is_message_type scene (field_type.Scalar t) = false
+is_message_type scene (field_type.Reference r) = not (is_some (enum_meant scene r))
+
+-- a field of such a type may be read so, and so may a map field, of its entries
+abbrev pub may_be_lazy : Scene → FieldOf → Bool
+may_be_lazy scene f = is_some f.map_key || is_message_type scene f.kind
+
+-- such an option of a field that may not be read so
+abbrev pub is_lazy_misfit : Scene → FieldOf → OptionOf → Bool
+is_lazy_misfit scene f o = asks_lazy (text scene) o && not (may_be_lazy scene f)
+
+-- ---- options that a field's type rules out
+
+-- an option that a field of this type may not have
+abbrev pub is_misfit : Scene → FieldOf → OptionOf → Bool
+is_misfit scene f o =
+    (is_packed_misfit scene f o || is_js_type_misfit scene f o) || is_lazy_misfit scene f o
+
+-- 27 BadOption at each option that a field of this type may not have: a `packed` of any value, a
+-- `jstype` that asks for another type, and what is to be read only when it is asked for (where a
+-- language has no such option, it is one already)
+abbrev pub misfit_flaws : Scene → FieldOf → List Flaw
+misfit_flaws scene f = flat_map (λ o. flaw_if (is_misfit scene f o) kind.BadOption o.name) f.options
 
 -- ---- `default`
 
@@ -206,7 +268,7 @@ abbrev pub field_flaws : Scene → Element → FieldOf → List Flaw
 field_flaws scene on f =
     type_flaws scene f
     ++ (option_flaws scene on f.options
-    ++ (packed_flaws scene f
+    ++ (misfit_flaws scene f
     ++ (default_flaws scene f
     ++ proto3_defaults scene f)))
 

@@ -2,12 +2,16 @@
 //! default.
 
 ghost use Rattle.std.specs.Prelude.{◌≡◌, ◌++◌, map, option_map, OnOk};
+ghost use Rattle.proto_ast.specs.Options.{is_one_of, is_word_of};
+ghost use Rattle.proto_ast.specs.Scenes.{text};
 ghost use Rattle.proto_ast.specs.Views.{enum_of, field_of, option_of};
-ghost use Rattle.proto_desc_checks.specs.FieldFlaws.{type_token, enum_of_type, lacks_label, required_flaws, map_key_flaws, starts_wrong, has_closed_enum, is_unpackable, is_packable_type, may_be_packed, default_flaws, option_flaws, packed_flaws, proto3_defaults, type_flaws, field_flaws};
+ghost use Rattle.proto_desc_checks.specs.FieldFlaws.{type_token, enum_of_type, lacks_label, required_flaws, map_key_flaws, starts_wrong, has_closed_enum, is_unpackable, is_packable_type, may_be_packed, is_packed_misfit, other_js_types, asks_js_type, long_types, is_long_type, may_have_js_type, is_js_type_misfit, lazy_options, asks_lazy, is_message_type, may_be_lazy, is_lazy_misfit, is_misfit, default_flaws, misfit_flaws, option_flaws, proto3_defaults, type_flaws, field_flaws};
 
 use crate::defaults::{add_default_flaws, add_proto3_defaults};
 use crate::options::add_option_flaws;
-use proto_ast::{Element, EnumAt, FieldAt, OptionAt, Scene, has_label, options_between};
+use proto_ast::{
+    Element, EnumAt, FieldAt, OptionAt, Scene, has_label, options_between, truth, word,
+};
 use proto_base::{FaultKind, NoMemory};
 use proto_desc_numbers::{Flaw, add_if};
 use proto_tree::FieldType;
@@ -137,7 +141,102 @@ fn may_be_packed(scene: &Scene, field: FieldAt) -> bool
     has_label(scene, "repeated", field) && is_packable_type(scene, field.kind)
 }
 
-fn add_packed_flaws(
+fn is_packed_misfit(scene: &Scene, field: FieldAt, option: OptionAt) -> bool
+    ensures { result ≡ is_packed_misfit scene.now (field_of field.entry) (option_of option.entry) }
+{
+    scene.text(option.name) == "packed" && !may_be_packed(scene, field)
+}
+
+// ---- `jstype`
+
+fn is_other_js_type(word: Option<&str>) -> bool
+    ensures { result ≡ is_word_of other_js_types (option_map (λ w. w.now) word.entry) }
+{
+    matches!(word, Some("JS_STRING" | "JS_NUMBER"))
+}
+
+fn asks_js_type(scene: &Scene, option: OptionAt) -> bool
+    ensures { result ≡ asks_js_type (text scene.now) (option_of option.entry) }
+{
+    scene.text(option.name) == "jstype" && is_other_js_type(word(scene, option.value))
+}
+
+fn is_long(scalar: &str) -> bool
+    ensures { result ≡ is_one_of long_types scalar.now }
+{
+    matches!(
+        scalar,
+        "int64" | "uint64" | "sint64" | "fixed64" | "sfixed64"
+    )
+}
+
+fn is_long_type(scene: &Scene, kind: &FieldType) -> bool
+    ensures { result ≡ is_long_type scene.now kind.now }
+{
+    match kind {
+        FieldType::Scalar(token) => is_long(scene.text(*token)),
+        FieldType::Reference(_) => false,
+    }
+}
+
+fn may_have_js_type(scene: &Scene, field: FieldAt) -> bool
+    ensures { result ≡ may_have_js_type scene.now (field_of field.entry) }
+{
+    field.map_key.is_none() && is_long_type(scene, field.kind)
+}
+
+fn is_js_type_misfit(scene: &Scene, field: FieldAt, option: OptionAt) -> bool
+    ensures { result ≡ is_js_type_misfit scene.now (field_of field.entry) (option_of option.entry) }
+{
+    asks_js_type(scene, option) && !may_have_js_type(scene, field)
+}
+
+// ---- `lazy` and `unverified_lazy`
+
+fn is_lazy_option(name: &str) -> bool
+    ensures { result ≡ is_one_of lazy_options name.now }
+{
+    matches!(name, "lazy" | "unverified_lazy")
+}
+
+fn asks_lazy(scene: &Scene, option: OptionAt) -> bool
+    ensures { result ≡ asks_lazy (text scene.now) (option_of option.entry) }
+{
+    is_lazy_option(scene.text(option.name)) && truth(scene, option.value) == Some(true)
+}
+
+fn is_message_type(scene: &Scene, kind: &FieldType) -> bool
+    ensures { result ≡ is_message_type scene.now kind.now }
+{
+    match kind {
+        FieldType::Scalar(_) => false,
+        FieldType::Reference(reference) => !scene.enum_meant(reference).is_some(),
+    }
+}
+
+fn may_be_lazy(scene: &Scene, field: FieldAt) -> bool
+    ensures { result ≡ may_be_lazy scene.now (field_of field.entry) }
+{
+    field.map_key.is_some() || is_message_type(scene, field.kind)
+}
+
+fn is_lazy_misfit(scene: &Scene, field: FieldAt, option: OptionAt) -> bool
+    ensures { result ≡ is_lazy_misfit scene.now (field_of field.entry) (option_of option.entry) }
+{
+    asks_lazy(scene, option) && !may_be_lazy(scene, field)
+}
+
+// ---- options that a field's type rules out
+
+fn is_misfit(scene: &Scene, field: FieldAt, option: OptionAt) -> bool
+    ensures { result ≡ is_misfit scene.now (field_of field.entry) (option_of option.entry) }
+{
+    is_packed_misfit(scene, field, option)
+        || is_js_type_misfit(scene, field, option)
+        || is_lazy_misfit(scene, field, option)
+}
+
+fn add_misfits(
     found: &mut Vec<Flaw>,
     scene: &Scene,
     field: FieldAt,
@@ -145,10 +244,10 @@ fn add_packed_flaws(
 ) -> Result<(), NoMemory>
     requires { map option_of options.now ≡ (field_of field).options }
     ensures { OnOk result (found.new.items ≡ found.old.items
-        ++ packed_flaws scene.now (field_of field.entry)) }
+        ++ misfit_flaws scene.now (field_of field.entry)) }
 {
     for option in options {
-        let is_wrong = scene.text(option.name) == "packed" && !may_be_packed(scene, field);
+        let is_wrong = is_misfit(scene, field, *option);
         add_if(found, is_wrong, FaultKind::BadOption, option.name)?;
     }
     Ok(())
@@ -168,12 +267,12 @@ fn add_flaws_of_options(
     requires { map option_of options.now ≡ (field_of field).options }
     ensures { OnOk result (found.new.items ≡ found.old.items
         ++ (option_flaws scene.now element (field_of field.entry).options
-        ++ (packed_flaws scene.now (field_of field.entry)
+        ++ (misfit_flaws scene.now (field_of field.entry)
         ++ (default_flaws scene.now (field_of field.entry)
         ++ proto3_defaults scene.now (field_of field.entry))))) }
 {
     add_option_flaws(alloc, found, scene, element, options)?;
-    add_packed_flaws(found, scene, field, options)?;
+    add_misfits(found, scene, field, options)?;
     add_default_flaws(found, scene, field, options)?;
     add_proto3_defaults(found, scene, field, options)
 }

@@ -1,5 +1,5 @@
 -- The flaws of a file whose imports are others: the same, each at the token that its token became (for the crates above).
-use Rattle.std.proofs.Common.{◌≡◌, ℕ, ℤ, pos, neg_ℤ, Bool, true, false, not, ◌&&◌, if◌then◌else◌, List, [], ◌∷◌, ◌++◌, map, flat_map, find, Option, Some, None, option_map, is_some, is_none, codes, option_and_then, refl, sym, ◌∙◌, ap, ap₂, int_eq, bytes_eq}
+use Rattle.std.proofs.Common.{◌≡◌, ℕ, ℤ, pos, neg_ℤ, Bool, true, false, not, ◌&&◌, if◌then◌else◌, List, [], ◌∷◌, ◌++◌, map, flat_map, find, Option, Some, None, option_map, is_some, is_none, codes, option_and_then, refl, sym, ◌∙◌, ap, ap₂, int_eq, bytes_eq, ◌||◌}
 use Rattle.proto_base.proofs.Common.{list_any, map-append}
 use Rattle.proto_base.specs.declared.fault.FaultKind.{FaultKind}
 use Rattle.proto_base.specs.declared.fault.FaultKind.TheVariants as kind
@@ -16,7 +16,7 @@ use Rattle.proto_tree.specs.declared.tree.Signed.{Signed}
 use Rattle.proto_tree.specs.declared.tree.UpTo.{UpTo}
 use Rattle.proto_tree.specs.declared.tree.Value.{Value}
 use Rattle.proto_tree.proofs.Common.{Move, move_constant, move_header, move_option, move_range, move_range_end, move_separated, move_signed, move_tree, move_type, move_up_to, move_value, Tree, first_of}
-use Rattle.proto_ast.proofs.Common.{c_types, number_value, fits_kind, idempotency_levels, is_allowed, is_named, is_one_of, is_text_value, is_word_of, optimize_modes, text_of_constant, truth_named, value_kind_as, word_of, is_true, FieldOf, OptionOf, blocks_in, closed_ranges, enum_ranges, extension_words, fields_in, options_in, reserved_names_in, settings_of, statements, values_in, Scene, number_at, signed_value, text, up_to_cap, value, is_label_word, json_name_of, written_or}
+use Rattle.proto_ast.proofs.Common.{c_types, number_value, fits_kind, idempotency_levels, is_allowed, is_named, is_one_of, is_text_value, is_word_of, js_types, optimize_modes, text_of_constant, truth_named, value_kind_as, word_of, is_true, FieldOf, OptionOf, blocks_in, closed_ranges, enum_ranges, extension_words, fields_in, options_in, reserved_names_in, settings_of, statements, values_in, Scene, number_at, signed_value, text, up_to_cap, value, is_label_word, json_name_of, written_or}
 use Rattle.proto_ast.specs.declared.options.Element.{Element}
 use Rattle.proto_ast.specs.declared.options.Element.TheVariants as element
 use Rattle.proto_ast.specs.declared.options.ValueKind.{ValueKind}
@@ -25,7 +25,7 @@ use Rattle.proto_desc_numbers.specs.declared.flaw.Flaw.{Flaw}
 use Rattle.proto_desc_numbers.specs.declared.numbers.NumberAt.{NumberAt}
 use Rattle.proto_ast.specs.declared.ranges.RangeAt.{RangeAt}
 use Rattle.proto_desc_numbers.proofs.Common.{after_earlier, flaw_if, marked, bound_of, broken_ranges, end_of, enum_range_of, first_of_signed, is_field_number, is_inside, is_value_number, least_value, most_field, most_value, number_of_field, number_of_value, outside, overlaps, range_of, repeated_numbers, reserved_numbers, share, field_number_flaws}
-use Rattle.proto_desc_checks.proofs.Common.{default_flaws, enum_of_type, extend_flaws, field_flaws, flaws_of_extension, holds_number, is_default_of, is_of_proto2, is_packable_type, is_past_zero, is_scalar_default, is_unpackable, is_value_of, lacks_label, map_key_flaws, may_be_packed, may_default, no_map_keys, option_flaws, required_extensions, required_flaws, type_flaws, type_token, wrong_default, allows_alias, bars_extend, block_flaws, enum_flaws, file_flaws, first_value_flaws, is_empty, json_clashes, message_flaws, name_flaws, value_number_flaws, value_option_flaws}
+use Rattle.proto_desc_checks.proofs.Common.{asks_js_type, asks_lazy, default_flaws, enum_of_type, extend_flaws, field_flaws, flaws_of_extension, holds_number, is_default_of, is_long_type, is_message_type, is_misfit, is_of_proto2, is_packable_type, is_past_zero, is_scalar_default, is_unpackable, is_value_of, lacks_label, long_types, map_key_flaws, may_be_packed, may_default, no_map_keys, option_flaws, other_js_types, required_extensions, required_flaws, type_flaws, type_token, wrong_default, allows_alias, bars_extend, block_flaws, enum_flaws, file_flaws, first_value_flaws, is_empty, json_clashes, message_flaws, name_flaws, value_number_flaws, value_option_flaws, lazy_options}
 use Rattle.proto_desc_checks_laws.specs.Imports.{ImportsMoveFlaws, IsMoved, reindexed_flaw}
 use Rattle.proto_desc_checks_laws.proofs.MovedParts.{any_kept, closed_ranges_moved, empty_kept, enum_ranges_moved, extension_words_moved, fields_moved, file_blocks_moved, file_options_moved, find_moved, flat_kept, flat_map_moved, maps_kept, maps_moved, move_block_of, move_field_of, move_option_of, none_kept, options_moved, reserved_names_moved, settings_moved, some_kept, values_moved}
 use Rattle.proto_desc_checks.proofs.OptionNames.{earlier_map}
@@ -172,6 +172,7 @@ module _ (g : Move) (a b : Scene) (is : IsMoved g a b) where
   fits_moved (Some value_kind.OptimizeMode) c = ap (is_word_of optimize_modes) (word_moved c)
   fits_moved (Some value_kind.IdempotencyLevel) c = ap (is_word_of idempotency_levels) (word_moved c)
   fits_moved (Some value_kind.CType) c = ap (is_word_of c_types) (word_moved c)
+  fits_moved (Some value_kind.JsType) c = ap (is_word_of js_types) (word_moved c)
   fits_moved (Some value_kind.Default) c = refl
 
   allowed_moved : (on : Element) (o : OptionOf) → is_allowed b.profile (text b) on (move_option_of g o) ≡ is_allowed a.profile (text a) on o
@@ -236,6 +237,26 @@ module _ (g : Move) (a b : Scene) (is : IsMoved g a b) where
   packed_moved : (f : FieldOf) → may_be_packed b (move_field_of g f) ≡ may_be_packed a f
   packed_moved f = ap₂ (λ v w. v && w) (label_moved (codes "repeated") f.label) (packable_moved f.kind)
 
+  long_moved : (t : FieldType) → is_long_type b (move_type g t) ≡ is_long_type a t
+  long_moved (field_type.Scalar t) = ap (is_one_of long_types) (is.texts t)
+  long_moved (field_type.Reference r) = refl
+
+  message_type_moved : (t : FieldType) → is_message_type b (move_type g t) ≡ is_message_type a t
+  message_type_moved (field_type.Scalar t) = refl
+  message_type_moved (field_type.Reference r) = ap (λ e. not (is_some e)) (is.enums r)
+
+  js_type_moved : (o : OptionOf) → asks_js_type (text b) (move_option_of g o) ≡ asks_js_type (text a) o
+  js_type_moved o = ap₂ (λ v w. v && is_word_of other_js_types w) (named_moved (codes "jstype") o) (word_moved o.value)
+
+  lazy_moved : (o : OptionOf) → asks_lazy (text b) (move_option_of g o) ≡ asks_lazy (text a) o
+  lazy_moved o = ap₂ (λ v w. is_one_of lazy_options v && is_true (option_and_then truth_named w)) (is.texts o.name) (word_moved o.value)
+
+  misfit_moved : (f : FieldOf) (o : OptionOf) → is_misfit b (move_field_of g f) (move_option_of g o) ≡ is_misfit a f o
+  misfit_moved f o = λ i.
+      ((named_moved (codes "packed") o i && not (packed_moved f i))
+      || (js_type_moved o i && not (none_kept g f.map_key i && long_moved f.kind i)))
+      || (lazy_moved o i && not (some_kept g f.map_key i || message_type_moved f.kind i))
+
   scalar_default_moved : (scalar : List ℕ) (c : Constant) → is_scalar_default b scalar (move_constant g c) ≡ is_scalar_default a scalar c
   scalar_default_moved scalar (constant.Number n) = ap (holds_number scalar) (signed_moved n)
   scalar_default_moved scalar (constant.Word w) = ap (λ v. bytes_eq scalar (codes "bool") && is_some (option_and_then truth_named v)) (word_moved (constant.Word w))
@@ -262,7 +283,7 @@ module _ (g : Move) (a b : Scene) (is : IsMoved g a b) where
   field_moved on f =
       join (types_moved f)
       (join (option_flaws_moved on f.options refl)
-      (join (each g (move_option_of g) _ _ (λ o. if_moved g kind.BadOption o.name (ap₂ (λ v w. v && not w) (named_moved (codes "packed") o) (packed_moved f))) f.options refl)
+      (join (each g (move_option_of g) _ _ (λ o. if_moved g kind.BadOption o.name (misfit_moved f o)) f.options refl)
       (join (default_moved f)
       (each g (move_option_of g) _ _ (λ o. if_moved g kind.NotInProto3 o.name (ap₂ (λ v w. v && w) version (named_moved (codes "default") o))) f.options refl))))
 

@@ -13,7 +13,7 @@ use Rattle.proto_desc_numbers.specs.declared.flaw.Flaw.{Flaw}
 use Rattle.proto_desc_numbers.specs.declared.numbers.NumberAt.{NumberAt}
 use Rattle.proto_ast.specs.declared.ranges.RangeAt.{RangeAt}
 use Rattle.proto_desc_numbers.proofs.Common.{after_earlier, flaw, flaw_if, marked, broken_ranges, enum_range_of, field_number_flaws, is_field_number, is_value_number, least_value, most_field, most_value, number_of_field, number_of_value, outside, overlaps, range_of, repeated_numbers, reserved_numbers, share}
-use Rattle.proto_desc_checks.proofs.Common.{default_flaws, extend_flaws, field_flaws, flaws_of_extension, has_closed_enum, lacks_label, map_key_flaws, may_be_packed, may_default, option_flaws, required_extensions, required_flaws, starts_wrong, type_flaws, type_token, wrong_default, alias_flaws, allows_alias, bars_extend, block_flaws, enum_flaws, file_flaws, first_value_flaws, json_clashes, message_flaws, name_flaws, value_number_flaws, value_option_flaws}
+use Rattle.proto_desc_checks.proofs.Common.{default_flaws, extend_flaws, field_flaws, flaws_of_extension, has_closed_enum, lacks_label, map_key_flaws, may_default, option_flaws, required_extensions, required_flaws, starts_wrong, type_flaws, type_token, wrong_default, alias_flaws, allows_alias, bars_extend, block_flaws, enum_flaws, file_flaws, first_value_flaws, json_clashes, message_flaws, name_flaws, value_number_flaws, value_option_flaws, is_misfit}
 use Rattle.proto_desc_checks_laws.specs.Renamed.{but_names, is_of_names}
 use Rattle.proto_desc_checks_laws.specs.NamedFlaws.{FlawsOfNames, NoFlawComesIn, flaws_of_block, of_names}
 
@@ -100,7 +100,7 @@ module _ (s : Scene) where
   field_leaves on f =
       none_before (types_none f)
       (none_before (options_none on f.options)
-      (none_before (each_none (λ (o : OptionOf). flaw_if (is_named (text s) (codes "packed") o && not (may_be_packed s f)) kind.BadOption o.name) (λ o. if_none kind.BadOption refl _ o.name) f.options)
+      (none_before (each_none (λ (o : OptionOf). flaw_if (is_misfit s f o) kind.BadOption o.name) (λ o. if_none kind.BadOption refl _ o.name) f.options)
       (none_behind (default_all f)
       (each_none (λ (o : OptionOf). flaw_if (s.is_proto3 && is_named (text s) (codes "default") o) kind.NotInProto3 o.name) (λ o. if_none kind.NotInProto3 refl _ o.name) f.options))))
 

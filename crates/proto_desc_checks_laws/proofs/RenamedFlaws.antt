@@ -18,7 +18,7 @@ use Rattle.proto_tree.specs.declared.tree.Signed.{Signed}
 use Rattle.proto_tree.specs.declared.tree.UpTo.{UpTo}
 use Rattle.proto_tree.specs.declared.tree.Value.{Value}
 use Rattle.proto_tree.specs.Tree.{Tree}
-use Rattle.proto_ast.proofs.Common.{c_types, number_value, fits_kind, idempotency_levels, is_allowed, is_named, is_word_of, optimize_modes, truth_named, truth_of, value_kind_as, word_of, is_true, BlockOf, FieldOf, OptionOf, blocks_in, closed_ranges, enum_ranges, extension_words, fields_in, options_in, reserved_names_in, settings_of, statements, values_in, EnumOf, Scene, enum_meant, number_at, signed_value, text, up_to_cap, value, is_label_word, json_name_of}
+use Rattle.proto_ast.proofs.Common.{c_types, number_value, fits_kind, idempotency_levels, is_allowed, is_named, is_word_of, js_types, optimize_modes, truth_named, truth_of, value_kind_as, word_of, is_true, BlockOf, FieldOf, OptionOf, blocks_in, closed_ranges, enum_ranges, extension_words, fields_in, options_in, reserved_names_in, settings_of, statements, values_in, EnumOf, Scene, enum_meant, number_at, signed_value, text, up_to_cap, value, is_label_word, json_name_of, is_one_of}
 use Rattle.proto_ast.specs.declared.options.Element.{Element}
 use Rattle.proto_ast.specs.declared.options.Element.TheVariants as element
 use Rattle.proto_ast.specs.declared.options.ValueKind.{ValueKind}
@@ -27,7 +27,7 @@ use Rattle.proto_desc_numbers.specs.declared.flaw.Flaw.{Flaw}
 use Rattle.proto_desc_numbers.specs.declared.numbers.NumberAt.{NumberAt}
 use Rattle.proto_ast.specs.declared.ranges.RangeAt.{RangeAt}
 use Rattle.proto_desc_numbers.proofs.Common.{after_earlier, flaw, flaw_if, marked, bound_of, broken_ranges, end_of, enum_range_of, first_of_signed, is_field_number, is_value_number, least_value, most_field, most_value, number_of_field, number_of_value, outside, overlaps, range_of, repeated_numbers, reserved_numbers, field_number_flaws}
-use Rattle.proto_desc_checks.proofs.Common.{bars_extend, default_flaws, enum_of_type, extend_flaws, field_flaws, flaws_of_extension, is_packable_type, is_unpackable, map_key_flaws, may_default, no_map_keys, option_flaws, required_extensions, required_flaws, type_flaws, type_token, wrong_default, block_flaws, enum_flaws, file_flaws, first_value_flaws, json_clashes, message_flaws, name_flaws, value_number_flaws, value_option_flaws, aft, fore}
+use Rattle.proto_desc_checks.proofs.Common.{bars_extend, default_flaws, enum_of_type, extend_flaws, field_flaws, flaws_of_extension, is_packable_type, is_unpackable, map_key_flaws, may_default, no_map_keys, option_flaws, required_extensions, required_flaws, type_flaws, type_token, wrong_default, block_flaws, enum_flaws, file_flaws, first_value_flaws, json_clashes, message_flaws, name_flaws, value_number_flaws, value_option_flaws, aft, fore, asks_js_type, asks_lazy, is_long_type, is_message_type, long_types, other_js_types, lazy_options, is_misfit}
 use Rattle.proto_desc_checks_laws.specs.Renamed.{DifferInNames, NamesDecideThreeKinds, SameButValues, asked_tokens, block_tokens, but_names, constant_tokens, end_tokens, enum_tokens, field_tokens, header_tokens, is_of_names, message_tokens, option_tokens, range_tokens, scalar_tokens, up_to_tokens, value_tokens}
 
 -- ---- flaws that are the same but for those of names
@@ -139,6 +139,7 @@ module _ (named : ℕ → Bool) (a b : Scene) (differ : DifferInNames named a b)
   fits_same (Some value_kind.OptimizeMode) c e = ap (is_word_of optimize_modes) e
   fits_same (Some value_kind.IdempotencyLevel) c e = ap (is_word_of idempotency_levels) e
   fits_same (Some value_kind.CType) c e = ap (is_word_of c_types) e
+  fits_same (Some value_kind.JsType) c e = ap (is_word_of js_types) e
   fits_same (Some value_kind.Default) c e = refl
 
   fits_default : (p : Profile) (on : Element) (c : Constant) → fits_kind (text a) (value_kind_as p on (codes "default")) c ≡ fits_kind (text b) (value_kind_as p on (codes "default")) c
@@ -179,6 +180,13 @@ module _ (named : ℕ → Bool) (a b : Scene) (differ : DifferInNames named a b)
   alias_same : (o : OptionOf) → Kept (option_tokens a o) → (is_named (text a) (codes "allow_alias") o && is_true (truth_of (text a) o.value)) ≡ (is_named (text b) (codes "allow_alias") o && is_true (truth_of (text b) o.value))
   alias_same o = asked_same (λ t w. bytes_eq w (codes "allow_alias") && is_true (truth_of t o.value)) o refl (λ w. ap (λ v. bytes_eq w (codes "allow_alias") && is_true (option_and_then truth_named v)))
 
+  js_type_same : (o : OptionOf) → Kept (option_tokens a o) → asks_js_type (text a) o ≡ asks_js_type (text b) o
+  js_type_same o = asked_same (λ t w. bytes_eq w (codes "jstype") && is_word_of other_js_types (word_of t o.value)) o refl (λ w. ap (λ v. bytes_eq w (codes "jstype") && is_word_of other_js_types v))
+
+  lazy_same : (o : OptionOf) → Kept (option_tokens a o) → asks_lazy (text a) o ≡ asks_lazy (text b) o
+  lazy_same o =
+      asked_same (λ t w. is_one_of lazy_options w && is_true (truth_of t o.value)) o refl (λ w. ap (λ v. is_one_of lazy_options w && is_true (option_and_then truth_named v)))
+
   options_same : (on : Element) (os : List OptionOf) → Kept (flat_map (option_tokens a) os) → SameBut (option_flaws a on os) (option_flaws b on os)
   options_same on os k =
       join (each (option_tokens a) _ _ (λ o h. equal (ap (λ v. flaw_if (not v) kind.BadOption o.name) (allowed_same on o h))) os k)
@@ -206,6 +214,20 @@ module _ (named : ℕ → Bool) (a b : Scene) (differ : DifferInNames named a b)
   packable_same (field_type.Scalar t) k = ap (λ w. not (is_unpackable w)) (differ.texts t k.0)
   packable_same (field_type.Reference r) k = seen_same false (λ v w. true) (enum_meant a r) (enum_meant b r) (differ.enums r)
 
+  long_same : (t : FieldType) → Kept (scalar_tokens t) → is_long_type a t ≡ is_long_type b t
+  long_same (field_type.Scalar t) k = ap (is_one_of long_types) (differ.texts t k.0)
+  long_same (field_type.Reference r) k = refl
+
+  message_type_same : (t : FieldType) → is_message_type a t ≡ is_message_type b t
+  message_type_same (field_type.Scalar t) = refl
+  message_type_same (field_type.Reference r) = ap not (seen_same false (λ v w. true) (enum_meant a r) (enum_meant b r) (differ.enums r))
+
+  misfit_same : (f : FieldOf) → Kept (option_to_list f.label) → Kept (scalar_tokens f.kind) → (o : OptionOf) → Kept (option_tokens a o) → is_misfit a f o ≡ is_misfit b f o
+  misfit_same f l t o k = λ i.
+      ((named_same (codes "packed") o k i && not (label_same (codes "repeated") f.label l i && packable_same f.kind t i))
+      || (js_type_same o k i && not (is_none f.map_key && long_same f.kind t i)))
+      || (lazy_same o k i && not (is_some f.map_key || message_type_same f.kind i))
+
   types_same : (f : FieldOf) → Kept (option_to_list f.label) → Kept (option_to_list f.map_key) → SameBut (type_flaws a f) (type_flaws b f)
   types_same f l k =
       let d = enum_of_type a f.kind in
@@ -232,10 +254,9 @@ module _ (named : ℕ → Bool) (a b : Scene) (differ : DifferInNames named a b)
   field_same on f k =
       let kept = field_kept f k in
       let os = kept.3.1 in
-      let packed = ap₂ (λ v w. v && w) (label_same (codes "repeated") f.label kept.0) (packable_same f.kind kept.2) in
       join (types_same f kept.0 kept.1)
       (join (options_same on f.options os)
-      (join (each (option_tokens a) _ _ (λ o h. equal (ap₂ (λ v w. flaw_if (v && not w) kind.BadOption o.name) (named_same (codes "packed") o h) packed)) f.options os)
+      (join (each (option_tokens a) _ _ (λ o h. equal (ap (λ v. flaw_if v kind.BadOption o.name) (misfit_same f kept.0 kept.2 o h))) f.options os)
       (join (both_none (default_none a f) (default_none b f))
       (each (option_tokens a) _ _ (λ o h. equal (ap₂ (λ v w. flaw_if (v && w) kind.NotInProto3 o.name) differ.version (named_same (codes "default") o h))) f.options os))))
 

@@ -91,6 +91,13 @@ pub record FileOptionsDesc : Type 0 where
   pub java_generate_equals_and_hash : Option Bool
   pub java_generic_services : Option Bool
   pub ruby_package : Option Text
+  pub java_string_check_utf8 : Option Bool
+  pub cc_generic_services : Option Bool
+  pub py_generic_services : Option Bool
+  pub php_generic_services : Option Bool
+  pub swift_prefix : Option Text
+  pub php_class_prefix : Option Text
+  pub php_metadata_namespace : Option Text
 
 -- a file by its path; `public_dependency` has places in `dependency`, from 0
 pub record FileDesc : Type 0 where

@@ -3,6 +3,8 @@ use Rattle.std.specs.Prelude.{codes}
 use Rattle.proto_base.specs.Texts.{Text}
 use Rattle.proto_descriptors.specs.declared.field.CType.{CType}
 use Rattle.proto_descriptors.specs.declared.field.CType.TheVariants as c_type
+use Rattle.proto_descriptors.specs.declared.field.JsType.{JsType}
+use Rattle.proto_descriptors.specs.declared.field.JsType.TheVariants as js_type
 use Rattle.proto_descriptors.specs.declared.field.FieldType.{FieldType}
 use Rattle.proto_descriptors.specs.declared.field.FieldType.TheVariants as field_type
 use Rattle.proto_descriptors.specs.declared.field.Label.{Label}
@@ -55,3 +57,9 @@ abbrev pub c_type_name : CType → Text
 c_type_name c_type.String = codes "STRING"
 c_type_name c_type.Cord = codes "CORD"
 c_type_name c_type.StringPiece = codes "STRING_PIECE"
+
+-- the word of a JavaScript type, as a field writes it at its option `jstype`
+abbrev pub js_type_name : JsType → Text
+js_type_name js_type.Normal = codes "JS_NORMAL"
+js_type_name js_type.String = codes "JS_STRING"
+js_type_name js_type.Number = codes "JS_NUMBER"

@@ -131,6 +131,13 @@ file_options_desc o = record {
   java_generate_equals_and_hash = o.java_generate_equals_and_hash;
   java_generic_services = o.java_generic_services;
   ruby_package = option_map string_bytes o.ruby_package;
+  java_string_check_utf8 = o.java_string_check_utf8;
+  cc_generic_services = o.cc_generic_services;
+  py_generic_services = o.py_generic_services;
+  php_generic_services = o.php_generic_services;
+  swift_prefix = option_map string_bytes o.swift_prefix;
+  php_class_prefix = option_map string_bytes o.php_class_prefix;
+  php_metadata_namespace = option_map string_bytes o.php_metadata_namespace;
 }
 
 -- a file with all that it declares, in order

@@ -2,7 +2,7 @@
 
 ghost use Rattle.std.specs.Prelude.{◌≡◌, IfOk};
 ghost use Rattle.proto_descriptors.specs.Descriptors.{FieldDesc};
-ghost use Rattle.proto_descriptors.specs.Names.{c_type_name, label_name, type_word};
+ghost use Rattle.proto_descriptors.specs.Names.{c_type_name, js_type_name, label_name, type_word};
 ghost use Rattle.proto_descriptors.specs.Views.{field_desc, role_extendee, role_json_name};
 
 use crate::copying::{HasCopy, copied_text};
@@ -106,8 +106,16 @@ pub struct FieldOptions {
     pub ctype: Option<CType>,
     /// Whether the values of a repeated field stand in one block.
     pub packed: Option<bool>,
+    /// The JavaScript type of a whole number of 64 bits.
+    pub jstype: Option<JsType>,
+    /// Whether a message is read only when it is asked for.
+    pub lazy: Option<bool>,
+    /// The same, where nothing checks the bytes that are not read yet.
+    pub unverified_lazy: Option<bool>,
     /// Whether the field is no longer to be used.
     pub deprecated: Option<bool>,
+    /// Whether code may be linked without the field's type.
+    pub weak: Option<bool>,
 }
 
 /// The C++ type of a text.
@@ -119,6 +127,17 @@ pub enum CType {
     Cord,
     /// A part of a text that stands elsewhere.
     StringPiece,
+}
+
+/// The JavaScript type of a whole number of 64 bits.
+#[derive(Clone, Copy)]
+pub enum JsType {
+    /// The one that the code generator chooses.
+    Normal,
+    /// A string.
+    String,
+    /// A number, which may lose digits.
+    Number,
 }
 
 impl HasCopy for FieldDescriptor {
@@ -212,6 +231,19 @@ impl CType {
             CType::String => "STRING",
             CType::Cord => "CORD",
             CType::StringPiece => "STRING_PIECE",
+        }
+    }
+}
+
+impl JsType {
+    /// The name in descriptor.proto.
+    pub fn name(self) -> &'static str
+        ensures { result.now ≡ js_type_name self }
+    {
+        match self {
+            JsType::Normal => "JS_NORMAL",
+            JsType::String => "JS_STRING",
+            JsType::Number => "JS_NUMBER",
         }
     }
 }

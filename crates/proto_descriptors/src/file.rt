@@ -169,6 +169,20 @@ pub struct FileOptions {
     pub java_generic_services: Option<bool>,
     /// The package of the Ruby classes.
     pub ruby_package: Option<String>,
+    /// Whether Java code checks that texts are UTF-8.
+    pub java_string_check_utf8: Option<bool>,
+    /// Whether C++ classes of services are made that stand on no RPC system.
+    pub cc_generic_services: Option<bool>,
+    /// The same of Python.
+    pub py_generic_services: Option<bool>,
+    /// The same of PHP.
+    pub php_generic_services: Option<bool>,
+    /// What stands before the names of Swift types.
+    pub swift_prefix: Option<String>,
+    /// What stands before the names of PHP classes.
+    pub php_class_prefix: Option<String>,
+    /// The namespace of the PHP classes that describe the file.
+    pub php_metadata_namespace: Option<String>,
 }
 
 /// The same texts, each where there is one. Three at a time, since each early exit drops the texts
@@ -208,6 +222,12 @@ fn copied_options(alloc: Global, options: &FileOptions) -> Result<FileOptions, N
         &options.csharp_namespace,
         &options.php_namespace,
     )?;
+    let (swift_prefix, php_class_prefix, php_metadata_namespace) = copied_texts(
+        alloc,
+        &options.swift_prefix,
+        &options.php_class_prefix,
+        &options.php_metadata_namespace,
+    )?;
     let ruby_package = copied_text(alloc, &options.ruby_package)?;
     Ok(FileOptions {
         java_package,
@@ -223,6 +243,13 @@ fn copied_options(alloc: Global, options: &FileOptions) -> Result<FileOptions, N
         java_generate_equals_and_hash: options.java_generate_equals_and_hash,
         java_generic_services: options.java_generic_services,
         ruby_package,
+        java_string_check_utf8: options.java_string_check_utf8,
+        cc_generic_services: options.cc_generic_services,
+        py_generic_services: options.py_generic_services,
+        php_generic_services: options.php_generic_services,
+        swift_prefix,
+        php_class_prefix,
+        php_metadata_namespace,
     })
 }
 

@@ -11,7 +11,7 @@ mod service;
 pub use enumeration::{
     EnumDescriptor, EnumOptions, EnumReservedRange, EnumValueDescriptor, EnumValueOptions,
 };
-pub use field::{CType, FieldDescriptor, FieldOptions, FieldRole, FieldType, Label};
+pub use field::{CType, FieldDescriptor, FieldOptions, FieldRole, FieldType, JsType, Label};
 pub use file::{FileDescriptor, FileOptions, OptimizeMode, Syntax, copy_files};
 pub use message::{MessageDescriptor, MessageOptions, NumberRange, OneofDescriptor};
 pub use service::{

@@ -184,6 +184,8 @@ impl HasCopy for OneofDescriptor {
 pub struct MessageOptions {
     /// Whether the message is no longer to be used.
     pub deprecated: Option<bool>,
+    /// Whether its C++ class has no `descriptor()`.
+    pub no_standard_descriptor_accessor: Option<bool>,
     /// Whether the message was made for a map field.
     pub map_entry: bool,
 }

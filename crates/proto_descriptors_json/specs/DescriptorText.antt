@@ -15,7 +15,7 @@ use Rattle.proto_descriptors.specs.declared.message.MessageOptions.{MessageOptio
 use Rattle.proto_descriptors.specs.declared.message.NumberRange.{NumberRange}
 use Rattle.proto_descriptors.specs.declared.service.MethodOptions.{MethodOptions}
 use Rattle.proto_descriptors.specs.declared.service.ServiceOptions.{ServiceOptions}
-pub use Rattle.proto_descriptors.specs.Names.{c_type_name, label_name, type_word, optimize_mode_name, idempotency_level_name}
+pub use Rattle.proto_descriptors.specs.Names.{c_type_name, js_type_name, label_name, type_word, optimize_mode_name, idempotency_level_name}
 
 -- ---- names
 
@@ -31,7 +31,11 @@ abbrev pub field_options_slots : FieldOptions → List Slot
 field_options_slots o =
     (codes "ctype", option_map (λ t. json_string (c_type_name t)) o.ctype)
     ∷ (codes "deprecated", option_map boolean_text o.deprecated)
-    ∷ (codes "packed", option_map boolean_text o.packed) ∷ []
+    ∷ (codes "jstype", option_map (λ t. json_string (js_type_name t)) o.jstype)
+    ∷ (codes "lazy", option_map boolean_text o.lazy)
+    ∷ (codes "packed", option_map boolean_text o.packed)
+    ∷ (codes "unverifiedLazy", option_map boolean_text o.unverified_lazy)
+    ∷ (codes "weak", option_map boolean_text o.weak) ∷ []
 
 -- a field: label, name, number and type always stand, any other key only where it says something
 abbrev pub field_slots : FieldDesc → List Slot
@@ -120,7 +124,11 @@ oneof_text name = object_text (oneof_slots name)
 abbrev pub message_options_slots : MessageOptions → List Slot
 message_options_slots o =
     (codes "deprecated", option_map boolean_text o.deprecated)
-    ∷ (codes "mapEntry", mark_if_true o.map_entry) ∷ []
+    ∷ (codes "mapEntry", mark_if_true o.map_entry)
+    ∷ (
+      codes "noStandardDescriptorAccessor",
+      option_map boolean_text o.no_standard_descriptor_accessor,
+    ) ∷ []
 
 -- a message, with the texts of those nested in it
 abbrev pub message_slots : MessageDesc → List Text → List Slot
@@ -191,6 +199,7 @@ service_text s = object_text (service_slots s)
 abbrev pub file_options_slots : FileOptionsDesc → List Slot
 file_options_slots o =
     (codes "ccEnableArenas", option_map boolean_text o.cc_enable_arenas)
+    ∷ (codes "ccGenericServices", option_map boolean_text o.cc_generic_services)
     ∷ (codes "csharpNamespace", option_map json_string o.csharp_namespace)
     ∷ (codes "deprecated", option_map boolean_text o.deprecated)
     ∷ (codes "goPackage", option_map json_string o.go_package)
@@ -202,14 +211,20 @@ file_options_slots o =
     ∷ (codes "javaMultipleFiles", option_map boolean_text o.java_multiple_files)
     ∷ (codes "javaOuterClassname", option_map json_string o.java_outer_classname)
     ∷ (codes "javaPackage", option_map json_string o.java_package)
+    ∷ (codes "javaStringCheckUtf8", option_map boolean_text o.java_string_check_utf8)
     ∷ (codes "objcClassPrefix", option_map json_string o.objc_class_prefix)
     ∷ (
       codes "optimizeFor",
       option_map (λ mode. json_string (optimize_mode_name mode))
           o.optimize_for,
     )
+    ∷ (codes "phpClassPrefix", option_map json_string o.php_class_prefix)
+    ∷ (codes "phpGenericServices", option_map boolean_text o.php_generic_services)
+    ∷ (codes "phpMetadataNamespace", option_map json_string o.php_metadata_namespace)
     ∷ (codes "phpNamespace", option_map json_string o.php_namespace)
-    ∷ (codes "rubyPackage", option_map json_string o.ruby_package) ∷ []
+    ∷ (codes "pyGenericServices", option_map boolean_text o.py_generic_services)
+    ∷ (codes "rubyPackage", option_map json_string o.ruby_package)
+    ∷ (codes "swiftPrefix", option_map json_string o.swift_prefix) ∷ []
 
 -- a file: its path always stands, any other key only where it says something
 abbrev pub file_slots : FileDesc → List Slot

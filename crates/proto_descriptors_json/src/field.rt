@@ -1,15 +1,18 @@
 //! The text of fields of messages.
 
-ghost use Rattle.std.specs.Prelude.{[], ◌∷◌, OnOk, take, drop, codes, option_map};
-ghost use Rattle.proto_descriptors_json.specs.DescriptorText.{c_type_name, label_name, type_word, field_slots, field_text, field_options_slots};
+ghost use Rattle.std.specs.Prelude.{[], ◌∷◌, IfOk, OnOk, take, drop, codes, option_map};
+ghost use Rattle.serde.specs.Event.{Log};
+ghost use Rattle.proto_descriptors_json.specs.DescriptorText.{c_type_name, js_type_name, label_name, type_word, field_slots, field_text, field_options_slots};
 ghost use Rattle.proto_descriptors_json.specs.JsonText.{json_string};
-ghost use Rattle.proto_descriptors_json.specs.Written.{PutsMember, PutsMembers, options_slot};
+ghost use Rattle.proto_descriptors_json.specs.Written.{EndsOptions, PutsMember, PutsMembers, options_slot};
 ghost use Rattle.proto_descriptors.specs.Views.{field_desc, role_extendee, role_json_name};
 
 use crate::members::{put, put_mark, put_optional};
 use crate::options::{close, put_option};
 use crate::values::ToJson;
-use proto_descriptors::{CType, FieldDescriptor, FieldOptions, FieldRole, FieldType, Label};
+use proto_descriptors::{
+    CType, FieldDescriptor, FieldOptions, FieldRole, FieldType, JsType, Label,
+};
 use serde::Serializer;
 
 impl ToJson for Label {
@@ -30,6 +33,14 @@ impl ToJson for FieldType {
 
 impl ToJson for CType {
     ghost text = { λ t. json_string (c_type_name t) };
+
+    fn send<S: Serializer>(&self, out: &mut S) -> Result<(), S::Error> {
+        out.str(self.name())
+    }
+}
+
+impl ToJson for JsType {
+    ghost text = { λ t. json_string (js_type_name t) };
 
     fn send<S: Serializer>(&self, out: &mut S) -> Result<(), S::Error> {
         out.str(self.name())
@@ -89,8 +100,33 @@ fn put_options<S: Serializer>(out: &mut S, options: &FieldOptions) -> Result<(),
     ensures { OnOk result (PutsMember (options_slot (field_options_slots options.now))
         (S.written out.old) (S.written out.new)) }
 {
+    let is_open = put_first_options(out, options)?;
+    put_later_options(out, is_open, options)
+}
+
+/// The options up to `lazy`. Answers whether their object has begun.
+fn put_first_options<S: Serializer>(out: &mut S, options: &FieldOptions) -> Result<bool, S::Error>
+    ensures { IfOk result (λ is_open. (last : Log)
+        → EndsOptions is_open (drop 4 (field_options_slots options.now)) (S.written out.new) last
+        → PutsMember (options_slot (field_options_slots options.now)) (S.written out.old) last) }
+{
     let is_open = put_option(out, false, "ctype", &options.ctype)?;
     let is_open = put_option(out, is_open, "deprecated", &options.deprecated)?;
+    let is_open = put_option(out, is_open, "jstype", &options.jstype)?;
+    put_option(out, is_open, "lazy", &options.lazy)
+}
+
+/// The options from `packed` on, and the end of their object.
+fn put_later_options<S: Serializer>(
+    out: &mut S,
+    is_open: bool,
+    options: &FieldOptions,
+) -> Result<(), S::Error>
+    ensures { OnOk result (EndsOptions is_open (drop 4 (field_options_slots options.now))
+        (S.written out.old) (S.written out.new)) }
+{
     let is_open = put_option(out, is_open, "packed", &options.packed)?;
+    let is_open = put_option(out, is_open, "unverifiedLazy", &options.unverified_lazy)?;
+    let is_open = put_option(out, is_open, "weak", &options.weak)?;
     close(out, is_open)
 }

@@ -116,18 +116,21 @@ fn put_options<S: Serializer>(out: &mut S, options: &FileOptions) -> Result<(), 
 {
     let is_open = put_first_options(out, options)?;
     let is_open = put_java_options(out, is_open, options)?;
+    let is_open = put_middle_options(out, is_open, options)?;
     put_later_options(out, is_open, options)
 }
 
 /// The options up to `goPackage`. Answers whether their object has begun.
 fn put_first_options<S: Serializer>(out: &mut S, options: &FileOptions) -> Result<bool, S::Error>
     ensures { IfOk result (λ is_open. (last : Log)
-        → EndsOptions is_open (drop 4 (file_options_slots (file_options_desc options.now)))
+        → EndsOptions is_open (drop 5 (file_options_slots (file_options_desc options.now)))
         (S.written out.new) last
         → PutsMember (options_slot (file_options_slots (file_options_desc options.now)))
         (S.written out.old) last) }
 {
     let is_open = put_option(out, false, "ccEnableArenas", &options.cc_enable_arenas)?;
+    let services = &options.cc_generic_services;
+    let is_open = put_option(out, is_open, "ccGenericServices", services)?;
     let is_open = put_option(out, is_open, "csharpNamespace", &options.csharp_namespace)?;
     let is_open = put_option(out, is_open, "deprecated", &options.deprecated)?;
     put_option(out, is_open, "goPackage", &options.go_package)
@@ -140,9 +143,9 @@ fn put_java_options<S: Serializer>(
     options: &FileOptions,
 ) -> Result<bool, S::Error>
     ensures { IfOk result (λ is_open_then. (last : Log)
-        → EndsOptions is_open_then (drop 9 (file_options_slots (file_options_desc options.now)))
+        → EndsOptions is_open_then (drop 11 (file_options_slots (file_options_desc options.now)))
         (S.written out.new) last
-        → EndsOptions is_open (drop 4 (file_options_slots (file_options_desc options.now)))
+        → EndsOptions is_open (drop 5 (file_options_slots (file_options_desc options.now)))
         (S.written out.old) last) }
 {
     let equals = &options.java_generate_equals_and_hash;
@@ -153,22 +156,46 @@ fn put_java_options<S: Serializer>(
     let is_open = put_option(out, is_open, "javaMultipleFiles", multiple)?;
     let outer = &options.java_outer_classname;
     let is_open = put_option(out, is_open, "javaOuterClassname", outer)?;
-    put_option(out, is_open, "javaPackage", &options.java_package)
+    let is_open = put_option(out, is_open, "javaPackage", &options.java_package)?;
+    let checks = &options.java_string_check_utf8;
+    put_option(out, is_open, "javaStringCheckUtf8", checks)
 }
 
-/// The options from `objcClassPrefix` on, and the end of their object.
+/// The options up to `phpMetadataNamespace`. Answers whether the object has begun.
+fn put_middle_options<S: Serializer>(
+    out: &mut S,
+    is_open: bool,
+    options: &FileOptions,
+) -> Result<bool, S::Error>
+    ensures { IfOk result (λ is_open_then. (last : Log)
+        → EndsOptions is_open_then (drop 16 (file_options_slots (file_options_desc options.now)))
+        (S.written out.new) last
+        → EndsOptions is_open (drop 11 (file_options_slots (file_options_desc options.now)))
+        (S.written out.old) last) }
+{
+    let is_open = put_option(out, is_open, "objcClassPrefix", &options.objc_class_prefix)?;
+    let is_open = put_option(out, is_open, "optimizeFor", &options.optimize_for)?;
+    let is_open = put_option(out, is_open, "phpClassPrefix", &options.php_class_prefix)?;
+    let services = &options.php_generic_services;
+    let is_open = put_option(out, is_open, "phpGenericServices", services)?;
+    let namespace = &options.php_metadata_namespace;
+    put_option(out, is_open, "phpMetadataNamespace", namespace)
+}
+
+/// The options from `phpNamespace` on, and the end of their object.
 fn put_later_options<S: Serializer>(
     out: &mut S,
     is_open: bool,
     options: &FileOptions,
 ) -> Result<(), S::Error>
     ensures { OnOk result (EndsOptions
-        is_open (drop 9 (file_options_slots (file_options_desc options.now)))
+        is_open (drop 16 (file_options_slots (file_options_desc options.now)))
         (S.written out.old) (S.written out.new)) }
 {
-    let is_open = put_option(out, is_open, "objcClassPrefix", &options.objc_class_prefix)?;
-    let is_open = put_option(out, is_open, "optimizeFor", &options.optimize_for)?;
     let is_open = put_option(out, is_open, "phpNamespace", &options.php_namespace)?;
+    let services = &options.py_generic_services;
+    let is_open = put_option(out, is_open, "pyGenericServices", services)?;
     let is_open = put_option(out, is_open, "rubyPackage", &options.ruby_package)?;
+    let is_open = put_option(out, is_open, "swiftPrefix", &options.swift_prefix)?;
     close(out, is_open)
 }

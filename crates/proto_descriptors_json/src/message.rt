@@ -102,5 +102,7 @@ fn put_options<S: Serializer>(out: &mut S, options: &MessageOptions) -> Result<(
 {
     let is_open = put_option(out, false, "deprecated", &options.deprecated)?;
     let is_open = put_option(out, is_open, "mapEntry", &mark_of(options.map_entry))?;
+    let accessor = &options.no_standard_descriptor_accessor;
+    let is_open = put_option(out, is_open, "noStandardDescriptorAccessor", accessor)?;
     close(out, is_open)
 }

@@ -23,7 +23,7 @@ foo name type json = record {
   oneof_index = None;
   json_name = Some json;
   proto3_optional = false;
-  options = record { ctype = None; packed = None; deprecated = None };
+  options = record { ctype = None; packed = None; jstype = None; lazy = None; unverified_lazy = None; deprecated = None; weak = None };
 }
 
 abbrev plain : Taken

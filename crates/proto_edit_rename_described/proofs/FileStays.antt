@@ -19,7 +19,7 @@ use Rattle.proto_desc_numbers.specs.NumberFlaws.{bound_of, end_of, enum_range_of
 use Rattle.proto_desc_checks_laws.specs.Renamed.{DifferInNames, SameButValues, constant_tokens, end_tokens, enum_tokens, field_tokens, message_tokens, option_tokens, range_tokens, scalar_tokens, up_to_tokens, value_tokens}
 use Rattle.proto_descriptors.specs.declared.field.FieldType.TheVariants as field_type
 use Rattle.proto_descriptors.specs.declared.field.Label.TheVariants as label
-use Rattle.proto_desc_build.specs.Described.{c_type_named, enum_options, field_number, file_options, is_map, level_named, message_options, method_options, mode_named, number_range, scalar_type, type_of, value_described, value_number, value_range}
+use Rattle.proto_desc_build.specs.Described.{c_type_named, enum_options, field_number, js_type_named, file_options, is_map, level_named, message_options, method_options, mode_named, number_range, scalar_type, type_of, value_described, value_number, value_range}
 use Rattle.proto_edit_rename_laws.proofs.Common.{from_flat_map, to_flat_map, find_agree, find_there}
 use Rattle.proto_edit_rename_described.specs.Common.{Taken, FieldStays, service_options}
 
@@ -100,7 +100,11 @@ module _ (e : Renaming) (taken : Taken) (named : ℕ → Bool) (a b : Scene) (di
   texts_same w os k = ap (option_and_then (text_value (value b))) (value_same w os k) ∙ option_agrees (value b) (value a) strings (value_named (text a) w os)
 
   pub message_options_stay : (os : List OptionOf) → Kept (flat_map (option_tokens a) os) → message_options b false os ≡ message_options a false os
-  message_options_stay os k = λ i. record { deprecated = truth_same (codes "deprecated") refl os k i; map_entry = false }
+  message_options_stay os k = λ i. record {
+    deprecated = truth_same (codes "deprecated") refl os k i;
+    no_standard_descriptor_accessor = truth_same (codes "no_standard_descriptor_accessor") refl os k i;
+    map_entry = false;
+  }
 
   pub enum_options_stay : (os : List OptionOf) → Kept (flat_map (option_tokens a) os) → enum_options b os ≡ enum_options a os
   enum_options_stay os k = λ i. record { allow_alias = truth_same (codes "allow_alias") refl os k i; deprecated = truth_same (codes "deprecated") refl os k i }
@@ -126,6 +130,13 @@ module _ (e : Renaming) (taken : Taken) (named : ℕ → Bool) (a b : Scene) (di
     java_generate_equals_and_hash = truth_same (codes "java_generate_equals_and_hash") refl os k i;
     java_generic_services = truth_same (codes "java_generic_services") refl os k i;
     ruby_package = texts_same (codes "ruby_package") os k i;
+    java_string_check_utf8 = truth_same (codes "java_string_check_utf8") refl os k i;
+    cc_generic_services = truth_same (codes "cc_generic_services") refl os k i;
+    py_generic_services = truth_same (codes "py_generic_services") refl os k i;
+    php_generic_services = truth_same (codes "php_generic_services") refl os k i;
+    swift_prefix = texts_same (codes "swift_prefix") os k i;
+    php_class_prefix = texts_same (codes "php_class_prefix") os k i;
+    php_metadata_namespace = texts_same (codes "php_metadata_namespace") os k i;
   }
 
   -- ---- numbers
@@ -196,7 +207,11 @@ module _ (e : Renaming) (taken : Taken) (named : ℕ → Bool) (a b : Scene) (di
       options = λ i. record {
         ctype = option_map c_type_named (words_same (codes "ctype") refl f.options options_kept i);
         packed = truth_same (codes "packed") refl f.options options_kept i;
+        jstype = option_map js_type_named (words_same (codes "jstype") refl f.options options_kept i);
+        lazy = truth_same (codes "lazy") refl f.options options_kept i;
+        unverified_lazy = truth_same (codes "unverified_lazy") refl f.options options_kept i;
         deprecated = truth_same (codes "deprecated") refl f.options options_kept i;
+        weak = truth_same (codes "weak") refl f.options options_kept i;
       };
       json = texts_same (codes "json_name") f.options options_kept;
       default = value_same (codes "default") f.options options_kept;

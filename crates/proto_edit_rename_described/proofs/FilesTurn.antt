@@ -23,7 +23,7 @@ use Rattle.proto_ast.proofs.Common.{is_named, text_option, value_named, BlockOf,
 use Rattle.proto_ast.specs.declared.options.Element.{Element}
 use Rattle.proto_ast.specs.declared.options.Element.TheVariants as element
 use Rattle.proto_desc_numbers.proofs.Common.{flaw_if, is_field_number, number_of_field, outside}
-use Rattle.proto_desc_checks.proofs.Common.{bars_extend, default_flaws, field_flaws, flaws_of_extension, is_default_of, is_value_of, may_default, option_flaws, packed_flaws, proto3_defaults, required_extensions, type_flaws, wrong_default, block_flaws, flaws_in_blocks}
+use Rattle.proto_desc_checks.proofs.Common.{bars_extend, default_flaws, field_flaws, flaws_of_extension, is_default_of, is_value_of, may_default, option_flaws, misfit_flaws, proto3_defaults, required_extensions, type_flaws, wrong_default, block_flaws, flaws_in_blocks}
 use Rattle.proto_desc_checks_laws.proofs.Common.{names_are_of_one_field, DifferInNames, asked_tokens, block_tokens, option_tokens}
 use Rattle.proto_desc_build.specs.Described.{absolute, default_number, default_text, field_type_name, file_described, is_map, type_name_of}
 use Rattle.proto_edit_rename_laws.proofs.Common.{meaning_of, meant_as, scene_of, fields_of_block, meaning_from, means_value, HasDefaultRoles, AreReworded, IsRename, Target, may_rename, name_map, renamed_words, other_texts_stay, at_same, find_agree, find_there, scenes_are_apart, used_here, values_stay}
@@ -265,9 +265,9 @@ module _ (files : List FileOf) (reads : List ReadOf) (name to : List ℕ) (t : T
       default_clean : (default_flaws (scene_of None files reads file) f ≡ []) × (proto3_defaults (scene_of None files reads file) f ≡ [])
       default_clean =
           let on = field_clean.0 in
-          let p = (empty_parts (type_flaws a f) (option_flaws a on f.options ++ (packed_flaws a f ++ (default_flaws a f ++ proto3_defaults a f))) field_clean.1).1 in
-          let q = (empty_parts (option_flaws a on f.options) (packed_flaws a f ++ (default_flaws a f ++ proto3_defaults a f)) p).1 in
-          let r = (empty_parts (packed_flaws a f) (default_flaws a f ++ proto3_defaults a f) q).1 in
+          let p = (empty_parts (type_flaws a f) (option_flaws a on f.options ++ (misfit_flaws a f ++ (default_flaws a f ++ proto3_defaults a f))) field_clean.1).1 in
+          let q = (empty_parts (option_flaws a on f.options) (misfit_flaws a f ++ (default_flaws a f ++ proto3_defaults a f)) p).1 in
+          let r = (empty_parts (misfit_flaws a f) (default_flaws a f ++ proto3_defaults a f) q).1 in
           empty_parts (default_flaws a f) (proto3_defaults a f) r
 
       field_roles : HasDefaultRoles (renamed_words files reads t to) (text_of files reads) (text_of after seen) (meaning_from files reads file) t.enum (text_of files reads t.token) to file f

@@ -205,9 +205,9 @@ module _ (g k : Move) (middle old new : Scene) (to_old : IsMovedScene g middle o
       ranges_same k middle new to_new (flat_map extension_ranges (statements x)) _ ds ∙ sym (ranges_same g middle old to_old (flat_map extension_ranges (statements x)) _ es) in
       let os = old_read g k aim res (move_option_of g) statement_options (record { moves = statement_options_moved g }) (no_words aim).2 x t u sw in
       let ps = nothing_with (move_option_of k) _ _ (new_read g k aim res (move_option_of k) statement_options (record { moves = statement_options_moved k }) x t u sw) in
-      let deprecated : truth_option (text new) (codes "deprecated") (options_in u) ≡ truth_option (text old) (codes "deprecated") (options_in t) =
-      ap (truth_option (text new) (codes "deprecated")) ps ∙ truths k middle new to_new (codes "deprecated") (options_in x)
-      ∙ sym (ap (truth_option (text old) (codes "deprecated")) os ∙ truths g middle old to_old (codes "deprecated") (options_in x)) in
+      let said : (n : List ℕ) → truth_option (text new) n (options_in u) ≡ truth_option (text old) n (options_in t) =
+      λ n. ap (truth_option (text new) n) ps ∙ truths k middle new to_new n (options_in x)
+      ∙ sym (ap (truth_option (text old) n) os ∙ truths g middle old to_old n (options_in x)) in
       let extended = right_extensions x t u sw in
       let enums = right_enums x t u sw in
       let oneofs = right_oneofs x t u sw in
@@ -220,7 +220,11 @@ module _ (g k : Move) (middle old new : Scene) (to_old : IsMovedScene g middle o
         oneof_decl = (oneofs.1 ∙ sym oneofs.0) i;
         reserved_range = ranges i;
         reserved_name = names i;
-        options = record { deprecated = deprecated i; map_entry = false };
+        options = record {
+          deprecated = said (codes "deprecated") i;
+          no_standard_descriptor_accessor = said (codes "no_standard_descriptor_accessor") i;
+          map_entry = false;
+        };
       }
 
   -- ---- further out

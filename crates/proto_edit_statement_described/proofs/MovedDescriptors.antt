@@ -21,7 +21,7 @@ use Rattle.proto_names_rules.proofs.Common.{joined, key_word, package_of, value_
 use Rattle.proto_ast.proofs.Common.{is_named, text_of_constant, text_option, truth_named, truth_option, value_named, word_of, word_option, FieldOf, OptionOf, enum_ranges, extension_ranges, fields_in, options_in, reserved_names_in, reserved_ranges, settings_of, statements, values_in, MeantOf, Scene, meant_by, text, value, has_label}
 use Rattle.proto_desc_checks_laws.proofs.Common.{IsMoved, without_imports, enum_ranges_moved, extension_ranges_moved, fields_moved, file_options_moved, find_moved, flat_kept, given_moved, maps_kept, move_field_of, move_option_of, options_moved, reserved_names_moved, reserved_ranges_moved, settings_moved, some_kept, values_moved, enum_range_moved, json_name_moved, label_moved, named_moved, number_moved, range_moved, signed_moved, text_moved, word_moved}
 use Rattle.proto_desc_numbers.specs.NumberFlaws.{enum_range_of, range_of}
-use Rattle.proto_desc_build.specs.Described.{absolute, below, c_type_named, default_number, default_text, entry_described, entry_field, enum_described, enums_described, extension_described, extensions_described, field_described, field_with, field_number, field_type_name, field_type_of, file_described, file_options, is_map, label_of, message_described, messages_described, method_described, methods_described, mode_named, level_named, number_range, oneof_names, package_named, package_prefix, public_places, scalar_type, service_described, services_described, type_name_of, type_of, type_text, value_described, value_number, value_range}
+use Rattle.proto_desc_build.specs.Described.{absolute, below, c_type_named, default_number, default_text, entry_described, entry_field, enum_described, enums_described, extension_described, extensions_described, field_described, field_with, field_number, field_type_name, field_type_of, file_described, file_options, is_map, label_of, message_described, messages_described, method_described, methods_described, mode_named, level_named, number_range, oneof_names, package_named, package_prefix, public_places, scalar_type, service_described, services_described, type_name_of, type_of, type_text, value_described, value_number, value_range, js_type_named}
 use Rattle.proto_descriptors.specs.declared.field.FieldType.{FieldType}
 use Rattle.proto_descriptors.specs.declared.field.FieldType.TheVariants as field_type
 use Rattle.proto_descriptors.specs.declared.field.Label.TheVariants as label
@@ -128,7 +128,11 @@ module _ (g : Move) (a b : Scene) (all : IsMovedScene g a b) where
     options = record {
       ctype = option_map c_type_named (words (codes "ctype") f.options i);
       packed = truths (codes "packed") f.options i;
+      jstype = option_map js_type_named (words (codes "jstype") f.options i);
+      lazy = truths (codes "lazy") f.options i;
+      unverified_lazy = truths (codes "unverified_lazy") f.options i;
       deprecated = truths (codes "deprecated") f.options i;
+      weak = truths (codes "weak") f.options i;
     };
   }
     where
@@ -218,7 +222,11 @@ module _ (g : Move) (a b : Scene) (all : IsMovedScene g a b) where
     oneof_decl = oneofs_same x i;
     reserved_range = ranges_same (flat_map reserved_ranges (statements x)) _ (given_moved g (move_range g g) reserved_ranges (reserved_ranges_moved g) x) i;
     reserved_name = names_same (reserved_names_in x) _ (reserved_names_moved g x) i;
-    options = record { deprecated = truth (codes "deprecated") x i; map_entry = false };
+    options = record {
+      deprecated = truth (codes "deprecated") x i;
+      no_standard_descriptor_accessor = truth (codes "no_standard_descriptor_accessor") x i;
+      map_entry = false;
+    };
   }
 
   pub entry_same : (f : MapField) → entry_described b (move_map_field g f) ≡ entry_described a f
@@ -231,7 +239,7 @@ module _ (g : Move) (a b : Scene) (all : IsMovedScene g a b) where
     oneof_decl = [];
     reserved_range = [];
     reserved_name = [];
-    options = record { deprecated = None; map_entry = true };
+    options = record { deprecated = None; no_standard_descriptor_accessor = None; map_entry = true };
   }
 
   pub messages_same : (full : List ℕ) (x : Tree) → messages_described b full (move_tree g x) ≡ messages_described a full x
@@ -338,6 +346,13 @@ options_same g a b all os ps e = λ i. record {
   java_generate_equals_and_hash = held (codes "java_generate_equals_and_hash") i;
   java_generic_services = held (codes "java_generic_services") i;
   ruby_package = said (codes "ruby_package") i;
+  java_string_check_utf8 = held (codes "java_string_check_utf8") i;
+  cc_generic_services = held (codes "cc_generic_services") i;
+  py_generic_services = held (codes "py_generic_services") i;
+  php_generic_services = held (codes "php_generic_services") i;
+  swift_prefix = said (codes "swift_prefix") i;
+  php_class_prefix = said (codes "php_class_prefix") i;
+  php_metadata_namespace = said (codes "php_metadata_namespace") i;
 }
   where
     said : (n : List ℕ) → text_option (text b) (value b) n ps ≡ text_option (text a) (value a) n os

@@ -47,6 +47,82 @@ const ROWS: &[(&str, &str, &str)] = &[
         "a.proto:7: 27 BadOption",
         "a.proto:34: 27 BadOption",
     ),
+    (
+        "a.proto option swift_prefix = \"S\"; option php_class_prefix = \"P\" \"Q\"; option php_metadata_namespace = \"N\"; option java_string_check_utf8 = true; option cc_generic_services = false; option py_generic_services = true; option php_generic_services = false;",
+        "a.proto:7: 27 BadOption",
+        "{\"file\":[{\"name\":\"a.proto\",\"options\":{\"ccGenericServices\":false,\"javaStringCheckUtf8\":true,\"phpClassPrefix\":\"PQ\",\"phpGenericServices\":false,\"phpMetadataNamespace\":\"N\",\"pyGenericServices\":true,\"swiftPrefix\":\"S\"}}]}",
+    ),
+    (
+        "a.proto option swift_prefix = S;",
+        "a.proto:7: 27 BadOption",
+        "a.proto:7: 27 BadOption",
+    ),
+    (
+        "a.proto option php_class_prefix = 1;",
+        "a.proto:7: 27 BadOption",
+        "a.proto:7: 27 BadOption",
+    ),
+    (
+        "a.proto option php_metadata_namespace = true;",
+        "a.proto:7: 27 BadOption",
+        "a.proto:7: 27 BadOption",
+    ),
+    (
+        "a.proto option java_string_check_utf8 = \"true\";",
+        "a.proto:7: 27 BadOption",
+        "a.proto:7: 27 BadOption",
+    ),
+    (
+        "a.proto option cc_generic_services = yes;",
+        "a.proto:7: 27 BadOption",
+        "a.proto:7: 27 BadOption",
+    ),
+    (
+        "a.proto option py_generic_services = 1;",
+        "a.proto:7: 27 BadOption",
+        "a.proto:7: 27 BadOption",
+    ),
+    (
+        "a.proto option php_generic_services = True;",
+        "a.proto:7: 27 BadOption",
+        "a.proto:7: 27 BadOption",
+    ),
+    (
+        "a.proto option jstype = JS_STRING;",
+        "a.proto:7: 27 BadOption",
+        "a.proto:7: 27 BadOption",
+    ),
+    (
+        "a.proto option no_standard_descriptor_accessor = true;",
+        "a.proto:7: 27 BadOption",
+        "a.proto:7: 27 BadOption",
+    ),
+    // Options of messages.
+    (
+        "a.proto message M { option no_standard_descriptor_accessor = true; option deprecated = false; }",
+        "a.proto:19: 27 BadOption",
+        "{\"file\":[{\"messageType\":[{\"name\":\"M\",\"options\":{\"deprecated\":false,\"noStandardDescriptorAccessor\":true}}],\"name\":\"a.proto\"}]}",
+    ),
+    (
+        "a.proto message M { option no_standard_descriptor_accessor = 1; }",
+        "a.proto:19: 27 BadOption",
+        "a.proto:19: 27 BadOption",
+    ),
+    (
+        "a.proto message M { option message_set_wire_format = false; }",
+        "a.proto:19: 27 BadOption",
+        "a.proto:19: 27 BadOption",
+    ),
+    (
+        "a.proto message M { option swift_prefix = \"S\"; }",
+        "a.proto:19: 27 BadOption",
+        "a.proto:19: 27 BadOption",
+    ),
+    (
+        "a.proto message M { option weak = true; }",
+        "a.proto:19: 27 BadOption",
+        "a.proto:19: 27 BadOption",
+    ),
     // Options of fields and extensions.
     (
         "a.proto message M { optional string a = 1 [ctype = CORD, deprecated = true]; repeated bytes b = 2 [ctype = STRING_PIECE]; oneof o { int32 c = 3 [ctype = STRING]; } extensions 4; } extend M { optional string x = 4 [ctype = CORD]; }",
@@ -77,6 +153,76 @@ const ROWS: &[(&str, &str, &str)] = &[
         "a.proto message M { extensions 1; } extend M { optional string x = 1 [ctype = cord]; }",
         "a.proto:62: 27 BadOption",
         "a.proto:62: 27 BadOption",
+    ),
+    (
+        "a.proto message M { optional int64 a = 1 [jstype = JS_STRING, weak = true]; repeated sfixed64 b = 2 [jstype = JS_NUMBER, packed = true]; optional bool c = 3 [jstype = JS_NORMAL, lazy = false]; optional M d = 4 [lazy = true, weak = false]; map<int32, int32> e = 5 [unverified_lazy = true]; oneof o { fixed64 f = 6 [jstype = JS_STRING]; E g = 7 [unverified_lazy = false, deprecated = true]; } extensions 8; } extend M { repeated M x = 8 [lazy = true, unverified_lazy = true]; } enum E { V = 0; }",
+        "a.proto:34: 27 BadOption",
+        "{\"file\":[{\"enumType\":[{\"name\":\"E\",\"value\":[{\"name\":\"V\",\"number\":0}]}],\"extension\":[{\"extendee\":\".M\",\"label\":\"LABEL_REPEATED\",\"name\":\"x\",\"number\":8,\"options\":{\"lazy\":true,\"unverifiedLazy\":true},\"type\":\"TYPE_MESSAGE\",\"typeName\":\".M\"}],\"messageType\":[{\"extensionRange\":[{\"end\":9,\"start\":8}],\"field\":[{\"jsonName\":\"a\",\"label\":\"LABEL_OPTIONAL\",\"name\":\"a\",\"number\":1,\"options\":{\"jstype\":\"JS_STRING\",\"weak\":true},\"type\":\"TYPE_INT64\"},{\"jsonName\":\"b\",\"label\":\"LABEL_REPEATED\",\"name\":\"b\",\"number\":2,\"options\":{\"jstype\":\"JS_NUMBER\",\"packed\":true},\"type\":\"TYPE_SFIXED64\"},{\"jsonName\":\"c\",\"label\":\"LABEL_OPTIONAL\",\"name\":\"c\",\"number\":3,\"options\":{\"jstype\":\"JS_NORMAL\",\"lazy\":false},\"type\":\"TYPE_BOOL\"},{\"jsonName\":\"d\",\"label\":\"LABEL_OPTIONAL\",\"name\":\"d\",\"number\":4,\"options\":{\"lazy\":true,\"weak\":false},\"type\":\"TYPE_MESSAGE\",\"typeName\":\".M\"},{\"jsonName\":\"e\",\"label\":\"LABEL_REPEATED\",\"name\":\"e\",\"number\":5,\"options\":{\"unverifiedLazy\":true},\"type\":\"TYPE_MESSAGE\",\"typeName\":\".M.EEntry\"},{\"jsonName\":\"f\",\"label\":\"LABEL_OPTIONAL\",\"name\":\"f\",\"number\":6,\"oneofIndex\":0,\"options\":{\"jstype\":\"JS_STRING\"},\"type\":\"TYPE_FIXED64\"},{\"jsonName\":\"g\",\"label\":\"LABEL_OPTIONAL\",\"name\":\"g\",\"number\":7,\"oneofIndex\":0,\"options\":{\"deprecated\":true,\"unverifiedLazy\":false},\"type\":\"TYPE_ENUM\",\"typeName\":\".E\"}],\"name\":\"M\",\"nestedType\":[{\"field\":[{\"jsonName\":\"key\",\"label\":\"LABEL_OPTIONAL\",\"name\":\"key\",\"number\":1,\"type\":\"TYPE_INT32\"},{\"jsonName\":\"value\",\"label\":\"LABEL_OPTIONAL\",\"name\":\"value\",\"number\":2,\"type\":\"TYPE_INT32\"}],\"name\":\"EEntry\",\"options\":{\"mapEntry\":true}}],\"oneofDecl\":[{\"name\":\"o\"}]}],\"name\":\"a.proto\"}]}",
+    ),
+    (
+        "a.proto message M { optional int32 a = 1 [jstype = JS_STRING]; }",
+        "a.proto:34: 27 BadOption",
+        "a.proto:34: 27 BadOption",
+    ),
+    (
+        "a.proto message M { optional string a = 1 [jstype = JS_NUMBER]; }",
+        "a.proto:35: 27 BadOption",
+        "a.proto:35: 27 BadOption",
+    ),
+    (
+        "a.proto message M { map<int64, int64> a = 1 [jstype = JS_STRING]; }",
+        "a.proto:37: 27 BadOption",
+        "a.proto:37: 27 BadOption",
+    ),
+    (
+        "a.proto message M { optional M a = 1 [jstype = JS_NUMBER]; }",
+        "a.proto:30: 27 BadOption",
+        "a.proto:30: 27 BadOption",
+    ),
+    (
+        "a.proto message M { optional int64 a = 1 [jstype = STRING]; }",
+        "a.proto:34: 27 BadOption",
+        "a.proto:34: 27 BadOption",
+    ),
+    (
+        "a.proto message M { optional int64 a = 1 [jstype = \"JS_STRING\"]; }",
+        "a.proto:34: 27 BadOption",
+        "a.proto:34: 27 BadOption",
+    ),
+    (
+        "a.proto message M { optional bytes a = 1 [lazy = true]; }",
+        "a.proto:34: 27 BadOption",
+        "a.proto:34: 27 BadOption",
+    ),
+    (
+        "a.proto message M { optional E a = 1 [unverified_lazy = true]; } enum E { V = 0; }",
+        "a.proto:30: 27 BadOption",
+        "a.proto:30: 27 BadOption",
+    ),
+    (
+        "a.proto message M { optional M a = 1 [lazy = 1]; }",
+        "a.proto:30: 27 BadOption",
+        "a.proto:30: 27 BadOption",
+    ),
+    (
+        "a.proto message M { optional M a = 1 [weak = \"true\"]; }",
+        "a.proto:30: 27 BadOption",
+        "a.proto:30: 27 BadOption",
+    ),
+    (
+        "a.proto message M { optional M a = 1 [lazy = true, lazy = true]; }",
+        "a.proto:30: 27 BadOption",
+        "a.proto:43: 27 BadOption",
+    ),
+    (
+        "a.proto message M { extensions 1; } extend M { optional uint32 x = 1 [jstype = JS_NUMBER]; }",
+        "a.proto:62: 27 BadOption",
+        "a.proto:62: 27 BadOption",
+    ),
+    (
+        "a.proto enum E { V = 0 [weak = true]; }",
+        "a.proto:16: 27 BadOption",
+        "a.proto:16: 27 BadOption",
     ),
     // `extend` in proto3.
     (

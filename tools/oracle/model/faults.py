@@ -51,11 +51,23 @@ OPTIONS = {
     },
 }
 # The options that are known besides where files are read as they are written.
-MORE_OPTIONS = {
-    "file": {"java_generate_equals_and_hash": TRUTH, "java_generic_services": TRUTH, "ruby_package": TEXT},
-    "field": {"ctype": ("STRING", "CORD", "STRING_PIECE")},
-    "extension": {"ctype": ("STRING", "CORD", "STRING_PIECE")},
+MORE_OF_FIELDS = {
+    "ctype": ("STRING", "CORD", "STRING_PIECE"),
+    "jstype": ("JS_NORMAL", "JS_STRING", "JS_NUMBER"),
+    **dict.fromkeys(("lazy", "unverified_lazy", "weak"), TRUTH),
 }
+GENERIC_SERVICES = [f"{language}_generic_services" for language in ("cc", "java", "php", "py")]
+MORE_OPTIONS = {
+    "file": {
+        **dict.fromkeys(("java_generate_equals_and_hash", "java_string_check_utf8", *GENERIC_SERVICES), TRUTH),
+        **dict.fromkeys(("php_class_prefix", "php_metadata_namespace", "ruby_package", "swift_prefix"), TEXT),
+    },
+    "message": {"no_standard_descriptor_accessor": TRUTH},
+    "field": MORE_OF_FIELDS,
+    "extension": MORE_OF_FIELDS,
+}
+# The scalar types whose values are whole numbers of 64 bits.
+LONG = ("int64", "uint64", "sint64", "fixed64", "sfixed64")
 
 
 class Fault(NamedTuple):
@@ -252,9 +264,7 @@ class Checks:
         """A field or an extension by itself."""
         yield from self.options(element, field.settings)
         yield from self.type(field)
-        packed = [one for one in field.settings if one.name.text == "packed"]
-        if not (field.label == "repeated" and self.is_packable(field)):
-            yield from ((option.name.start, 27) for option in packed)
+        yield from ((option.name.start, 27) for option in field.settings if not self.suits(option.name.text, option.value[0], field))
         yield from self.defaults(field)
         if self.is_proto3 and field.label == "required":
             yield field.span[0], 31
@@ -285,8 +295,15 @@ class Checks:
         symbol = self.resolved[id(field.reference)] if field.reference else None
         return symbol if symbol and symbol.kind == "enum" else None
 
-    def is_packable(self, field):
-        return field.scalar in PACKABLE or bool(self.enum_of(field))
+    def suits(self, name, value, field):
+        """Whether a field of this type may have the option, with a value that begins so."""
+        if name == "packed":
+            return field.label == "repeated" and (field.scalar in PACKABLE or bool(self.enum_of(field)))
+        if value.kind == "word" and (name, value.text) in (("jstype", "JS_STRING"), ("jstype", "JS_NUMBER")):
+            return field.scalar in LONG and not field.key
+        if value.kind == "word" and (name, value.text) in (("lazy", "true"), ("unverified_lazy", "true")):
+            return bool(field.key) or not field.scalar and not self.enum_of(field)
+        return True
 
     def defaults(self, field):
         """In proto3 there is none, in proto2 the first has to fit."""

@@ -5,7 +5,7 @@ A workspace is plain where all else in it is read without the word as well: its 
 the same descriptors there.
 """
 
-from faults import MORE_OPTIONS
+from faults import LONG, MORE_OPTIONS
 from generated import spelled
 from grammar import tokens_of
 
@@ -16,17 +16,34 @@ package google.protobuf;
 message FileOptions {
   optional string java_package = 1;
   optional bool java_generate_equals_and_hash = 20;
+  optional bool java_string_check_utf8 = 27;
+  optional bool cc_generic_services = 16;
   optional bool java_generic_services = 17;
+  optional bool py_generic_services = 18;
+  optional bool php_generic_services = 42;
   optional bool deprecated = 23;
+  optional string swift_prefix = 39;
+  optional string php_class_prefix = 40;
+  optional string php_metadata_namespace = 44;
   optional string ruby_package = 45;
   extensions 1000 to max;
 }
-message MessageOptions { optional bool deprecated = 3; optional bool map_entry = 7; extensions 1000 to max; }
+message MessageOptions {
+  optional bool no_standard_descriptor_accessor = 2;
+  optional bool deprecated = 3;
+  optional bool map_entry = 7;
+  extensions 1000 to max;
+}
 message FieldOptions {
   optional CType ctype = 1;
   enum CType { STRING = 0; CORD = 1; STRING_PIECE = 2; }
   optional bool packed = 2;
+  optional JSType jstype = 6;
+  enum JSType { JS_NORMAL = 0; JS_STRING = 1; JS_NUMBER = 2; }
+  optional bool lazy = 5;
+  optional bool unverified_lazy = 15;
   optional bool deprecated = 3;
+  optional bool weak = 10;
   extensions 1000 to max;
 }
 message OneofOptions { extensions 1000 to max; }
@@ -166,13 +183,14 @@ class Written:
 
     def field(self, numbers):
         label = self.any(["optional"], ["repeated"], *([[]] if self.is_proto3 else []))
-        return self.ended(label + [self.any("string", "sint32")], numbers, "field")
+        kind = self.any(["string"], ["sint32"], ["sfixed64"], [".", "Base"])
+        return self.ended(label + kind, numbers, "field")
 
     def map(self, numbers):
         return self.ended(["map", "<", "string", ",", "bool", ">"], numbers, "map field")
 
     def ended(self, typed, numbers, of):
-        return [*typed, self.name("f"), "=", str(next(numbers)), *self.brackets("field", of), ";"]
+        return [*typed, self.name("f"), "=", str(next(numbers)), *self.brackets("field", of, typed[-1]), ";"]
 
     def oneof(self, numbers):
         members = [option for option in self.statements("oneof") if isinstance(option[0], Custom)]
@@ -208,7 +226,7 @@ class Written:
             self.note("a number in two files")
         self.taken_here.append(number)
         self.note("an optional extension in proto3", self.is_proto3 and bool(label))
-        typed = [*label, "string", self.name("x"), "=", str(number), *self.brackets("extension", "extension"), ";"]
+        typed = [*label, "string", self.name("x"), "=", str(number), *self.brackets("extension", "extension", "string"), ";"]
         return ["extend", *extended, "{", *typed, "}"]
 
     # ---- options
@@ -223,9 +241,10 @@ class Written:
             self.note("behind a plain option" if isinstance(found[-1][0], Custom) else "before a plain option")
         return found
 
-    def brackets(self, element, of):
-        """Options in brackets, of an element that is named more exactly; the commas beside custom ones go with them."""
-        plain = self.plain(element)
+    def brackets(self, element, of, kind=None):
+        """Options in brackets, of an element that is named more exactly, of a field with the last token of its type; the commas beside
+        custom ones go with them."""
+        plain = self.plain(element, kind)
         custom = self.customs("field" if element == "extension" else element, of)
         if not plain:
             return [Custom(token) for token in bracketed(custom)]
@@ -237,12 +256,12 @@ class Written:
         self.note("before a plain option")
         return ["[", *[Custom(token) for option in custom for token in [*option, ","]], *bracketed(plain)[1:]]
 
-    def plain(self, element):
+    def plain(self, element, kind=None):
         known = [["deprecated", "=", self.any("true", "false")]] if element != "oneof" and self.rolls(0.3) else []
         if not self.is_plain and self.rolls(0.4):
             more = MORE_OPTIONS.get(element, {})
             for name in self.chance.sample(list(more), min(len(more), 2)):
-                value = f'"{name}"' if more[name] == "text" else self.any(*more[name])
+                value = f'"{name}"' if more[name] == "text" else self.any(*suiting(name, more[name], kind))
                 known.append([name, "=", value])
                 self.note(name)
         return known
@@ -343,6 +362,13 @@ class Written:
     def listed(self, items, construct="a list"):
         self.note(construct)
         return [":", "[", *joined(*([",", *item] for item in items))[1:], "]"]
+
+
+def suiting(name, values, kind):
+    """The words that an option may have at a field whose type ends in this token."""
+    if name == "jstype" and kind not in LONG:
+        return ["JS_NORMAL"]
+    return ["false"] if "lazy" in name and kind not in ("Base", ">") else values
 
 
 def joined(*parts):

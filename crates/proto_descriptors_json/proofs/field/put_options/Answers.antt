@@ -1,12 +1,5 @@
-use Rattle.proto_descriptors_json.proofs.Sending.{options_all}
 use Rattle.std.proofs.lemmas.Result.{on_ok_weaker}
 use Rattle.proto_descriptors_json.proofs.field.put_options.Goals as goal
 
 pub returns : goal.returns
-returns g c =
-    on_ok_weaker c.close.result (λ ends. options_all
-    (c.in_ok-is_open.ensures _ _
-    (c.in_ok-is_open-2.ensures _ _
-    (c.in_ok-is_open-3.ensures _ _
-    ends))))
-    c.close.ensures
+returns g c = on_ok_weaker c.put_later_options.result (λ sent. c.in_ok-is_open.ensures _ sent) c.put_later_options.ensures

@@ -6,10 +6,11 @@ use Rattle.proto_descriptors_json.proofs.file.put_first_options.Goals as goal
 
 pub returns : goal.returns
 returns g c =
-    IfOk-weaker c.put_option-4.result _ _ (λ is_open sent last rest. options_all
+    IfOk-weaker c.put_option-5.result _ _ (λ is_open sent last rest. options_all
     (c.in_ok-is_open.ensures _ _
-    (optioned (option_map-option_map json_string string_bytes c.args.options.now.csharp_namespace) (c.in_ok-is_open-2.ensures _ _
-    (c.in_ok-is_open-3.ensures _ _
+    (c.in_ok-is_open-2.ensures _ _
+    (optioned (option_map-option_map json_string string_bytes c.args.options.now.csharp_namespace) (c.in_ok-is_open-3.ensures _ _
+    (c.in_ok-is_open-4.ensures _ _
     (optioned (option_map-option_map json_string string_bytes c.args.options.now.go_package) (sent _ _
-    rest)))))))
-    c.put_option-4.ensures
+    rest))))))))
+    c.put_option-5.ensures

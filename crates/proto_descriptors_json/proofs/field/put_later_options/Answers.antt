@@ -1,0 +1,11 @@
+use Rattle.std.proofs.lemmas.Result.{on_ok_weaker}
+use Rattle.proto_descriptors_json.proofs.field.put_later_options.Goals as goal
+
+pub returns : goal.returns
+returns g c =
+    on_ok_weaker c.close.result (λ ends.
+    (c.in_ok-is_open.ensures _ _
+    (c.in_ok-is_open-2.ensures _ _
+    (c.in_ok-is_open-3.ensures _ _
+    ends))))
+    c.close.ensures
