@@ -7,7 +7,6 @@ ghost use Rattle.proto_files.specs.FilesRead.{AreRead, ReadOf};
 ghost use Rattle.proto_ast.specs.Numbers.{past};
 ghost use Rattle.proto_names_faults.specs.AllFaults.{AreAllOf};
 ghost use Rattle.proto_resolved.specs.Enums.{IsEnumTable};
-ghost use Rattle.proto_resolved.specs.LinkOfFiles.{IsLinkOf};
 ghost use Rattle.proto_resolved.specs.Scenes.{AreScenes};
 ghost use Rattle.proto_desc_checks.specs.FileFlaws.{file_flaws};
 ghost use Rattle.proto_desc_extensions.specs.Listed.{AreWorkspaceFlaws};
@@ -20,9 +19,9 @@ use proto_ast::Scene;
 use proto_base::{Fault, NoMemory, SchemaFault};
 use proto_desc_checks::{Flaw, file_flaws};
 use proto_desc_extensions::workspace_flaws;
-use proto_files::{Files, are_read, fault_at_token};
+use proto_files::{Files, fault_at_token};
 use proto_names_faults::in_order;
-use proto_resolved::Link;
+use proto_resolved::Linked;
 use proto_resolved::enum_table::{EnumRow, enum_table};
 use proto_resolved::scenes::scenes;
 use proto_tree::File;
@@ -100,35 +99,26 @@ fn faults_by_file(
 /// The faults of checks, with the enums of all files.
 fn faults_with(
     alloc: Global,
-    files: &Files,
-    link: &Link,
+    linked: &Linked<'_>,
     table: &[IndexMap<u32, EnumRow>],
 ) -> Result<Vec<Fault>, NoMemory>
-    requires link { IsLinkOf files.now link.now }
-    requires table { IsEnumTable files.now table.now }
-    ensures { IfOk result (λ found. (reads : List ReadOf) → AreRead files.now reads
+    requires { IsEnumTable linked.now.files table.now }
+    ensures { IfOk result (λ found. (reads : List ReadOf) → AreRead linked.now.files reads
         → map fault_at found.items
-        ≡ faults_before (Some past) files.now reads (length files.now)) }
+        ≡ faults_before (Some past) linked.now.files reads (length linked.now.files)) }
 {
-    let scenes = scenes(alloc, files, link, table)?;
-    let of_workspace = workspace_flaws(alloc, files, link, &scenes)?;
-    faults_by_file(alloc, files, &scenes, &of_workspace)
+    let scenes = scenes(alloc, linked, table)?;
+    let of_workspace = workspace_flaws(alloc, linked, &scenes)?;
+    faults_by_file(alloc, linked.files(), &scenes, &of_workspace)
 }
 
 /// All faults of the checks of linked files, in order, their numbers up to 2^64. Fails only when out
 /// of memory.
-pub(crate) fn check_faults(
-    alloc: Global,
-    files: &Files,
-    link: &Link,
-) -> Result<Vec<Fault>, NoMemory>
-    requires { IsLinkOf files.now link.now }
+pub(crate) fn check_faults(alloc: Global, linked: &Linked<'_>) -> Result<Vec<Fault>, NoMemory>
     ensures { IfOk result (λ listed. AreAllOf
-        (CheckFaultsUpTo (Some past) files.now) (map fault_at listed.items)) }
+        (CheckFaultsUpTo (Some past) linked.now.files) (map fault_at listed.items)) }
 {
-    // Its contract says that each file has tokens and a tree.
-    are_read(files);
-    let table = enum_table(alloc, files)?;
-    let found = faults_with(alloc, files, link, &table)?;
+    let table = enum_table(alloc, linked.files())?;
+    let found = faults_with(alloc, linked, &table)?;
     Ok(in_order(found))
 }

@@ -13,7 +13,7 @@ use crate::checks::check_faults;
 use proto_base::{Fault, NoMemory, SchemaFault};
 use proto_files::Files;
 use proto_names_faults::{import_faults, name_faults, reference_faults};
-use proto_resolved::Link;
+use proto_resolved::{Link, Linked};
 use std::alloc::Global;
 
 /// All faults of the phase of imports, names or references that the least one is of, in order.
@@ -57,7 +57,7 @@ pub fn file_faults(alloc: Global, files: &Files) -> Result<Vec<Fault>, NoMemory>
     let _count = files.len();
     match Link::new(alloc, files) {
         Ok(link) => {
-            let listed = check_faults(alloc, files, &link);
+            let listed = check_faults(alloc, &Linked::new(files, &link));
             link.release();
             listed
         }

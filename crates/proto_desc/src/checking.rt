@@ -25,10 +25,10 @@ use proto_desc_affected::file_summaries;
 use proto_desc_checks::{Flaw, file_flaws, least};
 use proto_desc_extensions::workspace_flaws;
 use proto_descriptors::FileDescriptor;
-use proto_files::{Files, are_read, fault_at_token};
-use proto_resolved::Link;
+use proto_files::{Files, fault_at_token};
 use proto_resolved::enum_table::{EnumRow, enum_table};
 use proto_resolved::scenes::scenes;
+use proto_resolved::{Link, Linked};
 use proto_tree::File;
 use std::alloc::Global;
 
@@ -79,20 +79,17 @@ fn check_file(
 /// least one of the first that has.
 fn check_each(
     alloc: Global,
-    files: &Files,
+    linked: &Linked<'_>,
     scenes: &[Scene],
     of_workspace: &[Vec<Flaw>],
 ) -> Result<(), SchemaFault>
-    requires scenes { AreScenes files.now scenes.now }
-    requires flaws { AreWorkspaceFlaws files.now of_workspace.now }
-    ensures clean { IfOk result (λ _. HasNoFault (CheckFaults files.now)) }
-    ensures fault { IfErr result (IsCheckError files.now) }
+    requires scenes { AreScenes linked.now.files scenes.now }
+    requires flaws { AreWorkspaceFlaws linked.now.files of_workspace.now }
+    ensures clean { IfOk result (λ _. HasNoFault (CheckFaults linked.now.files)) }
+    ensures fault { IfErr result (IsCheckError linked.now.files) }
 {
-    // The contracts of these say that each file is read, and that the files are those of a
-    // workspace.
-    are_read(files);
-    let _count = files.len();
-    for file in 0..files.len() as u32 {
+    let files = linked.files();
+    for file in 0..linked.file_count() as u32 {
         let place = file as usize;
         check_file(alloc, files, &scenes[place], &of_workspace[place], file)?;
     }
@@ -100,32 +97,27 @@ fn check_each(
 }
 
 /// Whether no file has a flaw; else the least one of the first that has.
-fn check_files(
-    alloc: Global,
-    files: &Files,
-    link: &Link,
-    scenes: &[Scene],
-) -> Result<(), SchemaFault>
-    requires link { IsLinkOf files.now link.now }
-    requires scenes { AreScenes files.now scenes.now }
-    ensures clean { IfOk result (λ _. HasNoFault (CheckFaults files.now)) }
-    ensures fault { IfErr result (IsCheckError files.now) }
+fn check_files(alloc: Global, linked: &Linked<'_>, scenes: &[Scene]) -> Result<(), SchemaFault>
+    requires { AreScenes linked.now.files scenes.now }
+    ensures clean { IfOk result (λ _. HasNoFault (CheckFaults linked.now.files)) }
+    ensures fault { IfErr result (IsCheckError linked.now.files) }
 {
-    let of_workspace = workspace_flaws(alloc, files, link, scenes)?;
-    check_each(alloc, files, scenes, &of_workspace)
+    let of_workspace = workspace_flaws(alloc, linked, scenes)?;
+    check_each(alloc, linked, scenes, &of_workspace)
 }
 
 /// The descriptors of the files, in the order of their paths.
 fn descriptors(
     alloc: Global,
-    files: &Files,
+    linked: &Linked<'_>,
     scenes: &[Scene],
 ) -> Result<Vec<FileDescriptor>, NoMemory>
-    requires { AreScenes files.now scenes.now }
-    ensures { IfOk result (λ ds. AreDescribed files.now (map file_desc ds.items)) }
+    requires { AreScenes linked.now.files scenes.now }
+    ensures { IfOk result (λ ds. AreDescribed linked.now.files (map file_desc ds.items)) }
 {
-    let mut descriptors = Vec::with_capacity(alloc, files.len())?;
-    for file in 0..files.len() as u32 {
+    let files = linked.files();
+    let mut descriptors = Vec::with_capacity(alloc, linked.file_count())?;
+    for file in 0..linked.file_count() as u32 {
         let path = files.path(file);
         descriptors.push(file_descriptor(alloc, &scenes[file as usize], path, files.tree(file))?)?;
     }
@@ -135,34 +127,32 @@ fn descriptors(
 /// The same, with the enums of all files.
 fn describe_with(
     alloc: Global,
-    files: &Files,
-    link: &Link,
+    linked: &Linked<'_>,
     table: &[IndexMap<u32, EnumRow>],
 ) -> Result<Vec<FileDescriptor>, SchemaFault>
-    requires link { IsLinkOf files.now link.now }
-    requires table { IsEnumTable files.now table.now }
-    ensures clean { IfOk result (λ _. HasNoFault (CheckFaults files.now)) }
-    ensures descriptors { IfOk result (λ ds. AreDescribed files.now (map file_desc ds.items)) }
-    ensures fault { IfErr result (IsCheckError files.now) }
+    requires { IsEnumTable linked.now.files table.now }
+    ensures clean { IfOk result (λ _. HasNoFault (CheckFaults linked.now.files)) }
+    ensures descriptors { IfOk result (λ ds.
+        AreDescribed linked.now.files (map file_desc ds.items)) }
+    ensures fault { IfErr result (IsCheckError linked.now.files) }
 {
-    let scenes = scenes(alloc, files, link, table)?;
-    check_files(alloc, files, link, &scenes)?;
-    Ok(descriptors(alloc, files, &scenes)?)
+    let scenes = scenes(alloc, linked, table)?;
+    check_files(alloc, linked, &scenes)?;
+    Ok(descriptors(alloc, linked, &scenes)?)
 }
 
 /// What `check` answers, of which nothing is kept of the files.
 pub(crate) fn describe(
     alloc: Global,
-    files: &Files,
-    link: &Link,
+    linked: &Linked<'_>,
 ) -> Result<Vec<FileDescriptor>, SchemaFault>
-    requires { IsLinkOf files.now link.now }
-    ensures clean { IfOk result (λ _. HasNoFault (CheckFaults files.now)) }
-    ensures descriptors { IfOk result (λ ds. AreDescribed files.now (map file_desc ds.items)) }
-    ensures fault { IfErr result (IsCheckError files.now) }
+    ensures clean { IfOk result (λ _. HasNoFault (CheckFaults linked.now.files)) }
+    ensures descriptors { IfOk result (λ ds.
+        AreDescribed linked.now.files (map file_desc ds.items)) }
+    ensures fault { IfErr result (IsCheckError linked.now.files) }
 {
-    let table = enum_table(alloc, files)?;
-    describe_with(alloc, files, link, &table)
+    let table = enum_table(alloc, linked.files())?;
+    describe_with(alloc, linked, &table)
 }
 
 /// The descriptors of linked files, in the order of their paths, where their checks find no fault;
@@ -174,25 +164,24 @@ pub fn check(alloc: Global, files: &Files, link: &Link) -> Result<Descriptors, S
     ensures kept { IfOk result (λ d. AreKeptOf files.now (files_kept d)) }
     ensures fault { IfErr result (IsCheckError files.now) }
 {
-    let file = describe(alloc, files, link)?;
-    let kept = file_summaries(alloc, files, link)?;
+    let linked = Linked::new(files, link);
+    let file = describe(alloc, &linked)?;
+    let kept = file_summaries(alloc, &linked)?;
     Ok(Descriptors { file, kept })
 }
 
 /// The same, and no descriptors.
 fn pass_checks_with(
     alloc: Global,
-    files: &Files,
-    link: &Link,
+    linked: &Linked<'_>,
     table: &[IndexMap<u32, EnumRow>],
 ) -> Result<(), SchemaFault>
-    requires link { IsLinkOf files.now link.now }
-    requires table { IsEnumTable files.now table.now }
-    ensures clean { IfOk result (λ _. HasNoFault (CheckFaults files.now)) }
-    ensures fault { IfErr result (IsCheckError files.now) }
+    requires { IsEnumTable linked.now.files table.now }
+    ensures clean { IfOk result (λ _. HasNoFault (CheckFaults linked.now.files)) }
+    ensures fault { IfErr result (IsCheckError linked.now.files) }
 {
-    let scenes = scenes(alloc, files, link, table)?;
-    check_files(alloc, files, link, &scenes)
+    let scenes = scenes(alloc, linked, table)?;
+    check_files(alloc, linked, &scenes)
 }
 
 /// Whether the checks of linked files find no fault; else the least fault by path, offset and
@@ -203,5 +192,5 @@ pub fn pass_checks(alloc: Global, files: &Files, link: &Link) -> Result<(), Sche
     ensures fault { IfErr result (IsCheckError files.now) }
 {
     let table = enum_table(alloc, files)?;
-    pass_checks_with(alloc, files, link, &table)
+    pass_checks_with(alloc, &Linked::new(files, link), &table)
 }

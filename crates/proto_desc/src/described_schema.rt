@@ -15,7 +15,7 @@ use crate::schema::files_read;
 use proto_base::{Profile, SchemaFault};
 use proto_descriptors::FileDescriptor;
 use proto_files::{Files, are_read};
-use proto_resolved::Link;
+use proto_resolved::{Link, Linked};
 use std::alloc::Global;
 use std::marker::Model;
 
@@ -53,7 +53,7 @@ fn described_files(alloc: Global, files: &Files) -> Result<Vec<FileDescriptor>, 
     ensures fault { IfErr result (IsFilesError (FileFaults files.now)) }
 {
     let link = Link::new(alloc, files)?;
-    let described = describe(alloc, files, &link);
+    let described = describe(alloc, &Linked::new(files, &link));
     link.release();
     match described {
         Ok(file) => Ok(file),

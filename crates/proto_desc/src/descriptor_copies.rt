@@ -16,7 +16,7 @@ use proto_base::{NoMemory, SchemaFault};
 use proto_desc_affected::copy_file_summaries;
 use proto_descriptors::copy_files;
 use proto_files::Files;
-use proto_resolved::{Derived, Link};
+use proto_resolved::{CleanLinked, Derived, Link};
 use std::alloc::Global;
 
 impl Descriptors {
@@ -51,30 +51,28 @@ impl Descriptors {
         ensures fault { IfErr result (IsCheckError files.now) }
         ensures kept { OnErr result (self.new ≡ self.old) }
     {
-        self.renew_or_check(alloc, files, link, places, None)
+        let clean = CleanLinked::new(files, link);
+        self.renew_or_check(alloc, &clean, places, None)
     }
 
     /// The same; marks may be told of the files that have to be re-checked.
     fn renew_or_check(
         &mut self,
         alloc: Global,
-        files: &Files,
-        link: &Link,
+        clean: &CleanLinked<'_>,
         places: &[u32],
         told: Option<&[bool]>,
     ) -> Result<(), SchemaFault>
-        requires places { All (λ place. place < length files.now) places.now }
-        requires link { IsLinkOf files.now link.now }
-        requires clean { HasNoFault (LinkFaults files.now) }
-        requires were { WasMadeOf AreCheckedDescriptors files.now places.now
+        requires places { All (λ place. place < length clean.now.files) places.now }
+        requires were { WasMadeOf AreCheckedDescriptors clean.now.files places.now
             (option_map (λ marks. marks.now) told) self.old }
-        ensures clean { IfOk result (λ _. HasNoFault (CheckFaults files.now)) }
-        ensures descriptors { OnOk result (AreDescriptorsOf files.now self.new) }
-        ensures fault { IfErr result (IsCheckError files.now) }
+        ensures clean { IfOk result (λ _. HasNoFault (CheckFaults clean.now.files)) }
+        ensures descriptors { OnOk result (AreDescriptorsOf clean.now.files self.new) }
+        ensures fault { IfErr result (IsCheckError clean.now.files) }
         ensures kept { OnErr result (self.new ≡ self.old) }
     {
-        if !self.renew(alloc, files, link, places, told)? {
-            *self = check(alloc, files, link)?;
+        if !self.renew(alloc, clean, places, told)? {
+            *self = check(alloc, clean.files(), clean.link())?;
         }
         Ok(())
     }
@@ -94,6 +92,7 @@ impl Derived for Descriptors {
         places: &[u32],
         told: Option<&[bool]>,
     ) -> Result<(), SchemaFault> {
-        self.renew_or_check(alloc, files, link, places, told)
+        let clean = CleanLinked::new(files, link);
+        self.renew_or_check(alloc, &clean, places, told)
     }
 }

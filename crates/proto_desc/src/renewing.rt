@@ -6,9 +6,7 @@ ghost use Rattle.proto_desc.specs.Edited.{AreCheckedDescriptors, AreDescriptorsO
 ghost use Rattle.proto_desc.specs.Renewing.{AreMade, ArePut, IsMade, IsPutAlone};
 ghost use Rattle.proto_desc.specs.Views.{files_kept};
 ghost use Rattle.proto_files.specs.Faults.{HasNoFault};
-ghost use Rattle.proto_names_imports.specs.Links.{LinkFaults};
 ghost use Rattle.proto_names.specs.Following.{WasMadeOf};
-ghost use Rattle.proto_resolved.specs.LinkOfFiles.{IsLinkOf};
 ghost use Rattle.proto_resolved.specs.Meanings.{HasEnumsMeant};
 ghost use Rattle.proto_desc_affected.specs.Marks.{AreOthersKept};
 
@@ -26,10 +24,9 @@ use proto_desc_affected::marks::{
 };
 use proto_desc_checks::file_flaws;
 use proto_descriptors::FileDescriptor;
-use proto_files::{Files, are_read};
-use proto_resolved::Link;
 use proto_resolved::enum_table::{EnumRow, enum_table_of};
 use proto_resolved::scenes::scene;
+use proto_resolved::{CleanLinked, Linked};
 use std::alloc::Global;
 use std::hash::{BuildHasherDefault, FoldHasher};
 
@@ -44,24 +41,23 @@ pub(crate) struct Made {
 /// Fails only when out of memory.
 fn check_again(
     alloc: Global,
-    files: &Files,
-    link: &Link,
+    linked: &Linked<'_>,
     table: &[IndexMap<u32, EnumRow>],
     file: u32,
 ) -> Result<Option<Made>, NoMemory>
-    requires file { file < length files.now }
-    requires link { IsLinkOf files.now link.now }
-    requires table { HasEnumsMeant files.now link.now file table.now }
-    ensures { IfOk result (λ made. IfSome made (IsMade files.now file)) }
+    requires file { file < length linked.now.files }
+    requires table { HasEnumsMeant linked.now.files linked.now.link file table.now }
+    ensures { IfOk result (λ made. IfSome made (IsMade linked.now.files file)) }
 {
-    let scene = scene(alloc, files, link, table, file)?;
+    let files = linked.files();
+    let scene = scene(alloc, linked, table, file)?;
     let tree = files.tree(file);
     let flaws = file_flaws(alloc, &scene, tree)?;
     if !flaws.is_empty() {
         return Ok(None);
     }
     let descriptor = file_descriptor(alloc, &scene, files.path(file), tree)?;
-    let kept = FileSummary::new(alloc, files, link, file)?;
+    let kept = FileSummary::new(alloc, linked, file)?;
     Ok(Some(Made { descriptor, kept }))
 }
 
@@ -71,21 +67,21 @@ fn check_again(
 /// which nothing is made takes one word.
 fn check_marked(
     alloc: Global,
-    files: &Files,
-    link: &Link,
+    linked: &Linked<'_>,
     table: &[IndexMap<u32, EnumRow>],
     marks: &[bool],
 ) -> Result<Option<Vec<Option<Box<Made>>>>, NoMemory>
-    requires link { IsLinkOf files.now link.now }
-    requires marks { length marks.now ≡ length files.now }
-    requires table { (file : ℕ) → file < length files.now → get_or marks.now file false ≡ true
-        → HasEnumsMeant files.now link.now file table.now }
-    ensures { IfOk result (λ all. IfSome all (λ made. AreMade files.now marks.now made.items)) }
+    requires marks { length marks.now ≡ length linked.now.files }
+    requires table { (file : ℕ) → file < length linked.now.files
+        → get_or marks.now file false ≡ true
+        → HasEnumsMeant linked.now.files linked.now.link file table.now }
+    ensures { IfOk result (λ all.
+        IfSome all (λ made. AreMade linked.now.files marks.now made.items)) }
 {
-    let mut all = Vec::with_capacity(alloc, files.len())?;
-    for file in 0..files.len() as u32 {
+    let mut all = Vec::with_capacity(alloc, linked.file_count())?;
+    for file in 0..linked.file_count() as u32 {
         if marks[file as usize] {
-            let Some(made) = check_again(alloc, files, link, table, file)? else {
+            let Some(made) = check_again(alloc, linked, table, file)? else {
                 return Ok(None);
             };
             let boxed = Box::new(alloc, made)?;
@@ -130,26 +126,23 @@ impl Descriptors {
     fn affected(
         &self,
         alloc: Global,
-        files: &Files,
-        link: &Link,
+        clean: &CleanLinked<'_>,
         places: &[u32],
         told: Option<&[bool]>,
     ) -> Result<Vec<bool>, NoMemory>
-        requires places { All (λ place. place < length files.now) places.now }
-        requires link { IsLinkOf files.now link.now }
-        requires clean { HasNoFault (LinkFaults files.now) }
-        requires were { WasMadeOf AreCheckedDescriptors files.now places.now
+        requires places { All (λ place. place < length clean.now.files) places.now }
+        requires were { WasMadeOf AreCheckedDescriptors clean.now.files places.now
             (option_map (λ marks. marks.now) told) self.now }
-        ensures len { IfOk result (λ marks. length marks.items ≡ length files.now) }
-        ensures others { IfOk result (λ marks. AreOthersKept places.now files.now link.now
-            (files_kept self.now) marks.items) }
+        ensures len { IfOk result (λ marks. length marks.items ≡ length clean.now.files) }
+        ensures others { IfOk result (λ marks. AreOthersKept places.now clean.now.files
+            clean.now.link (files_kept self.now) marks.items) }
     {
-        // Each file is read, and by the law no name clashes with another.
-        are_read(files);
+        // By the law no name clashes with another.
         clean_edits_are_sound();
+        let linked = clean.linked();
         match told {
-            Some(told) => told_files_to_check(alloc, files, link, places, &self.kept, told),
-            None => files_to_check(alloc, files, link, places, &self.kept),
+            Some(told) => told_files_to_check(alloc, linked, places, &self.kept, told),
+            None => files_to_check(alloc, linked, places, &self.kept),
         }
     }
 
@@ -161,19 +154,17 @@ impl Descriptors {
     pub(crate) fn renew(
         &mut self,
         alloc: Global,
-        files: &Files,
-        link: &Link,
+        clean: &CleanLinked<'_>,
         places: &[u32],
         told: Option<&[bool]>,
     ) -> Result<bool, NoMemory>
-        requires places { All (λ place. place < length files.now) places.now }
-        requires link { IsLinkOf files.now link.now }
-        requires clean { HasNoFault (LinkFaults files.now) }
-        requires were { WasMadeOf AreCheckedDescriptors files.now places.now
+        requires places { All (λ place. place < length clean.now.files) places.now }
+        requires were { WasMadeOf AreCheckedDescriptors clean.now.files places.now
             (option_map (λ marks. marks.now) told) self.old }
-        ensures clean { IfOk result (λ done. done ≡ true → HasNoFault (CheckFaults files.now)) }
+        ensures clean { IfOk result (λ done. done ≡ true
+            → HasNoFault (CheckFaults clean.now.files)) }
         ensures descriptors { IfOk result (λ done. done ≡ true
-            → AreDescriptorsOf files.now self.new) }
+            → AreDescriptorsOf clean.now.files self.new) }
         ensures given_up { IfOk result (λ done. done ≡ false → self.new ≡ self.old) }
         ensures kept { OnErr result (self.new ≡ self.old) }
     {
@@ -183,13 +174,14 @@ impl Descriptors {
         kept_files_tell_unaffected();
         unaffected_files_stay();
         wanted_enums_are_there::<BuildHasherDefault<FoldHasher>>();
-        let marks = self.affected(alloc, files, link, places, told)?;
+        let files = clean.files();
+        let marks = self.affected(alloc, clean, places, told)?;
         if !has_no_marked_extends(files, &marks, &self.kept) {
             return Ok(false);
         }
-        let wanted = files_of_enums(alloc, files, link, &marks)?;
+        let wanted = files_of_enums(alloc, files, clean.link(), &marks)?;
         let table = enum_table_of(alloc, files, &wanted)?;
-        let Some(all) = check_marked(alloc, files, link, &table, &marks)? else {
+        let Some(all) = check_marked(alloc, clean.linked(), &table, &marks)? else {
             return Ok(false);
         };
         self.put(all);

@@ -4,7 +4,6 @@ ghost use Rattle.std.specs.Prelude.{◌≡◌, ◌<◌, ◌++◌, List, [], leng
 ghost use Rattle.proto_desc_extensions.specs.Extends.{has_extend};
 ghost use Rattle.proto_files.specs.FilesRead.{AreRead, ReadOf, read_at};
 ghost use Rattle.proto_desc_affected.specs.Checked.{AreKeptOf, IsKeptOf, enum_by_link, is_enum_kind, is_message_kind, kept_by_link, enum_summaries};
-ghost use Rattle.proto_names.specs.LinkOfFiles.{IsLinkOf};
 ghost use Rattle.proto_resolved.specs.Enums.{enum_of_row, enum_row_at};
 ghost use Rattle.proto_desc_affected.specs.Kept.{enum_with_name, enum_summary_of, file_summary_of, file_summaries_of, type_use_of};
 
@@ -14,6 +13,7 @@ use proto_base::NoMemory;
 use proto_desc_extensions::has_extend;
 use proto_files::Files;
 use proto_names::{DeclaredNames, Kind, Link, Meant, SymbolId};
+use proto_resolved::Linked;
 use proto_resolved::enum_table::{EnumRow, enums_of_file, is_proto3_file};
 use std::alloc::Global;
 
@@ -176,21 +176,19 @@ fn enums_declared(
     Ok(enums)
 }
 
-/// The enums that a file declares, in order. The link is that of the files.
+/// The enums that a file declares, in order.
 pub(crate) fn enum_summaries(
     alloc: Global,
-    files: &Files,
-    link: &Link,
+    linked: &Linked<'_>,
     file: u32,
 ) -> Result<Vec<EnumSummary>, NoMemory>
-    requires file { file < length files.now }
-    requires link { IsLinkOf files.now link.now }
-    ensures { IfOk result (λ ks. (reads : List ReadOf) → AreRead files.now reads
-        → map enum_summary_of ks.items ≡ enum_summaries files.now reads file) }
+    requires { file < length linked.now.files }
+    ensures { IfOk result (λ ks. (reads : List ReadOf) → AreRead linked.now.files reads
+        → map enum_summary_of ks.items ≡ enum_summaries linked.now.files reads file) }
 {
     links_have_what_is_kept();
-    let rows = enums_of_file(alloc, files, file)?;
-    enums_declared(alloc, link, &rows, file)
+    let rows = enums_of_file(alloc, linked.files(), file)?;
+    enums_declared(alloc, linked.link(), &rows, file)
 }
 
 /// Whether the file with this number has an `extend` block.
@@ -244,22 +242,16 @@ fn copy_enums(alloc: Global, enums: &[EnumSummary]) -> Result<Vec<EnumSummary>, 
 }
 
 impl FileSummary {
-    /// What is kept of the file with this number, from 0. The link is that of the files. Fails
-    /// only when out of memory.
-    pub fn new(
-        alloc: Global,
-        files: &Files,
-        link: &Link,
-        file: u32,
-    ) -> Result<FileSummary, NoMemory>
-        requires file { file < length files.now }
-        requires link { IsLinkOf files.now link.now }
-        ensures { IfOk result (λ k. IsKeptOf files.now file (file_summary_of k)) }
+    /// What is kept of the file with this number, from 0. Fails only when out of memory.
+    pub fn new(alloc: Global, linked: &Linked<'_>, file: u32) -> Result<FileSummary, NoMemory>
+        requires { file < length linked.now.files }
+        ensures { IfOk result (λ k. IsKeptOf linked.now.files file (file_summary_of k)) }
     {
         links_have_what_is_kept();
+        let files = linked.files();
         Ok(FileSummary {
-            means: types_used(alloc, link, file)?,
-            enums: enum_summaries(alloc, files, link, file)?,
+            means: types_used(alloc, linked.link(), file)?,
+            enums: enum_summaries(alloc, linked, file)?,
             is_proto3: is_proto3_file(files, file),
             has_extend: has_extend_at(files, file),
         })
@@ -278,19 +270,13 @@ impl FileSummary {
     }
 }
 
-/// What is kept of files, in the order of their paths. The link is that of the files. Fails only
-/// when out of memory.
-pub fn file_summaries(
-    alloc: Global,
-    files: &Files,
-    link: &Link,
-) -> Result<Vec<FileSummary>, NoMemory>
-    requires { IsLinkOf files.now link.now }
-    ensures { IfOk result (λ ks. AreKeptOf files.now (file_summaries_of ks.items)) }
+/// What is kept of files, in the order of their paths. Fails only when out of memory.
+pub fn file_summaries(alloc: Global, linked: &Linked<'_>) -> Result<Vec<FileSummary>, NoMemory>
+    ensures { IfOk result (λ ks. AreKeptOf linked.now.files (file_summaries_of ks.items)) }
 {
-    let mut kept = Vec::with_capacity(alloc, files.len())?;
-    for file in 0..files.len() as u32 {
-        kept.push(FileSummary::new(alloc, files, link, file)?)?;
+    let mut kept = Vec::with_capacity(alloc, linked.file_count())?;
+    for file in 0..linked.file_count() as u32 {
+        kept.push(FileSummary::new(alloc, linked, file)?)?;
     }
     Ok(kept)
 }

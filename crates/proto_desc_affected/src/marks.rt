@@ -9,7 +9,6 @@ ghost use Rattle.proto_files.specs.FilesRead.{AreRead, ReadOf, read_at};
 ghost use Rattle.proto_files.specs.GivenFiles.{FileOf};
 ghost use Rattle.proto_desc_affected.specs.Checked.{AreMeantStill, IsElsewhere, IsEnumAtRow, IsKeptStill, IsMeantStill, FileSummaryOf, is_message_kind, nothing_kept};
 ghost use Rattle.proto_names_affected.specs.Marking.{ArePlacesMarked, IsMarked, MarksStay};
-ghost use Rattle.proto_names.specs.LinkOfFiles.{IsLinkOf};
 ghost use Rattle.proto_names.specs.Linking.{name_at, name_text};
 ghost use Rattle.proto_desc_affected.specs.Kept.{file_summary_of, file_summaries_of, type_use_of};
 ghost use Rattle.proto_desc_affected.specs.Marks.{AreEnumsMarked, AreOthersKept, AreOthersKeptAsTold, AreUnsureKept, AreUsersMarked, AreUsersOfFilesMarked, HasNoMarkedExtends, IsEnumMarked, IsUserMarked};
@@ -24,6 +23,7 @@ use proto_files::{Files, are_read};
 use proto_names::{DeclaredNames, Link, Meant, RefId, SymbolId};
 use proto_names_affected::marking::mark_places;
 use proto_names_rules::marks::is_marked;
+use proto_resolved::Linked;
 use std::alloc::Global;
 
 /// Whether a name stands in no file that is marked as edited.
@@ -154,28 +154,26 @@ fn is_left_out(
 /// Marks of those of the unsure files that are edited, at these places, or of which a reference, by
 /// the link now, does not mean what is kept of it, or means what stands in an edited file. If the
 /// file has no `extend` block, a message may stand there, where it was one, and an enum, where it
-/// is to the file what is kept of it. The link is that of the files. Fails only when out of
-/// memory.
+/// is to the file what is kept of it. Fails only when out of memory.
 fn unsure_to_check(
     alloc: Global,
-    files: &Files,
-    link: &Link,
+    linked: &Linked<'_>,
     places: &[u32],
     kept: &[FileSummary],
     unsure: &[bool],
 ) -> Result<Vec<bool>, NoMemory>
-    requires link { IsLinkOf files.now link.now }
-    requires places { All (λ place. place < length files.now) places.now }
-    requires paired { length kept.now ≡ length files.now }
-    ensures len { IfOk result (λ marks. length marks.items ≡ length files.now) }
-    ensures others { IfOk result (λ marks. AreUnsureKept places.now files.now link.now
-        (file_summaries_of kept.now) unsure.now marks.items) }
+    requires places { All (λ place. place < length linked.now.files) places.now }
+    requires paired { length kept.now ≡ length linked.now.files }
+    ensures len { IfOk result (λ marks. length marks.items ≡ length linked.now.files) }
+    ensures others { IfOk result (λ marks. AreUnsureKept places.now linked.now.files
+        linked.now.link (file_summaries_of kept.now) unsure.now marks.items) }
 {
-    let mut edited = vec![in alloc; false; files.len()]?;
+    let link = linked.link();
+    let mut edited = vec![in alloc; false; linked.file_count()]?;
     mark_places(&mut edited, places);
-    let still = still_enums(alloc, files, link, kept, places)?;
-    let mut marks = Vec::with_capacity(alloc, files.len())?;
-    for file in 0..files.len() as u32 {
+    let still = still_enums(alloc, linked, kept, places)?;
+    let mut marks = Vec::with_capacity(alloc, linked.file_count())?;
+    for file in 0..linked.file_count() as u32 {
         let stays = is_left_out(link, &edited, &still, unsure, &kept[file as usize], file);
         marks.push(!stays)?;
     }
@@ -185,24 +183,21 @@ fn unsure_to_check(
 /// Marks of the files that an edit of the files at these places affects: these, and each of
 /// which a reference, by the link now, does not mean what is kept of it, or means what stands in an
 /// edited file. If the file has no `extend` block, a message may stand there, where it was one, and
-/// an enum, where it is to the file what is kept of it. The link is that of the files. Fails only
-/// when out of memory.
+/// an enum, where it is to the file what is kept of it. Fails only when out of memory.
 pub fn files_to_check(
     alloc: Global,
-    files: &Files,
-    link: &Link,
+    linked: &Linked<'_>,
     places: &[u32],
     kept: &[FileSummary],
 ) -> Result<Vec<bool>, NoMemory>
-    requires link { IsLinkOf files.now link.now }
-    requires places { All (λ place. place < length files.now) places.now }
-    requires paired { length kept.now ≡ length files.now }
-    ensures len { IfOk result (λ marks. length marks.items ≡ length files.now) }
-    ensures others { IfOk result (λ marks. AreOthersKept places.now files.now link.now
-        (file_summaries_of kept.now) marks.items) }
+    requires places { All (λ place. place < length linked.now.files) places.now }
+    requires paired { length kept.now ≡ length linked.now.files }
+    ensures len { IfOk result (λ marks. length marks.items ≡ length linked.now.files) }
+    ensures others { IfOk result (λ marks. AreOthersKept places.now linked.now.files
+        linked.now.link (file_summaries_of kept.now) marks.items) }
 {
-    let unsure = vec![in alloc; true; files.len()]?;
-    unsure_to_check(alloc, files, link, places, kept, &unsure)
+    let unsure = vec![in alloc; true; linked.file_count()]?;
+    unsure_to_check(alloc, linked, places, kept, &unsure)
 }
 
 /// Whether a file had an `extend` block, by what is kept of it; false where nothing is.
@@ -282,27 +277,25 @@ fn mark_users(marks: &mut Vec<bool>, link: &Link, kept: &[FileSummary], places: 
 /// their references mean; no other file is asked. Fails only when out of memory.
 pub fn told_files_to_check(
     alloc: Global,
-    files: &Files,
-    link: &Link,
+    linked: &Linked<'_>,
     places: &[u32],
     kept: &[FileSummary],
     told: &[bool],
 ) -> Result<Vec<bool>, NoMemory>
-    requires link { IsLinkOf files.now link.now }
-    requires places { All (λ place. place < length files.now) places.now }
-    requires paired { length kept.now ≡ length files.now }
-    requires told { length told.now ≡ length files.now }
-    ensures len { IfOk result (λ marks. length marks.items ≡ length files.now) }
-    ensures others { IfOk result (λ marks. AreOthersKeptAsTold places.now files.now link.now
-        (file_summaries_of kept.now) told.now marks.items) }
+    requires places { All (λ place. place < length linked.now.files) places.now }
+    requires paired { length kept.now ≡ length linked.now.files }
+    requires told { length told.now ≡ length linked.now.files }
+    ensures len { IfOk result (λ marks. length marks.items ≡ length linked.now.files) }
+    ensures others { IfOk result (λ marks. AreOthersKeptAsTold places.now linked.now.files
+        linked.now.link (file_summaries_of kept.now) told.now marks.items) }
 {
     // By these laws a file that is not asked means what it meant, and each reference is in the
     // lists that are walked here.
     marks_tell_kept();
     links_have_what_is_kept();
     let mut unsure = Vec::from_slice(alloc, told)?;
-    mark_users(&mut unsure, link, kept, places);
-    unsure_to_check(alloc, files, link, places, kept, &unsure)
+    mark_users(&mut unsure, linked.link(), kept, places);
+    unsure_to_check(alloc, linked, places, kept, &unsure)
 }
 
 /// Whether a file has an `extend` block, or had one, by what is kept of it.

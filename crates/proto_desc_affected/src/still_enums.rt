@@ -6,15 +6,14 @@ ghost use Rattle.proto_files.specs.FilesRead.{AreRead, ReadOf};
 ghost use Rattle.proto_files.specs.GivenFiles.{FileOf};
 ghost use Rattle.proto_desc_affected.specs.Checked.{KeepsEnum, FileSummaryOf, file_summary, nothing_kept};
 ghost use Rattle.proto_desc_affected.specs.Values.{IsSameEnum};
-ghost use Rattle.proto_names.specs.LinkOfFiles.{IsLinkOf};
 ghost use Rattle.proto_desc_affected.specs.Kept.{enum_kept, enum_summary_of, file_summary_of, file_summaries_of};
 ghost use Rattle.proto_desc_affected.specs.StillEnums.{AreStillEnums, IsEnumAsKept, is_still_to};
 
 use crate::file_summary::{EnumSummary, FileSummary, enum_summaries};
 use indexmap::IndexMap;
 use proto_base::NoMemory;
-use proto_files::Files;
 use proto_names::{Link, SymbolId};
+use proto_resolved::Linked;
 use std::alloc::Global;
 
 /// Whether these texts are the same, one for one.
@@ -87,19 +86,19 @@ fn add_enum(
 fn add_file(
     alloc: Global,
     still: &mut IndexMap<usize, bool>,
-    files: &Files,
-    link: &Link,
+    linked: &Linked<'_>,
     kept: &[FileSummary],
     file: u32,
 ) -> Result<(), NoMemory>
-    requires link { IsLinkOf files.now link.now }
-    requires paired { length kept.now ≡ length files.now }
-    requires file { file < length files.now }
-    ensures { OnOk result (
-        AreStillEnums files.now link.now (file_summaries_of kept.now) (get nat_eq still.old)
-        → AreStillEnums files.now link.now (file_summaries_of kept.now) (get nat_eq still.new)) }
+    requires paired { length kept.now ≡ length linked.now.files }
+    requires file { file < length linked.now.files }
+    ensures { OnOk result (AreStillEnums linked.now.files linked.now.link
+        (file_summaries_of kept.now) (get nat_eq still.old)
+        → AreStillEnums linked.now.files linked.now.link
+        (file_summaries_of kept.now) (get nat_eq still.new)) }
 {
-    let enums = enum_summaries(alloc, files, link, file)?;
+    let link = linked.link();
+    let enums = enum_summaries(alloc, linked, file)?;
     for current in &enums {
         add_enum(still, link, &kept[file as usize], current)?;
     }
@@ -107,24 +106,21 @@ fn add_file(
 }
 
 /// The enums of the files at these places that are what is kept of them, by the rows of their names:
-/// whole, or but for the names of their values. The link is that of the files. Fails only when out
-/// of memory.
+/// whole, or but for the names of their values. Fails only when out of memory.
 pub(crate) fn still_enums(
     alloc: Global,
-    files: &Files,
-    link: &Link,
+    linked: &Linked<'_>,
     kept: &[FileSummary],
     places: &[u32],
 ) -> Result<IndexMap<usize, bool>, NoMemory>
-    requires link { IsLinkOf files.now link.now }
-    requires paired { length kept.now ≡ length files.now }
-    requires places { All (λ place. place < length files.now) places.now }
-    ensures { IfOk result (λ still.
-        AreStillEnums files.now link.now (file_summaries_of kept.now) (get nat_eq still)) }
+    requires paired { length kept.now ≡ length linked.now.files }
+    requires places { All (λ place. place < length linked.now.files) places.now }
+    ensures { IfOk result (λ still. AreStillEnums linked.now.files linked.now.link
+        (file_summaries_of kept.now) (get nat_eq still)) }
 {
     let mut still = IndexMap::new(alloc);
     for place in places {
-        add_file(alloc, &mut still, files, link, kept, *place)?;
+        add_file(alloc, &mut still, linked, kept, *place)?;
     }
     Ok(still)
 }

@@ -1,21 +1,19 @@
 //! What is wrong with the numbers of extensions, file by file.
 
 ghost use Rattle.std.specs.Prelude.{◌≡◌, ◌++◌, [], List, map, replicate, IfOk, OnOk};
-ghost use Rattle.proto_resolved.specs.LinkOfFiles.{IsLinkOf};
 ghost use Rattle.proto_resolved.specs.Scenes.{AreScenes};
 ghost use Rattle.proto_desc_extensions.specs.Extensions.{taken_before};
 ghost use Rattle.proto_desc_extensions.specs.Listed.{AreWorkspaceFlaws, HasSeen, Told, again, outside_ranges, told_by};
 ghost use Rattle.proto_desc_extensions.specs.OpenTables.{IsOpenTable};
 
 use crate::extends::some_has_extend;
-use crate::listed::{ExtensionAt, extensions};
+use crate::listed::{ExtensionAt, LinkedFile, extensions};
 use crate::open_table::open_table;
 use indexmap::{IndexMap, IndexSet};
 use proto_ast::Scene;
 use proto_base::{FaultKind, NoMemory, Profile};
 use proto_desc_numbers::{Flaw, NumberAt, RangeAt, add_if};
-use proto_files::Files;
-use proto_resolved::Link;
+use proto_resolved::Linked;
 use std::alloc::Global;
 
 /// An extension by the full name of what it extends, and its number.
@@ -137,21 +135,24 @@ fn no_flaws(alloc: Global, count: usize) -> Result<Vec<Vec<Flaw>>, NoMemory>
 /// The same, with the ranges that messages leave to extensions.
 fn flaws_with(
     alloc: Global,
-    files: &Files,
-    link: &Link,
+    linked: &Linked<'_>,
     table: &[IndexMap<u32, Vec<RangeAt>>],
     scenes: &[Scene],
 ) -> Result<Vec<Vec<Flaw>>, NoMemory>
-    requires link { IsLinkOf files.now link.now }
-    requires table { IsOpenTable files.now table.now }
-    requires scenes { AreScenes files.now scenes.now }
-    ensures { IfOk result (λ found. AreWorkspaceFlaws files.now found.items) }
+    requires table { IsOpenTable linked.now.files table.now }
+    requires scenes { AreScenes linked.now.files scenes.now }
+    ensures { IfOk result (λ found. AreWorkspaceFlaws linked.now.files found.items) }
 {
+    let files = linked.files();
     let mut found = Vec::new(alloc);
     let mut seen = IndexSet::new(alloc);
-    for file in 0..files.len() as u32 {
-        let scene = &scenes[file as usize];
-        let extensions = extensions(alloc, files, link, table, scene, file)?;
+    for file in 0..linked.file_count() as u32 {
+        let at = LinkedFile {
+            linked,
+            table,
+            file,
+        };
+        let extensions = extensions(alloc, &at, &scenes[file as usize])?;
         found.push(flaws_in(alloc, files.profile(file), &mut seen, &extensions)?)?;
     }
     Ok(found)
@@ -159,21 +160,20 @@ fn flaws_with(
 
 /// For each file, in the order of their paths, what is wrong with it that its workspace decides:
 /// the numbers of its extensions, each inside no extension range of the message that it extends, or
-/// that of an earlier extension of that message (as written, of one of its file). The link and the
-/// scenes are those of the files. Fails only when out of memory.
+/// that of an earlier extension of that message (as written, of one of its file). The scenes are
+/// those of the files. Fails only when out of memory.
 pub fn workspace_flaws(
     alloc: Global,
-    files: &Files,
-    link: &Link,
+    linked: &Linked<'_>,
     scenes: &[Scene],
 ) -> Result<Vec<Vec<Flaw>>, NoMemory>
-    requires link { IsLinkOf files.now link.now }
-    requires scenes { AreScenes files.now scenes.now }
-    ensures { IfOk result (λ found. AreWorkspaceFlaws files.now found.items) }
+    requires { AreScenes linked.now.files scenes.now }
+    ensures { IfOk result (λ found. AreWorkspaceFlaws linked.now.files found.items) }
 {
+    let files = linked.files();
     if !some_has_extend(files) {
-        return no_flaws(alloc, files.len());
+        return no_flaws(alloc, linked.file_count());
     }
     let table = open_table(alloc, files, scenes)?;
-    flaws_with(alloc, files, link, &table, scenes)
+    flaws_with(alloc, linked, &table, scenes)
 }

@@ -9,7 +9,6 @@ ghost use Rattle.proto_ast.specs.declared.ranges.RangeAt.{RangeAt as RangeOf};
 ghost use Rattle.proto_desc_numbers.specs.NumberFlaws.{number_of_field};
 ghost use Rattle.proto_desc_numbers.specs.RangeIndex.{IsRangeIndexOf};
 ghost use Rattle.proto_resolved.specs.Blocks.{block_of};
-ghost use Rattle.proto_resolved.specs.LinkOfFiles.{IsLinkOf};
 ghost use Rattle.proto_resolved.specs.Scenes.{IsSceneOf};
 ghost use Rattle.proto_desc_extensions.specs.Extensions.{block_extensions};
 ghost use Rattle.proto_desc_extensions.specs.Listed.{AreExtensionsOf, IsExtendee, told, told_by, told_number};
@@ -20,8 +19,7 @@ use indexmap::IndexMap;
 use proto_ast::{Scene, extension_fields};
 use proto_base::NoMemory;
 use proto_desc_numbers::{NumberAt, RangeAt, field_numbers, is_covered};
-use proto_files::Files;
-use proto_resolved::{BlockAt, Link, blocks_of};
+use proto_resolved::{BlockAt, Linked, blocks_of};
 use proto_tree::{Extend, Reference};
 use std::alloc::Global;
 
@@ -42,28 +40,30 @@ pub(crate) struct Extendee<'a> {
     pub ranges: &'a [RangeAt],
 }
 
+/// A file with the link, and the ranges that messages leave to extensions.
+#[derive(Clone, Copy)]
+pub(crate) struct LinkedFile<'a> {
+    pub linked: &'a Linked<'a>,
+    pub table: &'a [IndexMap<u32, Vec<RangeAt>>],
+    pub file: u32,
+}
+
 /// What a reference of a file means, with its ranges; none where it means nothing.
-fn extendee_of<'a>(
-    files: &Files,
-    link: &'a Link,
-    table: &'a [IndexMap<u32, Vec<RangeAt>>],
-    file: u32,
-    reference: &Reference,
-) -> Option<Extendee<'a>>
-    requires link { IsLinkOf files.now link.now }
-    requires table { IsOpenTable files.now table.now }
-    requires file { file < length files.now }
-    ensures { (reads : List ReadOf) → AreRead files.now reads
-        → IsExtendee files.now reads file reference.now result }
+fn extendee_of<'a>(at: &LinkedFile<'a>, reference: &Reference) -> Option<Extendee<'a>>
+    requires table { IsOpenTable at.now.linked.now.files at.now.table.now }
+    requires file { at.now.file < length at.now.linked.now.files }
+    ensures { (reads : List ReadOf) → AreRead at.now.linked.now.files reads
+        → IsExtendee at.now.linked.now.files reads at.now.file reference.now result }
 {
+    let link = at.linked.link();
     let first = reference.dot.unwrap_or(reference.words.first);
-    let meant = link.meaning(file, first)?;
+    let meant = link.meaning(at.file, first)?;
     let name = link.name_of(meant)?;
     let declared = link.file_of(meant)?;
     let token = link.token_of(meant)?;
     Some(Extendee {
         name,
-        ranges: index_at(table, declared, token),
+        ranges: index_at(at.table, declared, token),
     })
 }
 
@@ -110,24 +110,21 @@ fn push_fields<'a>(
 fn push_block<'a>(
     alloc: Global,
     found: &mut Vec<ExtensionAt<'a>>,
-    files: &Files,
-    link: &'a Link,
-    table: &'a [IndexMap<u32, Vec<RangeAt>>],
+    at: &LinkedFile<'a>,
     scene: &Scene,
-    file: u32,
     block: BlockAt,
 ) -> Result<(), NoMemory>
-    requires link { IsLinkOf files.now link.now }
-    requires table { IsOpenTable files.now table.now }
-    requires file { file < length files.now }
-    requires scene { IsSceneOf files.now file scene.now }
-    ensures { OnOk result ((reads : List ReadOf) → AreRead files.now reads
+    requires table { IsOpenTable at.now.linked.now.files at.now.table.now }
+    requires file { at.now.file < length at.now.linked.now.files }
+    requires scene { IsSceneOf at.now.linked.now.files at.now.file scene.now }
+    ensures { OnOk result ((reads : List ReadOf) → AreRead at.now.linked.now.files reads
         → map told_by found.new.items ≡ map told_by found.old.items
-        ++ map (told files.now reads)
-        (block_extensions (Some past) files.now reads file (block_of block.entry))) }
+        ++ map (told at.now.linked.now.files reads)
+        (block_extensions (Some past) at.now.linked.now.files reads at.now.file
+        (block_of block.entry))) }
 {
     match block {
-        BlockAt::Extend(extend) => match extendee_of(files, link, table, file, &extend.extendee) {
+        BlockAt::Extend(extend) => match extendee_of(at, &extend.extendee) {
             Some(extendee) => push_fields(alloc, found, scene, extendee, extend),
             None => Ok(()),
         },
@@ -140,22 +137,20 @@ fn push_block<'a>(
 /// The extensions of a file, in order.
 pub(crate) fn extensions<'a>(
     alloc: Global,
-    files: &Files,
-    link: &'a Link,
-    table: &'a [IndexMap<u32, Vec<RangeAt>>],
+    at: &LinkedFile<'a>,
     scene: &Scene,
-    file: u32,
 ) -> Result<Vec<ExtensionAt<'a>>, NoMemory>
-    requires link { IsLinkOf files.now link.now }
-    requires table { IsOpenTable files.now table.now }
-    requires file { file < length files.now }
-    requires scene { IsSceneOf files.now file scene.now }
-    ensures { IfOk result (λ found. AreExtensionsOf files.now file found.items) }
+    requires table { IsOpenTable at.now.linked.now.files at.now.table.now }
+    requires file { at.now.file < length at.now.linked.now.files }
+    requires scene { IsSceneOf at.now.linked.now.files at.now.file scene.now }
+    ensures { IfOk result (λ found.
+        AreExtensionsOf at.now.linked.now.files at.now.file found.items) }
 {
-    let blocks = blocks_of(alloc, files.tree(file))?;
+    let tree = at.linked.files().tree(at.file);
+    let blocks = blocks_of(alloc, tree)?;
     let mut found = Vec::new(alloc);
     for block in &blocks {
-        push_block(alloc, &mut found, files, link, table, scene, file, *block)?;
+        push_block(alloc, &mut found, at, scene, *block)?;
     }
     Ok(found)
 }

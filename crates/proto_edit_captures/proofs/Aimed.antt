@@ -11,9 +11,9 @@ use Rattle.proto_names_imports.proofs.Common.{LinkFaults, link_skeleton, names_o
 use Rattle.proto_names.proofs.Common.{IsLinkOf, IsLinkRead, LinkOf, NameOf, name_at, name_text}
 use Rattle.proto_edit_rename_laws.proofs.Common.{IsUnknown, RenameCase, unknown_target, kind_not_allowed, Target, IsNamed, may_rename, EndsAs, IsDeclaredBy, declared_by, path_of_declared, placed_ends, is_written, files_are_linked, files_are_woven, place_last, targets_are_there, IsInside, tokens_are_inside}
 use Rattle.proto_edit_rename_laws.proofs.TokenRoles.{place_of_entry}
-use Rattle.proto_edit_captures.specs.Common.{IsAimedAt, IsNoTarget, IsNotAllowed, Aim, HasDeclared, HasUnmoved, IsNotDeclared}
-use Rattle.proto_edit_captures.specs.declared.aim.NoTarget.{NoTarget}
-use Rattle.proto_edit_captures.specs.declared.aim.NoTarget.TheVariants as variant
+use Rattle.proto_edit_captures.specs.Common.{IsFoundTarget, IsNoTarget, IsNotAllowed, RenameTarget, HasDeclared, HasUnmoved, IsNotDeclared}
+use Rattle.proto_edit_captures.specs.declared.rename_target.NoTarget.{NoTarget}
+use Rattle.proto_edit_captures.specs.declared.rename_target.NoTarget.TheVariants as variant
 use Rattle.proto_edit_captures.proofs.JoinedNames.{lead, joined_last}
 use Rattle.proto_edit_captures.proofs.LookedUp.{same_test}
 
@@ -145,9 +145,9 @@ module _ (files : List FileOf) (reads : List ReadOf) (r : AreRead files reads) (
       none n.0 (ap (option_map (λ (z : NameOf). z.text)) n.2 ∙ ap (λ (z : List ℕ). Some z) (n.3 ∙ e))
 
   -- what was found is what the name aims at
-  pub aimed_at : (a : Aim) → HasDeclared l a.name.now a.kind (at a.file a.token) → may_rename a.kind ≡ true
+  pub aimed_at : (a : RenameTarget) → HasDeclared l a.name.now a.kind (at a.file a.token) → may_rename a.kind ≡ true
       → ((front : List ℕ) → a.name.now ≡ front ++ text_of files reads (at a.file a.token) → IsTrue a.is_map ↔ HasDeclared l (front ++ entry_name (text_of files reads (at a.file a.token))) Entry (at a.file a.token))
-      → (t : Target) × IsAimedAt files reads a t
+      → (t : Target) × IsFoundTarget files reads a t
   aimed_at a h may test =
       let t = target_of a.name.now a.kind (at a.file a.token) h may in
       let named = t.1 in
@@ -167,7 +167,7 @@ module _ (files : List FileOf) (reads : List ReadOf) (r : AreRead files reads) (
       )
 
   -- the same of what is aimed at
-  pub spelled_aim : (a : Aim) (t : Target) → IsAimedAt files reads a t → a.name.now ≡ lead (name_of (text_of files reads) entry_name t.above) ++ text_of files reads (at a.file a.token)
+  pub spelled_aim : (a : RenameTarget) (t : Target) → IsFoundTarget files reads a t → a.name.now ≡ lead (name_of (text_of files reads) entry_name t.above) ++ text_of files reads (at a.file a.token)
   spelled_aim a t h = spelled a.name.now t h.named ∙ ap (λ (z : At). lead (name_of (text_of files reads) entry_name t.above) ++ text_of files reads z) (sym h.token)
 
 -- why a link has no such declaration is why the name aims at nothing

@@ -7,7 +7,7 @@ use Rattle.proto_files.proofs.Common.{HasNoFault, AreTokensOf, ReadOf, AreRead, 
 use Rattle.proto_names_imports.specs.Links.{LinkFaults, names_of_files, text_of, uses_of}
 use Rattle.proto_names_rules.proofs.Common.{Collides, target, At, at, used_in, joined, Token, Used, name_of, spell, map_append}
 use Rattle.proto_edit_rename_laws.proofs.Common.{Captures, StandsBefore, Target, name_map, tokens_are_inside}
-use Rattle.proto_edit_captures.specs.Common.{IsAimOf, IsAimedAt, Aim, AreNewNames, IsFirstCaptured, IsFirstIn, IsRenameOf, NewTexts, texts_by}
+use Rattle.proto_edit_captures.specs.Common.{IsTargetOf, IsFoundTarget, RenameTarget, AreNewNames, IsFirstCaptured, IsFirstIn, IsRenameOf, NewTexts, texts_by}
 use Rattle.proto_edit_captures.proofs.JoinedNames.{word_is_plain}
 use Rattle.proto_names.proofs.UsesOfFiles.{from_use}
 
@@ -53,7 +53,7 @@ module _ (files : List FileOf) (reads : List ReadOf) (are : AreRead files reads)
 
 -- ---- an aim
 
-pub aim_inside : (files : List FileOf) (aim : Aim) → ((reads : List ReadOf) × AreRead files reads) → IsAimOf files aim → aim.file < length files
+pub aim_inside : (files : List FileOf) (aim : RenameTarget) → ((reads : List ReadOf) × AreRead files reads) → IsTargetOf files aim → aim.file < length files
 aim_inside files aim r is =
     let x = is r.0 r.1 in
     let t = x.0 in
@@ -62,7 +62,7 @@ aim_inside files aim r is =
     let e = ap (λ (z : At). z.file) x.1.token in
     omega (arith, l, e)
 
-module _ (files : List FileOf) (aim : Aim) (to : List ℕ) (reads : List ReadOf) (are : AreRead files reads) (t : Target) (aimed : IsAimedAt files reads aim t) where
+module _ (files : List FileOf) (aim : RenameTarget) (to : List ℕ) (reads : List ReadOf) (are : AreRead files reads) (t : Target) (aimed : IsFoundTarget files reads aim t) where
   pub rename_of : HasNoFault (LinkFaults files) → is_run to ≡ true → (Collides (name_map files reads t to) (names_of_files files reads) → ⊥) → IsRenameOf files reads t to
   rename_of clean word free = record { read = are; clean = clean; name = aim.name.now; named = aimed.named; word = word_is_plain to word; free = free }
 

@@ -3,7 +3,7 @@ pub use Rattle.proto_edit_captures.proofs.Declarations.{IsDeclaredBy, declared_b
 pub use Rattle.proto_edit_captures.proofs.Inside.{tokens_are_inside}
 pub use Rattle.proto_edit_captures.proofs.NoLinkFault.{files_are_linked, files_are_woven}
 pub use Rattle.proto_edit_captures.proofs.OneTarget.{place_last}
-pub use Rattle.proto_edit_captures.specs.Aims.{IsAimOf, IsAimedAt, IsNoTarget}
+pub use Rattle.proto_edit_captures.specs.FoundTargets.{IsTargetOf, IsFoundTarget, IsNoTarget}
 pub use Rattle.proto_edit_captures.specs.CapturedPlaces.{IsCapturedPlace, RefusalStandsAtToken}
 pub use Rattle.proto_edit_rules.specs.Rename.{IsFirstPlace, IsUnknown, ReservesWord, StandsBefore, HasEnum, IsEnumOf, Target}
 pub use Rattle.proto_edit_captures.specs.SceneOf.{is_enum_at, scene_of}

@@ -11,7 +11,7 @@ use Rattle.proto_names_outline.proofs.PlainEntries.{entry_plain}
 use Rattle.proto_names_imports.proofs.Common.{LinkFaults, link_skeleton, names_of_files, text_of, names_are_plain, plain_join}
 use Rattle.proto_names.proofs.Common.{IsLinkRead, LinkOf, NameOf, name_at}
 use Rattle.proto_edit_rename_laws.proofs.Common.{Target, IsNamed, may_rename, name_map, files_are_linked}
-use Rattle.proto_edit_captures.specs.Common.{IsAimedAt, Aim, HasText}
+use Rattle.proto_edit_captures.specs.Common.{IsFoundTarget, RenameTarget, HasText}
 use Rattle.proto_edit_captures.specs.Collisions.{IsNewNameTaken, IsOneTaken, IsTakenName, IsTakenText, is_freed}
 use Rattle.proto_edit_captures.proofs.Aimed.{may_not_package, spelled, symbol_at}
 use Rattle.proto_edit_captures.proofs.LookedUp.{named_by}
@@ -115,7 +115,7 @@ module _ (files : List FileOf) (reads : List ReadOf) (r : AreRead files reads) (
           (λ h. law.1 (one_forth t.is_map h), λ k. one_back t.is_map (law.0 k))
 
 -- the same of what is aimed at
-pub collides_aimed : (files : List FileOf) (reads : List ReadOf) → AreRead files reads → HasNoFault (LinkFaults files) → (l : LinkOf) → IsLinkRead files reads l → (a : Aim) (t : Target) → IsAimedAt files reads a t → (to : List ℕ) → is_run to ≡ true
+pub collides_aimed : (files : List FileOf) (reads : List ReadOf) → AreRead files reads → HasNoFault (LinkFaults files) → (l : LinkOf) → IsLinkRead files reads l → (a : RenameTarget) (t : Target) → IsFoundTarget files reads a t → (to : List ℕ) → is_run to ≡ true
     → (front own : List ℕ) → a.name.now ≡ front ++ own → own ≡ text_of files reads (at a.file a.token)
     → IsOneTaken l front own (if a.is_map then Some (entry_name own) else None) to (if a.is_map then Some (entry_name to) else None) ↔ Collides (name_map files reads t to) (names_of_files files reads)
 collides_aimed files reads r clean l link a t aimed to word front own fronts own_is =

@@ -1,6 +1,6 @@
 -- What proofs of this crate name of its own definitions, passed on from one place.
 -- Declares nothing.
-pub use Rattle.proto_edit_captures.specs.Aims.{IsAimOf, IsAimedAt, IsNoTarget, IsNotAllowed}
+pub use Rattle.proto_edit_captures.specs.FoundTargets.{IsTargetOf, IsFoundTarget, IsNoTarget, IsNotAllowed}
 pub use Rattle.proto_edit_captures.specs.Capturing.{bytes_before, captures_at, captures_use, captures_words, first_now, is_cons, shown_from, stands_first}
 pub use Rattle.proto_edit_captures.specs.FirstCaptured.{AreNewNames, IsFirstCaptured, IsFirstIn, IsRenameOf, captures_by, first_passing}
 pub use Rattle.proto_edit_captures.specs.FirstKeys.{begins_with_key, entry_or_new, first_keys_of, has_first_key}
@@ -9,4 +9,4 @@ pub use Rattle.proto_edit_captures.specs.NewTexts.{NewTexts, entry_words, is_new
 pub use Rattle.proto_edit_captures.specs.Overtaking.{IsFirstOvertaken, Overtakes, SeesMarked, TellsPackages, fits_seen, is_marked, sees_name, overtakes_by, overtakes_use, overtakes_words, sees_text}
 pub use Rattle.proto_edit_captures.specs.ShownAnew.{IsDeclaredName, shows_anew, shows_beside, shows_entry}
 pub use Rattle.proto_edit_captures.specs.ShownTexts.{entry_shown_if, first_fits, kind_fits, kind_named, shown_below, shown_beside, shows_fitting}
-pub use Rattle.proto_edit_captures.specs.declared.aim.Aim.{Aim}
+pub use Rattle.proto_edit_captures.specs.declared.rename_target.RenameTarget.{RenameTarget}

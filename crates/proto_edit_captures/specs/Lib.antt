@@ -6,7 +6,7 @@ pub mod OvertakenLaw
 pub mod Overtaking
 pub mod ShownAnew
 pub mod ShownTexts
-pub mod Aims
+pub mod FoundTargets
 pub mod CapturedPlaces
 pub mod Collisions
 pub mod Looked

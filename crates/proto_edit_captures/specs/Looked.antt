@@ -6,8 +6,8 @@ use Rattle.proto_names_rules.specs.declared.kind.Kind.{Kind}
 use Rattle.proto_names_rules.specs.declared.kind.Kind.TheVariants.{Entry}
 use Rattle.proto_names.specs.Linking.{LinkOf, NameOf, name_at, name_text}
 use Rattle.proto_edit_rules.specs.Rename.{may_rename}
-use Rattle.proto_edit_captures.specs.declared.aim.NoTarget.{NoTarget}
-use Rattle.proto_edit_captures.specs.declared.aim.NoTarget.TheVariants.{Unknown, NotAllowed, NoMemory}
+use Rattle.proto_edit_captures.specs.declared.rename_target.NoTarget.{NoTarget}
+use Rattle.proto_edit_captures.specs.declared.rename_target.NoTarget.TheVariants.{Unknown, NotAllowed, NoMemory}
 
 -- where a name of a link is declared first
 abbrev pub first_place : NameOf → At

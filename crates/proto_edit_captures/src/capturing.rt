@@ -13,12 +13,12 @@ ghost use Rattle.proto_names.specs.Linking.{name_text};
 ghost use Rattle.proto_text.specs.Texts.{word_at};
 
 use crate::names::NewNames;
-use crate::scope::scope_words;
-use crate::shown::{Looking, is_shown_below};
+use crate::scope::{Around, Declared, scope_words};
+use crate::shown::{NamesAfter, is_shown_below};
 use proto_base::NoMemory;
 use proto_files::Words;
 use proto_names::{Link, Meant};
-use proto_names_outline::listing::{Listed, Use};
+use proto_names_outline::listing::Use;
 use proto_tree::Behind;
 use std::alloc::Global;
 
@@ -75,42 +75,38 @@ pub(crate) fn meaning<'a>(link: &'a Link, meant: Meant) -> &'a str
 /// Whether a front has at least so many bytes, and something is shown in it under the word.
 fn is_shown_in(
     alloc: Global,
-    link: &Link,
-    names: &NewNames,
-    looking: Looking,
-    least: usize,
+    after: &NamesAfter,
+    around: Around,
     front: &str,
     word: &str,
 ) -> Result<bool, NoMemory>
-    ensures { IfOk result (λ b. b ≡ (nat_le least (length front.now)
-        && shown_below link.now looking.file looking.is_long
-        (texts_of names.now) front.now word.now)) }
+    ensures { IfOk result (λ b. b ≡ (nat_le around.entry.least (length front.now)
+        && shown_below after.now.link.now after.now.file around.entry.is_long
+        (texts_of after.now.names.now) front.now word.now)) }
 {
-    if front.len() < least {
+    if front.len() < around.least {
         return Ok(false);
     }
-    is_shown_below(alloc, link, names, looking, front, word)
+    is_shown_below(alloc, after, around.is_long, front, word)
 }
 
 /// Whether in one of the fronts of a scope that have at least so many bytes,
 /// something is shown under the word.
 fn is_shown_from(
     alloc: Global,
-    link: &Link,
-    names: &NewNames,
-    looking: Looking,
-    least: usize,
-    scope: &[String],
+    after: &NamesAfter,
+    around: Around,
     word: &str,
 ) -> Result<bool, NoMemory>
     ensures { IfOk result (λ b. b ≡ shown_from
-        (λ front. shown_below link.now looking.file looking.is_long
-        (texts_of names.now) front word.now) least [] (map string_bytes scope.now)) }
+        (λ front. shown_below after.now.link.now after.now.file around.entry.is_long
+        (texts_of after.now.names.now) front word.now)
+        around.entry.least [] (map string_bytes around.entry.scope.now)) }
 {
     let mut front = String::new(alloc);
-    for part in scope {
+    for part in around.scope {
         extend(&mut front, part.as_str())?;
-        if is_shown_in(alloc, link, names, looking, least, front.as_str(), word)? {
+        if is_shown_in(alloc, after, around, front.as_str(), word)? {
             return Ok(true);
         }
     }
@@ -118,35 +114,35 @@ fn is_shown_from(
 }
 
 /// Whether a reference is captured, by what it means. An absolute one never is.
-pub(crate) fn is_captured<'a>(
+pub(crate) fn is_captured(
     alloc: Global,
-    link: &Link,
-    names: &NewNames<'a>,
-    words: &Words<'a>,
-    file: u32,
-    declared: &[Listed],
+    after: &NamesAfter,
+    declared: &Declared,
     used: &Use,
     meaning: &str,
 ) -> Result<bool, NoMemory>
-    requires ordered { (k : ℕ) (d : ListedOf)
-        → k < length declared.now → needs (get_or declared.now k d).above ≤ k }
-    requires within { needs used.now.scope ≤ length declared.now }
-    ensures { IfOk result (λ b. b ≡ captures_use link.now file
-        (texts_of names.now) (word_at words.now) declared.now used.now meaning.now) }
+    requires ordered { (k : ℕ) (d : ListedOf) → k < length declared.now.all.now
+        → needs (get_or declared.now.all.now k d).above ≤ k }
+    requires within { needs used.now.scope ≤ length declared.now.all.now }
+    ensures { IfOk result (λ b. b ≡ captures_use after.now.link.now after.now.file
+        (texts_of after.now.names.now) (word_at declared.now.words.now) declared.now.all.now
+        used.now meaning.now) }
 {
     if used.reference.dot.is_some() {
         return Ok(false);
     }
     let behind = used.reference.words.rest.as_slice();
-    let first = words.get(used.reference.words.first);
-    let len = bytes_before(words, behind, meaning.len());
-    let word = first_now(names, meaning, len, first);
-    if !names.has_new(word) {
+    let first = declared.words.get(used.reference.words.first);
+    let len = bytes_before(declared.words, behind, meaning.len());
+    let word = first_now(after.names, meaning, len, first);
+    if !after.names.has_new(word) {
         return Ok(false);
     }
-    let scope = scope_words(alloc, words, declared, used.scope)?;
-    let is_long = !behind.is_empty();
-    let looking = Looking { file, is_long };
-    let least = len.saturating_sub(first.len());
-    is_shown_from(alloc, link, names, looking, least, &scope, word)
+    let scope = scope_words(alloc, declared.words, declared.all, used.scope)?;
+    let around = Around {
+        scope: &scope,
+        least: len.saturating_sub(first.len()),
+        is_long: !behind.is_empty(),
+    };
+    is_shown_from(alloc, after, around, word)
 }

@@ -5,57 +5,49 @@ ghost use Rattle.proto_edit_captures.specs.FirstCaptured.{IsFirstCaptured, IsFir
 ghost use Rattle.proto_edit_captures.specs.FirstKeys.{first_keys_of};
 ghost use Rattle.proto_edit_captures.specs.NewTexts.{texts_of};
 ghost use Rattle.proto_files.specs.FilesRead.{ReadOf, AreRead};
-ghost use Rattle.proto_files.specs.Faults.{HasNoFault};
-ghost use Rattle.proto_names_imports.specs.Links.{LinkFaults, names_of_files};
+ghost use Rattle.proto_names_imports.specs.Links.{names_of_files};
 ghost use Rattle.proto_names_outline.specs.Listing.{IsSound};
 ghost use Rattle.proto_names_rules.specs.Edits.{Collides};
-ghost use Rattle.proto_names.specs.LinkOfFiles.{IsLinkOf};
 ghost use Rattle.proto_edit_rules.specs.Rename.{Target, name_map};
-ghost use Rattle.proto_edit_captures.specs.Aims.{IsAimOf, IsAimedAt};
+ghost use Rattle.proto_edit_captures.specs.FoundTargets.{IsTargetOf, IsFoundTarget};
 ghost use Rattle.proto_text.specs.Texts.{word_at};
 ghost use Rattle.proto_text.specs.Words.{is_run};
 
-use crate::aim::Aim;
 use crate::capturing::{is_captured, meaning};
 use crate::first_keys::FirstKeys;
 use crate::names::NewNames;
+use crate::rename_target::RenameTarget;
+use crate::scope::Declared;
+use crate::shown::NamesAfter;
 use proto_base::NoMemory;
-use proto_files::{Files, Words, are_read};
+use proto_files::Words;
 use proto_names::laws::visible_is_seen;
-use proto_names::{Link, Meant, RefId};
+use proto_names::{Meant, RefId};
 use proto_names_outline::file_listing::list_file;
 use proto_names_outline::listing::Listing;
 use proto_names_rules::laws::captures_begin_so;
+use proto_resolved::CleanLinked;
 use std::alloc::Global;
 
 /// The first token of the first reference of a list that is captured. What
 /// they mean is given in the same order.
-fn first_of<'a>(
+fn first_of(
     alloc: Global,
-    link: &Link,
-    names: &NewNames<'a>,
-    words: &Words<'a>,
-    file: u32,
+    after: &NamesAfter,
+    words: &Words,
     listing: &Listing,
     meant: &[Meant],
 ) -> Result<Option<u32>, NoMemory>
     requires { IsSound listing.now }
     ensures { IfOk result (λ first. first ≡ first_passing
-        (captures_by link.now file (texts_of names.now)
+        (captures_by after.now.link.now after.now.file (texts_of after.now.names.now)
         (word_at words.now) listing.now.declared.items) listing.now.used.items meant.now) }
 {
+    let all = listing.declared.as_slice();
+    let declared = Declared { words, all };
     for (used, meant) in listing.used.iter().zip(meant) {
-        let meaning = meaning(link, *meant);
-        if is_captured(
-            alloc,
-            link,
-            names,
-            words,
-            file,
-            &listing.declared,
-            used,
-            meaning,
-        )? {
+        let meaning = meaning(after.link, *meant);
+        if is_captured(alloc, after, &declared, used, meaning)? {
             return Ok(Some(meant.token()));
         }
     }
@@ -63,81 +55,72 @@ fn first_of<'a>(
 }
 
 /// The first reference of a file that is captured, by its first token.
-fn first_in<'a>(
+fn first_in(
     alloc: Global,
-    files: &'a Files,
-    link: &Link,
-    names: &NewNames<'a>,
+    linked: &CleanLinked<'_>,
+    names: &NewNames,
     file: u32,
 ) -> Result<Option<u32>, NoMemory>
-    requires file { file < length files.now }
-    requires link { IsLinkOf files.now link.now }
+    requires { file < length linked.now.files }
     ensures { IfOk result (λ first. (reads : List ReadOf) (t : Target) (to : List ℕ)
-        → IsRenameOf files.now reads t to → AreNewNames files.now reads t to (texts_of names.now)
-        → IsFirstIn files.now reads t to file first) }
+        → IsRenameOf linked.now.files reads t to
+        → AreNewNames linked.now.files reads t to (texts_of names.now)
+        → IsFirstIn linked.now.files reads t to file first) }
 {
     visible_is_seen();
+    let files = linked.files();
+    let link = linked.link();
     let words = Words::new(files, file);
     let listing = list_file(alloc, files.tree(file))?;
-    first_of(
-        alloc,
-        link,
-        names,
-        &words,
-        file,
-        &listing,
-        link.meant_in(file),
-    )
+    let after = NamesAfter { link, names, file };
+    first_of(alloc, &after, &words, &listing, link.meant_in(file))
 }
 
 /// The same, where the file is listed only if one of its references begins with a word of these
 /// keys: no other reference is captured.
-fn first_in_asked<'a>(
+fn first_in_asked(
     alloc: Global,
-    files: &'a Files,
-    link: &Link,
-    names: &NewNames<'a>,
+    linked: &CleanLinked<'_>,
+    names: &NewNames,
     keys: FirstKeys,
     file: u32,
 ) -> Result<Option<u32>, NoMemory>
-    requires file { file < length files.now }
-    requires link { IsLinkOf files.now link.now }
+    requires file { file < length linked.now.files }
     requires keys { keys ≡ first_keys_of (texts_of names.now) }
     ensures { IfOk result (λ first. (reads : List ReadOf) (t : Target) (to : List ℕ)
-        → IsRenameOf files.now reads t to → AreNewNames files.now reads t to (texts_of names.now)
-        → IsFirstIn files.now reads t to file first) }
+        → IsRenameOf linked.now.files reads t to
+        → AreNewNames linked.now.files reads t to (texts_of names.now)
+        → IsFirstIn linked.now.files reads t to file first) }
 {
     captures_begin_so();
-    if !keys.begin_one(link.meant_in(file)) {
+    if !keys.begin_one(linked.link().meant_in(file)) {
         return Ok(None);
     }
-    first_in(alloc, files, link, names, file)
+    first_in(alloc, linked, names, file)
 }
 
 /// The first reference that a rename captures, by file and first token, where nothing collides.
 pub fn first_captured<'a>(
     alloc: Global,
-    files: &'a Files,
-    link: &Link,
-    aim: &Aim<'a>,
+    linked: &CleanLinked<'a>,
+    target: &RenameTarget<'a>,
     to: &'a str,
 ) -> Result<Option<RefId>, NoMemory>
-    requires link { IsLinkOf files.now link.now }
-    requires linked { HasNoFault (LinkFaults files.now) }
-    requires aim { IsAimOf files.now aim.now }
+    requires target { IsTargetOf linked.now.files target.now }
     requires word { is_run to.now ≡ true }
-    requires free { (reads : List ReadOf) → AreRead files.now reads → (t : Target)
-        → IsAimedAt files.now reads aim.now t → Collides
-        (name_map files.now reads t to.now) (names_of_files files.now reads) → ⊥ }
-    ensures { IfOk result (λ first. (reads : List ReadOf) → AreRead files.now reads → (t : Target)
-        → IsAimedAt files.now reads aim.now t → IsFirstCaptured files.now reads t to.now first) }
+    requires free { (reads : List ReadOf) → AreRead linked.now.files reads → (t : Target)
+        → IsFoundTarget linked.now.files reads target.now t → Collides
+        (name_map linked.now.files reads t to.now) (names_of_files linked.now.files reads) → ⊥ }
+    ensures { IfOk result (λ first. (reads : List ReadOf) → AreRead linked.now.files reads
+        → (t : Target) → IsFoundTarget linked.now.files reads target.now t
+        → IsFirstCaptured linked.now.files reads t to.now first) }
 {
-    are_read(files);
-    let own = Words::new(files, aim.file);
-    let names = NewNames::new(alloc, &own, aim, to)?;
+    let files = linked.files();
+    let own = Words::new(files, target.file);
+    let names = NewNames::new(alloc, &own, target, to)?;
     let keys = FirstKeys::new(&names);
-    for file in 0..files.len() as u32 {
-        if let Some(token) = first_in_asked(alloc, files, link, &names, keys, file)? {
+    for file in 0..linked.file_count() as u32 {
+        if let Some(token) = first_in_asked(alloc, linked, &names, keys, file)? {
             return Ok(Some(RefId { file, token }));
         }
     }

@@ -4,7 +4,7 @@ ghost use Rattle.std.specs.Prelude.{◌≡◌, ◌<◌, IfOk};
 ghost use Rattle.proto_text.specs.Texts.{word_at};
 ghost use Rattle.proto_edit_captures.specs.NewTexts.{entry_texts, entry_words, is_new_word, texts_of, texts_by};
 
-use crate::aim::Aim;
+use crate::rename_target::RenameTarget;
 use proto_base::NoMemory;
 use proto_case::entry_name;
 use proto_files::Words;
@@ -48,16 +48,16 @@ impl<'a> NewNames<'a> {
     pub(crate) fn new(
         alloc: Global,
         words: &Words<'a>,
-        aim: &Aim<'a>,
+        target: &RenameTarget<'a>,
         to: &'a str,
     ) -> Result<NewNames<'a>, NoMemory>
-        ensures { IfOk result (λ n. texts_of n ≡ texts_by aim.now.name.now
-            (word_at words.now aim.now.token) aim.now.is_map to.now) }
+        ensures { IfOk result (λ n. texts_of n ≡ texts_by target.now.name.now
+            (word_at words.now target.now.token) target.now.is_map to.now) }
     {
-        let old = words.get(aim.token);
-        let entry = entry_names(alloc, aim.is_map, old, to)?;
+        let old = words.get(target.token);
+        let entry = entry_names(alloc, target.is_map, old, to)?;
         Ok(NewNames {
-            target: aim.name,
+            target: target.name,
             old,
             new: to,
             entry,

@@ -9,42 +9,33 @@ ghost use Rattle.proto_edit_captures.specs.Overtaking.{IsFirstOvertaken, SeesMar
 ghost use Rattle.proto_edit_captures.specs.Capturing.{shown_from};
 ghost use Rattle.proto_names_rules.specs.Joined.{below};
 ghost use Rattle.proto_files.specs.FilesRead.{ReadOf, AreRead};
-ghost use Rattle.proto_files.specs.Faults.{HasNoFault};
-ghost use Rattle.proto_names_imports.specs.Links.{LinkFaults};
 ghost use Rattle.proto_names_outline.specs.Listing.{IsSound, needs};
 ghost use Rattle.proto_names_outline.specs.declared.listing.Listed.{Listed as ListedOf};
 ghost use Rattle.proto_names_rules.specs.Names.{Workspace};
-ghost use Rattle.proto_names.specs.LinkOfFiles.{IsLinkOf};
 ghost use Rattle.proto_text.specs.Texts.{word_at};
 
 use crate::capturing::{bytes_before, extend, meaning};
-use crate::scope::scope_words;
+use crate::scope::{Around, Declared, scope_words};
 use crate::shown::fits;
 use proto_base::NoMemory;
 use proto_files::{Files, Words};
 use proto_names::{Link, Meant};
 use proto_names_outline::file_listing::list_file;
-use proto_names_outline::listing::{Listed, Listing, Use};
+use proto_names_outline::listing::{Listing, Use};
 use proto_names_outline::wanted::package;
 use proto_names_rules::below;
 use proto_names_rules::marks::is_marked;
+use proto_resolved::CleanLinked;
 use std::alloc::Global;
 use std::collections::HashSet;
 
-/// What is seen: marks of files, and the packages of these files, each with its fronts, as text.
+/// What is seen of a link: marks of files, and the packages of these files, each with its fronts,
+/// as text.
 #[derive(Drop)]
 struct Seen<'a> {
+    link: &'a Link,
     marks: &'a [bool],
     packages: HashSet<String>,
-}
-
-/// From where a reference's first word is looked up: the words
-/// around it, and from how many bytes on.
-#[derive(Clone, Copy)]
-struct Around<'a> {
-    scope: &'a [String],
-    least: usize,
-    is_long: bool,
 }
 
 /// Adds a package with its fronts, by the tokens of its words.
@@ -82,20 +73,20 @@ fn packages(alloc: Global, files: &Files, marks: &[bool]) -> Result<HashSet<Stri
 }
 
 /// Whether a name with this text fits and is seen.
-fn is_seen(link: &Link, seen: &Seen, is_long: bool, name: &str) -> bool
-    ensures { result ≡ sees_text link.now seen.now.marks.now
+fn is_seen(seen: &Seen, is_long: bool, name: &str) -> bool
+    ensures { result ≡ sees_text seen.now.link.now seen.now.marks.now
         (contains_text seen.now.packages) is_long name.now }
 {
-    let Some(id) = link.symbol(name) else {
+    let Some(id) = seen.link.symbol(name) else {
         return false;
     };
-    let Some(kind) = link.kind_of(id) else {
+    let Some(kind) = seen.link.kind_of(id) else {
         return false;
     };
     if !fits(kind, is_long) {
         return false;
     }
-    match link.file_of(id) {
+    match seen.link.file_of(id) {
         Some(file) => is_marked(seen.marks, file),
         None => seen.packages.contains(name),
     }
@@ -105,41 +96,34 @@ fn is_seen(link: &Link, seen: &Seen, is_long: bool, name: &str) -> bool
 /// word.
 fn is_seen_in(
     alloc: Global,
-    link: &Link,
     seen: &Seen,
     around: Around,
     front: &str,
     word: &str,
 ) -> Result<bool, NoMemory>
     ensures { IfOk result (λ b. b ≡ (nat_le around.entry.least (length front.now)
-        && sees_text link.now seen.now.marks.now (contains_text seen.now.packages)
+        && sees_text seen.now.link.now seen.now.marks.now (contains_text seen.now.packages)
         around.entry.is_long (below front.now word.now))) }
 {
     if front.len() < around.least {
         return Ok(false);
     }
     let name = below(alloc, front, word)?;
-    Ok(is_seen(link, seen, around.is_long, name.as_str()))
+    Ok(is_seen(seen, around.is_long, name.as_str()))
 }
 
 /// Whether in one of the fronts of a scope that have at least so many bytes, something
 /// that fits is seen under the word.
-fn is_seen_from(
-    alloc: Global,
-    link: &Link,
-    seen: &Seen,
-    around: Around,
-    word: &str,
-) -> Result<bool, NoMemory>
+fn is_seen_from(alloc: Global, seen: &Seen, around: Around, word: &str) -> Result<bool, NoMemory>
     ensures { IfOk result (λ b. b ≡ shown_from
-        (λ front. sees_text link.now seen.now.marks.now
+        (λ front. sees_text seen.now.link.now seen.now.marks.now
         (contains_text seen.now.packages) around.entry.is_long (below front word.now))
         around.entry.least [] (map string_bytes around.entry.scope.now)) }
 {
     let mut front = String::new(alloc);
     for part in around.scope {
         extend(&mut front, part.as_str())?;
-        if is_seen_in(alloc, link, seen, around, front.as_str(), word)? {
+        if is_seen_in(alloc, seen, around, front.as_str(), word)? {
             return Ok(true);
         }
     }
@@ -149,32 +133,31 @@ fn is_seen_from(
 /// Whether a reference is overtaken, by what it means. An absolute one never is.
 fn is_overtaken(
     alloc: Global,
-    link: &Link,
     seen: &Seen,
-    words: &Words,
-    declared: &[Listed],
+    declared: &Declared,
     used: &Use,
     meaning: &str,
 ) -> Result<bool, NoMemory>
-    requires ordered { (k : ℕ) (d : ListedOf)
-        → k < length declared.now → needs (get_or declared.now k d).above ≤ k }
-    requires within { needs used.now.scope ≤ length declared.now }
-    ensures { IfOk result (λ b. b ≡ overtakes_use link.now seen.now.marks.now
-        (contains_text seen.now.packages) (word_at words.now) declared.now used.now meaning.now) }
+    requires ordered { (k : ℕ) (d : ListedOf) → k < length declared.now.all.now
+        → needs (get_or declared.now.all.now k d).above ≤ k }
+    requires within { needs used.now.scope ≤ length declared.now.all.now }
+    ensures { IfOk result (λ b. b ≡ overtakes_use seen.now.link.now seen.now.marks.now
+        (contains_text seen.now.packages) (word_at declared.now.words.now) declared.now.all.now
+        used.now meaning.now) }
 {
     if used.reference.dot.is_some() {
         return Ok(false);
     }
     let behind = used.reference.words.rest.as_slice();
-    let first = words.get(used.reference.words.first);
-    let len = bytes_before(words, behind, meaning.len());
-    let scope = scope_words(alloc, words, declared, used.scope)?;
+    let first = declared.words.get(used.reference.words.first);
+    let len = bytes_before(declared.words, behind, meaning.len());
+    let scope = scope_words(alloc, declared.words, declared.all, used.scope)?;
     let around = Around {
         scope: &scope,
         least: len.saturating_sub(first.len()),
         is_long: !behind.is_empty(),
     };
-    is_seen_from(alloc, link, seen, around, first)
+    is_seen_from(alloc, seen, around, first)
 }
 
 /// The first token of the first reference of a list that is overtaken. What
@@ -182,7 +165,6 @@ fn is_overtaken(
 // As `first_passing` of first.rt, with another test of a reference.
 fn first_in_list(
     alloc: Global,
-    link: &Link,
     seen: &Seen,
     words: &Words,
     listing: &Listing,
@@ -190,12 +172,14 @@ fn first_in_list(
 ) -> Result<Option<u32>, NoMemory>
     requires { IsSound listing.now }
     ensures { IfOk result (λ first. first ≡ first_passing
-        (overtakes_by link.now seen.now.marks.now (contains_text seen.now.packages)
+        (overtakes_by seen.now.link.now seen.now.marks.now (contains_text seen.now.packages)
         (word_at words.now) listing.now.declared.items) listing.now.used.items meant.now) }
 {
+    let all = listing.declared.as_slice();
+    let declared = Declared { words, all };
     for (used, meant) in listing.used.iter().zip(meant) {
-        let meaning = meaning(link, *meant);
-        if is_overtaken(alloc, link, seen, words, &listing.declared, used, meaning)? {
+        let meaning = meaning(seen.link, *meant);
+        if is_overtaken(alloc, seen, &declared, used, meaning)? {
             return Ok(Some(meant.token()));
         }
     }
@@ -206,21 +190,24 @@ fn first_in_list(
 /// token: with the imports by which it sees this, it would be found further inward than it is now.
 pub fn first_overtaken(
     alloc: Global,
-    files: &Files,
-    link: &Link,
+    linked: &CleanLinked<'_>,
     file: u32,
     marks: &[bool],
 ) -> Result<Option<u32>, NoMemory>
-    requires file { file < length files.now }
-    requires link { IsLinkOf files.now link.now }
-    requires linked { HasNoFault (LinkFaults files.now) }
-    ensures { IfOk result (λ first. (reads : List ReadOf) → AreRead files.now reads →
-        (v : Workspace) → SeesMarked files.now reads v file marks.now
-        → IsFirstOvertaken files.now reads v file first) }
+    requires { file < length linked.now.files }
+    ensures { IfOk result (λ first. (reads : List ReadOf) → AreRead linked.now.files reads →
+        (v : Workspace) → SeesMarked linked.now.files reads v file marks.now
+        → IsFirstOvertaken linked.now.files reads v file first) }
 {
+    let files = linked.files();
+    let link = linked.link();
     let packages = packages(alloc, files, marks)?;
-    let seen = Seen { marks, packages };
+    let seen = Seen {
+        link,
+        marks,
+        packages,
+    };
     let words = Words::new(files, file);
     let listing = list_file(alloc, files.tree(file))?;
-    first_in_list(alloc, link, &seen, &words, &listing, link.meant_in(file))
+    first_in_list(alloc, &seen, &words, &listing, link.meant_in(file))
 }

@@ -13,6 +13,22 @@ use proto_files::Words;
 use proto_names_outline::listing::{Above, LastWord, Listed};
 use std::alloc::Global;
 
+/// The texts of a file's tokens, and what the file declares.
+#[derive(Clone, Copy)]
+pub(crate) struct Declared<'a> {
+    pub(crate) words: &'a Words<'a>,
+    pub(crate) all: &'a [Listed],
+}
+
+/// From where a reference's first word is looked up: the words around it, and from how many bytes
+/// on; and whether more words follow it.
+#[derive(Clone, Copy)]
+pub(crate) struct Around<'a> {
+    pub(crate) scope: &'a [String],
+    pub(crate) least: usize,
+    pub(crate) is_long: bool,
+}
+
 /// The last word of a declaration's name.
 fn last_word(alloc: Global, words: &Words, entry: &Listed) -> Result<String, NoMemory>
     ensures { IfOk result (λ word. string_bytes word

@@ -10,11 +10,12 @@ use proto_names::Link;
 use proto_names_rules::{Kind, below};
 use std::alloc::Global;
 
-/// From where a reference's first word is looked up, and whether more words follow it.
+/// The names that a file sees once a rename has changed those of the link.
 #[derive(Clone, Copy)]
-pub(crate) struct Looking {
+pub(crate) struct NamesAfter<'a> {
+    pub(crate) link: &'a Link,
+    pub(crate) names: &'a NewNames<'a>,
     pub(crate) file: u32,
-    pub(crate) is_long: bool,
 }
 
 /// The kind of the name with this text.
@@ -36,11 +37,11 @@ pub(crate) fn fits(kind: Kind, is_long: bool) -> bool
 }
 
 /// Whether a name with this text fits and is visible.
-fn is_shown(link: &Link, looking: Looking, name: &str) -> bool
-    ensures { result ≡ shows_fitting link.now looking.file looking.is_long name.now }
+fn is_shown(after: &NamesAfter, is_long: bool, name: &str) -> bool
+    ensures { result ≡ shows_fitting after.now.link.now after.now.file is_long name.now }
 {
-    match kind_named(link, name) {
-        Some(kind) => fits(kind, looking.is_long) && link.visible(looking.file, name),
+    match kind_named(after.link, name) {
+        Some(kind) => fits(kind, is_long) && after.link.visible(after.file, name),
         None => false,
     }
 }
@@ -49,58 +50,56 @@ fn is_shown(link: &Link, looking: Looking, name: &str) -> bool
 /// ones. (The word is a new one, and nothing collides.)
 pub(crate) fn is_shown_below(
     alloc: Global,
-    link: &Link,
-    names: &NewNames,
-    looking: Looking,
+    after: &NamesAfter,
+    is_long: bool,
     scope: &str,
     word: &str,
 ) -> Result<bool, NoMemory>
-    ensures { IfOk result (λ b. b ≡ shown_below link.now looking.file looking.is_long
-        (texts_of names.now) scope.now word.now) }
+    ensures { IfOk result (λ b. b ≡ shown_below after.now.link.now after.now.file is_long
+        (texts_of after.now.names.now) scope.now word.now) }
 {
-    let own = below(alloc, scope, names.old)?;
-    if own.as_str() == names.target {
-        return is_shown_beside(alloc, link, names, looking, scope, word);
+    let own = below(alloc, scope, after.names.old)?;
+    if own.as_str() == after.names.target {
+        return is_shown_beside(alloc, after, is_long, scope, word);
     }
     let name = below(alloc, scope, word)?;
-    Ok(is_shown(link, looking, name.as_str()))
+    Ok(is_shown(after, is_long, name.as_str()))
 }
 
 /// The same in the scope that the target stands right below.
 fn is_shown_beside(
     alloc: Global,
-    link: &Link,
-    names: &NewNames,
-    looking: Looking,
+    after: &NamesAfter,
+    is_long: bool,
     scope: &str,
     word: &str,
 ) -> Result<bool, NoMemory>
-    ensures { IfOk result (λ b. b ≡ shown_beside link.now looking.file looking.is_long
-        (texts_of names.now) scope.now word.now) }
+    ensures { IfOk result (λ b. b ≡ shown_beside after.now.link.now after.now.file is_long
+        (texts_of after.now.names.now) scope.now word.now) }
 {
-    if word == names.new && is_shown(link, looking, names.target) {
+    if word == after.names.new && is_shown(after, is_long, after.names.target) {
         return Ok(true);
     }
-    match &names.entry {
-        Some(entry) => is_entry_shown(alloc, link, entry, looking, scope, word),
+    match &after.names.entry {
+        Some(entry) => is_entry_shown(alloc, after, entry, is_long, scope, word),
         None => Ok(false),
     }
 }
 
 fn is_entry_shown(
     alloc: Global,
-    link: &Link,
+    after: &NamesAfter,
     entry: &EntryNames,
-    looking: Looking,
+    is_long: bool,
     scope: &str,
     word: &str,
 ) -> Result<bool, NoMemory>
-    ensures { IfOk result (λ b. b ≡ entry_shown link.now looking.file looking.is_long
+    ensures { IfOk result (λ b. b ≡ entry_shown after.now.link.now after.now.file is_long
         (entry_pair entry.now) scope.now word.now) }
 {
     if word != entry.new.as_str() {
         return Ok(false);
     }
     let name = below(alloc, scope, entry.old.as_str())?;
-    Ok(is_shown(link, looking, name.as_str()))
+    Ok(is_shown(after, is_long, name.as_str()))
 }

@@ -5,12 +5,12 @@ ghost use Rattle.proto_files.specs.FilesRead.{ReadOf, AreRead};
 ghost use Rattle.proto_names_imports.specs.Links.{text_of};
 ghost use Rattle.proto_names_rules.specs.Grown.{at};
 ghost use Rattle.proto_edit_rules.specs.Rename.{is_keyword_of};
-ghost use Rattle.proto_edit_captures.specs.Aims.{IsAimOf};
+ghost use Rattle.proto_edit_captures.specs.FoundTargets.{IsTargetOf};
 
-use crate::aim::Aim;
 use crate::parts::word;
-use proto_files::{Files, are_read};
+use crate::rename_target::RenameTarget;
 use proto_names_rules::Kind;
+use proto_resolved::CleanLinked;
 use proto_tree::{is_listed, may_name_value};
 
 /// Whether a symbol of this kind may not be named by the word: a message, an enum or a service by a
@@ -25,12 +25,12 @@ pub fn is_keyword(kind: Kind, word: &str) -> bool
     }
 }
 
-/// Whether this is the simple name of what is aimed at.
-pub fn has_name(files: &Files, aim: Aim, name: &str) -> bool
-    requires { IsAimOf files.now aim }
-    ensures { (reads : List ReadOf) → AreRead files.now reads
-        → IsTrue result ↔ (text_of files.now reads (at aim.entry.file aim.entry.token) ≡ name.now) }
+/// Whether this is the simple name of the target.
+pub fn has_name(linked: &CleanLinked<'_>, target: RenameTarget, name: &str) -> bool
+    requires { IsTargetOf linked.now.files target }
+    ensures { (reads : List ReadOf) → AreRead linked.now.files reads → IsTrue result
+        ↔ (text_of linked.now.files reads (at target.entry.file target.entry.token) ≡ name.now) }
 {
-    are_read(files);
-    word(files, aim.file, aim.token) == name
+    let files = linked.files();
+    word(files, target.file, target.token) == name
 }

@@ -9,8 +9,8 @@ use Rattle.proto_names.proofs.Common.{IsLinkOf, LinkOf, name_text}
 use Rattle.proto_names.specs.Linking.{RefId}
 use Rattle.proto_names.specs.Linking.{Meant}
 use Rattle.proto_edit_rename_laws.proofs.Common.{Target, fields_of_file}
-use Rattle.proto_edit_captures.specs.Aims.{IsAimedAt}
-use Rattle.proto_edit_captures.specs.declared.aim.Aim.{Aim}
+use Rattle.proto_edit_captures.specs.FoundTargets.{IsFoundTarget}
+use Rattle.proto_edit_captures.specs.declared.rename_target.RenameTarget.{RenameTarget}
 use Rattle.proto_edit_rename.specs.ChangedFiles.{AreChangedFiles, HasReferencesMarked, with_references, with_row, with_rows}
 use Rattle.proto_edit_rename.specs.Common.{ArePlacesIn, HasDefaultsIn, IsValueOf, or_own}
 use Rattle.proto_edit_rename.specs.Defaults.{is_found_name}
@@ -104,7 +104,7 @@ module _ (l : LinkOf) (name : List ℕ) where
   all_rows rows i marks whole le before = ap (with_rows l name marks) (sym (drop_all i rows le)) ∙ before
 
 -- all of them
-pub are_changed_files : (l : LinkOf) (a : Aim) (enum_name : Option (List ℕ)) (n : ℕ) (blank own names users : List Bool) → length blank ≡ n → a.file < n → own ≡ slice_set blank a.file true → names ≡ with_rows l a.name.now own (get_or l.rows a.file [])
+pub are_changed_files : (l : LinkOf) (a : RenameTarget) (enum_name : Option (List ℕ)) (n : ℕ) (blank own names users : List Bool) → length blank ≡ n → a.file < n → own ≡ slice_set blank a.file true → names ≡ with_rows l a.name.now own (get_or l.rows a.file [])
     → length users ≡ length names → ((file : ℕ) → file < length names → get_or names file false ≡ true → get_or users file false ≡ true)
     → ((row : ℕ) (name : List ℕ) → enum_name ≡ Some name → name_text l row ≡ Some name → HasReferencesMarked l users row) → AreChangedFiles l a enum_name n users
 are_changed_files l a enum_name n blank own names users many inside own_is names_is as_many kept used =
@@ -128,7 +128,7 @@ found_is : (name : List ℕ) (o : Option (List ℕ)) → is_found_name name o �
 found_is name None h = absurd (true≢false (sym h))
 found_is name (Some found) h = ap Some (word_from_same found name h)
 
-module _ (files : List FileOf) (clean : HasNoFault (LinkFaults files)) (l : LinkOf) (link : IsLinkOf files l) (a : Aim) (enum_name : Option (List ℕ)) (marks : List Bool) (changed : AreChangedFiles l a enum_name (length files) marks) (file : ℕ) (inside : file < length files) (unmarked : get_or marks file false ≡ false) where
+module _ (files : List FileOf) (clean : HasNoFault (LinkFaults files)) (l : LinkOf) (link : IsLinkOf files l) (a : RenameTarget) (enum_name : Option (List ℕ)) (marks : List Bool) (changed : AreChangedFiles l a enum_name (length files) marks) (file : ℕ) (inside : file < length files) (unmarked : get_or marks file false ≡ false) where
   -- it has no reference to a name whose references are marked
   no_reference : (reads : List ReadOf) → AreRead files reads → (m : Meant) → Contains (get_or l.meant file []) m → HasReferencesMarked l marks m.row → ⊥
   no_reference reads are m c h =
@@ -136,7 +136,7 @@ module _ (files : List FileOf) (clean : HasNoFault (LinkFaults files)) (l : Link
       let id : RefId = record { file = file; token = m.token } in
       both_ways (get_or marks file false) unmarked (h id (known files reads are clean l (link reads are) file inside m c).listed (omega (arith, inside, many)))
 
-  none_goes : (reads : List ReadOf) → AreRead files reads → (t : Target) → IsAimedAt files reads a t → list_any (λ (m : Meant). goes_on l a.name.now m.row) (get_or l.meant file []) ≡ false
+  none_goes : (reads : List ReadOf) → AreRead files reads → (t : Target) → IsFoundTarget files reads a t → list_any (λ (m : Meant). goes_on l a.name.now m.row) (get_or l.meant file []) ≡ false
   none_goes reads are t aimed = false_from_ne_true (list_any (λ (m : Meant). goes_on l a.name.now m.row) (get_or l.meant file [])) (λ h.
       (let m = any_to (λ (m : Meant). goes_on l a.name.now m.row) (get_or l.meant file []) h in
       let x = known files reads are clean l (link reads are) file inside m.0 m.1 in

@@ -14,11 +14,11 @@ use Rattle.proto_names_outline.specs.FromTree.{items_in}
 use Rattle.proto_names_imports.specs.Links.{link_skeleton, names_in, text_of}
 use Rattle.proto_ast.specs.Parts.{BlockOf, blocks_in, values_in}
 use Rattle.proto_desc_checks_laws.proofs.Declarations.{values_are_declared}
-use Rattle.proto_edit_captures.proofs.Common.{is_enum_at, HasEnum, IsEnumOf, Target, declared_there, ends_with_token, is_written, files_are_woven, place_last, IsAimedAt}
+use Rattle.proto_edit_captures.proofs.Common.{is_enum_at, HasEnum, IsEnumOf, Target, declared_there, ends_with_token, is_written, files_are_woven, place_last, IsFoundTarget}
 use Rattle.proto_edit_captures.proofs.Blocks.{one_block}
 use Rattle.proto_edit_captures.proofs.JoinedNames.{joined_last, lead}
 use Rattle.proto_edit_captures.proofs.Scenes.{find_there, index_map}
-use Rattle.proto_edit_captures.specs.declared.aim.Aim.{Aim}
+use Rattle.proto_edit_captures.specs.declared.rename_target.RenameTarget.{RenameTarget}
 use Rattle.proto_edit_rename.specs.MembersCommon.{holders_in, may_hold, has_value, holds_value, name_token}
 use Rattle.proto_edit_rename.proofs.AimedAt.{aim_inside}
 use Rattle.proto_edit_rename.proofs.MemberTests.{value_there}
@@ -47,7 +47,7 @@ enum_token : (n : ℕ) (h : Header) → is_enum_at n h ≡ true → name_token h
 enum_token n (header.Enum h) e = eqb-true h.name n e
 enum_token n whole e = absurd cc
 
-module _ (files : List FileOf) (reads : List ReadOf) (are : AreRead files reads) (a : Aim) (t : Target) (h : IsAimedAt files reads a t) (tree : Tree) (of_file : IsTreeOf (file_at files a.file) tree) where
+module _ (files : List FileOf) (reads : List ReadOf) (are : AreRead files reads) (a : RenameTarget) (t : Target) (h : IsFoundTarget files reads a t) (tree : Tree) (of_file : IsTreeOf (file_at files a.file) tree) where
   inside : a.file < length files
   inside = aim_inside files reads are a t h
 

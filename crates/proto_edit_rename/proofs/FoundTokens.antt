@@ -10,8 +10,8 @@ use Rattle.proto_edit_rename_laws.proofs.Common.{Target, renamed_words}
 use Rattle.proto_edit_rename.proofs.Placed.{puts_at}
 use Rattle.proto_edit_rename.specs.Common.{AreOccurrences, AreOccurrencesIn, AreOccurrencesOf, ArePlacesIn, PutsAt, tokens_in}
 use Rattle.proto_edit_rename.specs.declared.file_occurrences.FileOccurrences.{FileOccurrences}
-use Rattle.proto_edit_captures.specs.Aims.{IsAimedAt}
-use Rattle.proto_edit_captures.specs.declared.aim.Aim.{Aim}
+use Rattle.proto_edit_captures.specs.FoundTargets.{IsFoundTarget}
+use Rattle.proto_edit_captures.specs.declared.rename_target.RenameTarget.{RenameTarget}
 
 -- ---- the tokens of a file among those of several
 
@@ -42,7 +42,7 @@ others_there (p ∷ ps) o file other = ap (λ (z : List ℕ). if p.file == file 
 
 -- ---- a file more
 
-module _ (files : List FileOf) (reads : List ReadOf) (r : AreRead files reads) (a : Aim) (t : Target) (aimed : IsAimedAt files reads a t) where
+module _ (files : List FileOf) (reads : List ReadOf) (r : AreRead files reads) (a : RenameTarget) (t : Target) (aimed : IsFoundTarget files reads a t) where
   none_yet : AreOccurrences files reads t 0 []
   none_yet = record {
     in_order = λ i j d below l. absurd (omega (arith, l));
@@ -87,14 +87,14 @@ module _ (files : List FileOf) (reads : List ReadOf) (r : AreRead files reads) (
 
 -- as the files are gone through
 
-pub none_found : (files : List FileOf) (a : Aim) (found : List FileOccurrences) → found ≡ [] → AreOccurrencesOf files a 0 found
+pub none_found : (files : List FileOf) (a : RenameTarget) (found : List FileOccurrences) → found ≡ [] → AreOccurrencesOf files a 0 found
 none_found files a found e reads r t aimed = subst (AreOccurrences files reads t 0) (sym e) (none_yet files reads r a t aimed)
 
-pub more_found : (files : List FileOf) (a : Aim) (n : ℕ) (found more : List FileOccurrences) (o : Option FileOccurrences) → AreOccurrencesOf files a n found → AreOccurrencesIn files a n o → more ≡ found ++ option_to_list o → AreOccurrencesOf files a (n + 1) more
+pub more_found : (files : List FileOf) (a : RenameTarget) (n : ℕ) (found more : List FileOccurrences) (o : Option FileOccurrences) → AreOccurrencesOf files a n found → AreOccurrencesIn files a n o → more ≡ found ++ option_to_list o → AreOccurrencesOf files a (n + 1) more
 more_found files a n found more o h are e reads r t aimed = subst (AreOccurrences files reads t (n + 1)) (sym e) (file_more files reads r a t aimed n found (h reads r t aimed) o are)
 
 -- the same tokens in another order
-pub places_in_order : (files : List FileOf) (a : Aim) (file : ℕ) (places tokens : List ℕ) → ((i : ℕ) → Contains tokens i ↔ Contains places i) → ArePlacesIn files a file places → ArePlacesIn files a file tokens
+pub places_in_order : (files : List FileOf) (a : RenameTarget) (file : ℕ) (places tokens : List ℕ) → ((i : ℕ) → Contains tokens i ↔ Contains places i) → ArePlacesIn files a file places → ArePlacesIn files a file tokens
 places_in_order files a file places tokens same are reads r t aimed to i =
     let p = are reads r t aimed to i in
     let s = same i in

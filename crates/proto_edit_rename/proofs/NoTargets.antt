@@ -7,9 +7,9 @@ use Rattle.proto_names_rules.proofs.Common.{Symbol, joined_apart, one_symbol}
 use Rattle.proto_edit_rename_laws.proofs.Common.{IsNamed, may_rename, files_are_linked}
 use Rattle.proto_edit_rename.specs.Common.{AreOccurrencesOf, AreOccurrencesOfName, HasNoTarget}
 use Rattle.proto_edit_rename.specs.declared.file_occurrences.FileOccurrences.{FileOccurrences}
-use Rattle.proto_edit_captures.specs.Aims.{IsAimOf, IsNoTarget}
-use Rattle.proto_edit_captures.specs.declared.aim.Aim.{Aim}
-use Rattle.proto_edit_captures.specs.declared.aim.NoTarget.TheVariants as no_target
+use Rattle.proto_edit_captures.specs.FoundTargets.{IsTargetOf, IsNoTarget}
+use Rattle.proto_edit_captures.specs.declared.rename_target.RenameTarget.{RenameTarget}
+use Rattle.proto_edit_captures.specs.declared.rename_target.NoTarget.TheVariants as no_target
 
 pub none_has_it : (files : List FileOf) (name : List ℕ) → IsNoTarget files name no_target.Unknown → HasNoTarget files name
 none_has_it files name h reads r s cs e = absurd (h reads r s cs e)
@@ -23,7 +23,7 @@ none_may_be_renamed files clean name h reads r s cs e =
       | inr both ↦ ap may_rename both.0
     ]
 
-pub of_name : (files : List FileOf) (a : Aim) (name : List ℕ) → IsAimOf files a → a.name.now ≡ name → (found : Vec FileOccurrences) → AreOccurrencesOf files a (length files) found.items → AreOccurrencesOfName files name (Some found)
+pub of_name : (files : List FileOf) (a : RenameTarget) (name : List ℕ) → IsTargetOf files a → a.name.now ≡ name → (found : Vec FileOccurrences) → AreOccurrencesOf files a (length files) found.items → AreOccurrencesOfName files name (Some found)
 of_name files a name aim named found h reads r =
     let t = aim reads r in
     (t.0, subst (λ n. IsNamed files reads n t.0) named t.1.named, h reads r t.0 t.1)

@@ -6,12 +6,12 @@ use Rattle.proto_files.proofs.Common.{HasNoFault, ReadOf, AreRead, FileOf}
 use Rattle.proto_names_rules.proofs.Common.{joined, Symbol, symbol_of, joined_apart, one_symbol}
 use Rattle.proto_names_imports.proofs.Common.{LinkFaults, link_skeleton, names_of_files, text_of, names_are_plain}
 use Rattle.proto_edit_rename_laws.proofs.Common.{Target, IsNamed, may_rename, files_are_linked, targets_are_one}
-use Rattle.proto_edit_captures.specs.Aims.{IsAimOf, IsAimedAt}
-use Rattle.proto_edit_captures.specs.declared.aim.Aim.{Aim}
+use Rattle.proto_edit_captures.specs.FoundTargets.{IsTargetOf, IsFoundTarget}
+use Rattle.proto_edit_captures.specs.declared.rename_target.RenameTarget.{RenameTarget}
 
 module _ (files : List FileOf) (reads : List ReadOf) (r : AreRead files reads) (clean : HasNoFault (LinkFaults files)) where
-  pub aimed_one : (a : Aim) → IsAimOf files a → (t : Target) → IsNamed files reads a.name.now t → IsAimedAt files reads a t
-  aimed_one a aim t named = let u = aim reads r in subst (IsAimedAt files reads a) (targets_are_one files reads a.name.now u.0 t r clean u.1.named named) u.1
+  pub aimed_one : (a : RenameTarget) → IsTargetOf files a → (t : Target) → IsNamed files reads a.name.now t → IsFoundTarget files reads a t
+  aimed_one a aim t named = let u = aim reads r in subst (IsFoundTarget files reads a) (targets_are_one files reads a.name.now u.0 t r clean u.1.named named) u.1
 
   -- each symbol of the target's name may be renamed
   pub same_kind : (name : List _) (t : Target) → IsNamed files reads name t → (s : Symbol) → Contains (names_of_files files reads).symbols s → joined s.name ≡ name → may_rename s.kind ≡ true

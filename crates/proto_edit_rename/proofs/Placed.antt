@@ -10,8 +10,8 @@ use Rattle.proto_edit_rename_laws.proofs.Common.{defaults_from, default_words, f
 use Rattle.proto_edit_rename.specs.Common.{ArePlacesIn, HasDefaultsIn, IsChangeIn, IsFaultIn, IsValueOf, or_own, places_of, IsChangeAt, IsRewordFault, PutsAt, RewordFault, TooLarge, NoMemory}
 use Rattle.proto_edit_rename.specs.StandingTokens.{IsStandingIn}
 use Rattle.proto_edit_entries.specs.declared.entry.Change.{Change}
-use Rattle.proto_edit_captures.specs.Aims.{IsAimedAt}
-use Rattle.proto_edit_captures.specs.declared.aim.Aim.{Aim}
+use Rattle.proto_edit_captures.specs.FoundTargets.{IsFoundTarget}
+use Rattle.proto_edit_captures.specs.declared.rename_target.RenameTarget.{RenameTarget}
 
 file_of : (f g i j : ℕ) → at f i ≡ at g j → f ≡ g
 file_of f g i j e = ap (λ (z : At). z.file) e
@@ -110,7 +110,7 @@ module _ (files : List FileOf) (reads : List ReadOf) (r : AreRead files reads) (
       )
 
 -- all of them
-pub places_are : (files : List FileOf) (a : Aim) (file : ℕ) → file < length files → (enum_name : Option (List ℕ)) (old : List ℕ) → IsValueOf files a enum_name old
+pub places_are : (files : List FileOf) (a : RenameTarget) (file : ℕ) → file < length files → (enum_name : Option (List ℕ)) (old : List ℕ) → IsValueOf files a enum_name old
     → (words defaults : List ℕ) → IsStandingIn files a file words → HasDefaultsIn files file enum_name old defaults → ArePlacesIn files a file ((words ++ or_own a.file a.token file) ++ defaults)
 places_are files a file inside enum_name old value words defaults stands has reads r t aimed to i =
     let v = value reads r in
@@ -139,7 +139,7 @@ places_are files a file inside enum_name old value words defaults stands has rea
 
 -- ---- the change of words at them
 
-pub puts_at : (files : List FileOf) (a : Aim) (file : ℕ) (places : List ℕ) → ArePlacesIn files a file places → (reads : List ReadOf) → AreRead files reads → (t : Target) → IsAimedAt files reads a t → (to : List ℕ) → PutsAt (renamed_words files reads t to) file places to
+pub puts_at : (files : List FileOf) (a : RenameTarget) (file : ℕ) (places : List ℕ) → ArePlacesIn files a file places → (reads : List ReadOf) → AreRead files reads → (t : Target) → IsFoundTarget files reads a t → (to : List ℕ) → PutsAt (renamed_words files reads t to) file places to
 puts_at files a file places are reads r t aimed to =
     let all = places_of files reads t to in
     record {
@@ -147,18 +147,18 @@ puts_at files a file places are reads r t aimed to =
       others = λ i none. cond-false (list_any (same_at (at file i)) all) (Some to) None (false_from_ne_true (list_any (same_at (at file i)) all) (λ h. none ((are reads r t aimed to i).1 (listed_is_there (at file i) all h))));
     }
 
-pub change_is : (files : List FileOf) (a : Aim) (file : ℕ) (places to : List ℕ) → ArePlacesIn files a file places → (found : Option Change) → IsChangeAt files file places to found → IsChangeIn files a file to found
+pub change_is : (files : List FileOf) (a : RenameTarget) (file : ℕ) (places to : List ℕ) → ArePlacesIn files a file places → (found : Option Change) → IsChangeAt files file places to found → IsChangeIn files a file to found
 change_is files a file places to are found h = λ reads r t aimed. h reads r (renamed_words files reads t to) (puts_at files a file places are reads r t aimed to)
 
-pub fault_is : (files : List FileOf) (a : Aim) (file : ℕ) (places to : List ℕ) → ArePlacesIn files a file places → (e : RewordFault) → IsRewordFault files file places to e → IsFaultIn files a file to e
+pub fault_is : (files : List FileOf) (a : RenameTarget) (file : ℕ) (places to : List ℕ) → ArePlacesIn files a file places → (e : RewordFault) → IsRewordFault files file places to e → IsFaultIn files a file to e
 fault_is files a file places to are TooLarge h = λ reads r t aimed. h reads r (renamed_words files reads t to) (puts_at files a file places are reads r t aimed to)
 fault_is files a file places to are NoMemory h = tt
 
 -- the same of what was answered
-pub changed_in : (files : List FileOf) (a : Aim) (file : ℕ) (places to : List ℕ) → ArePlacesIn files a file places → (r : Result (Option Change) RewordFault) → IfOk r (λ found. IsChangeAt files file places to found) → IfOk r (λ found. IsChangeIn files a file to found)
+pub changed_in : (files : List FileOf) (a : RenameTarget) (file : ℕ) (places to : List ℕ) → ArePlacesIn files a file places → (r : Result (Option Change) RewordFault) → IfOk r (λ found. IsChangeAt files file places to found) → IfOk r (λ found. IsChangeIn files a file to found)
 changed_in files a file places to are (Ok found) h = change_is files a file places to are found h
 changed_in files a file places to are (Err e) h = tt
 
-pub faulty_in : (files : List FileOf) (a : Aim) (file : ℕ) (places to : List ℕ) → ArePlacesIn files a file places → (r : Result (Option Change) RewordFault) → IfErr r (IsRewordFault files file places to) → IfErr r (IsFaultIn files a file to)
+pub faulty_in : (files : List FileOf) (a : RenameTarget) (file : ℕ) (places to : List ℕ) → ArePlacesIn files a file places → (r : Result (Option Change) RewordFault) → IfErr r (IsRewordFault files file places to) → IfErr r (IsFaultIn files a file to)
 faulty_in files a file places to are (Ok found) h = tt
 faulty_in files a file places to are (Err e) h = fault_is files a file places to are e h

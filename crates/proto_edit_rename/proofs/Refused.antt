@@ -11,15 +11,15 @@ use Rattle.proto_edit_entries.specs.declared.refusal.Refusal.TheVariants as refu
 use Rattle.proto_names_rules.proofs.Common.{Collides, At, at, FileNames, all_used, file_used, used_in, Used, symbol_of}
 use Rattle.proto_names_imports.specs.Links.{LinkFaults, link_skeleton, names_in, names_of_files, text_of}
 use Rattle.proto_names.specs.Linking.{RefId}
-use Rattle.proto_edit_captures.proofs.Common.{IsCapturedPlace, IsAimOf, IsAimedAt, IsNoTarget}
+use Rattle.proto_edit_captures.proofs.Common.{IsCapturedPlace, IsTargetOf, IsFoundTarget, IsNoTarget}
 use Rattle.proto_edit_captures.specs.FirstCaptured.{IsFirstCaptured}
 use Rattle.proto_edit_rename_laws.proofs.Common.{JsonNameClashes, ReservesWord, is_keyword_of, unknown_target, kind_not_allowed, not_an_identifier, keyword_name, same_name, collision, captured, name_reserved, json_clash, too_large, Target, name_map}
 use Rattle.proto_edit_rename.specs.Common.{IsFreeBefore, AreChangesOf, IsChangesFault, IsFaultIn, IsLeastRenameCase, IsRenameCase, IsRenameRefusal, IsRenamed, RewordFault}
 use Rattle.proto_edit_rename.proofs.LeastCases.{all_free, first_free, from_1, from_16, from_2, from_3, from_4, from_5, from_6, from_7, from_8, from_9, last_free, least, next_free}
 use Rattle.proto_edit_rename.proofs.OneAim.{aimed_one, same_kind}
 use Rattle.proto_edit_rename.specs.declared.changing.RewordFault.TheVariants as fault
-use Rattle.proto_edit_captures.specs.declared.aim.Aim.{Aim}
-use Rattle.proto_edit_captures.specs.declared.aim.NoTarget.TheVariants as no_target
+use Rattle.proto_edit_captures.specs.declared.rename_target.RenameTarget.{RenameTarget}
+use Rattle.proto_edit_captures.specs.declared.rename_target.NoTarget.TheVariants as no_target
 
 -- ---- cases 1 and 2
 
@@ -33,7 +33,7 @@ kind_refused files reads r name h to =
     (next_free files name to 1 2 (omega arith) (first_free files name to) (λ k. (let m = h k.0 k.1 in from_1 files name to k.0 k.2 m.symbol m.within m.name_is)))
     (reads, r, kind_not_allowed n.symbol n.within n.name_is n.kind)
 
-module _ (files : List FileOf) (clean : HasNoFault (LinkFaults files)) (a : Aim) (aim : IsAimOf files a) (to : List ℕ) where
+module _ (files : List FileOf) (clean : HasNoFault (LinkFaults files)) (a : RenameTarget) (aim : IsTargetOf files a) (to : List ℕ) where
   pub aim_free : IsFreeBefore files a.name.now to 3
   aim_free = next_free files a.name.now to 2 3 (omega arith) (next_free files a.name.now to 1 2 (omega arith) (first_free files a.name.now to) known) allowed
     where
@@ -81,7 +81,7 @@ module _ (files : List FileOf) (clean : HasNoFault (LinkFaults files)) (a : Aim)
   -- ---- cases 6 to 9: a test of all readings of the files
 
   abbrev Tests : Bool → (List ReadOf → Target → Type 0) → Type 0
-  Tests b Holds = (reads : List ReadOf) → AreRead files reads → (t : Target) → IsAimedAt files reads a t → IsTrue b ↔ Holds reads t
+  Tests b Holds = (reads : List ReadOf) → AreRead files reads → (t : Target) → IsFoundTarget files reads a t → IsTrue b ↔ Holds reads t
 
   module _ (reads : List ReadOf) (r : AreRead files reads) (b : Bool) (e : b ≡ true) where
     pub collision_refused : Tests b (λ reads t. Collides (name_map files reads t to) (names_of_files files reads)) → IsFreeBefore files a.name.now to 6 → IsLeastRenameCase files a.name.now to 6
@@ -94,7 +94,7 @@ module _ (files : List FileOf) (clean : HasNoFault (LinkFaults files)) (a : Aim)
     clash_refused test free = let t = aim reads r in least files a.name.now to 9 free (reads, r, json_clash t.0 t.1.named ((test reads r t.0 t.1).0 e))
 
   module _ (b : Bool) (e : b ≡ false) where
-    pub no_collision : Tests b (λ reads t. Collides (name_map files reads t to) (names_of_files files reads)) → (reads : List ReadOf) → AreRead files reads → (t : Target) → IsAimedAt files reads a t → Collides (name_map files reads t to) (names_of_files files reads) → ⊥
+    pub no_collision : Tests b (λ reads t. Collides (name_map files reads t to) (names_of_files files reads)) → (reads : List ReadOf) → AreRead files reads → (t : Target) → IsFoundTarget files reads a t → Collides (name_map files reads t to) (names_of_files files reads) → ⊥
     no_collision test reads r t h k = true≢false (sym ((test reads r t h).1 k) ∙ e)
 
     pub collision_free : Tests b (λ reads t. Collides (name_map files reads t to) (names_of_files files reads)) → IsFreeBefore files a.name.now to 6 → IsFreeBefore files a.name.now to 7
@@ -112,7 +112,7 @@ module _ (files : List FileOf) (clean : HasNoFault (LinkFaults files)) (a : Aim)
   -- ---- case 7
 
   abbrev pub IsFirst : Option RefId → Type 0
-  IsFirst first = (reads : List ReadOf) → AreRead files reads → (t : Target) → IsAimedAt files reads a t → IsFirstCaptured files reads t to first
+  IsFirst first = (reads : List ReadOf) → AreRead files reads → (t : Target) → IsFoundTarget files reads a t → IsFirstCaptured files reads t to first
 
   pub capture_free : IsFirst None → IsFreeBefore files a.name.now to 7 → IsFreeBefore files a.name.now to 8
   capture_free none free = next_free files a.name.now to 7 8 (omega arith) free (λ k.
@@ -176,6 +176,6 @@ captured_inside files reads r t to id f =
     omega (arith, l, n, same, e)
 
 -- a file that gets too long by its change is one that does by all
-pub fault_among : (files : List FileOf) (a : Aim) (file : ℕ) → file < length files → (to : List ℕ) (e : RewordFault) → IsFaultIn files a file to e → IsChangesFault files a to e
+pub fault_among : (files : List FileOf) (a : RenameTarget) (file : ℕ) → file < length files → (to : List ℕ) (e : RewordFault) → IsFaultIn files a file to e → IsChangesFault files a to e
 fault_among files a file inside to fault.TooLarge h = λ reads r t aimed. (file, inside, h reads r t aimed)
 fault_among files a file inside to fault.NoMemory h = tt

@@ -4,7 +4,7 @@ use Rattle.std.specs.List.{Contains}
 use Rattle.proto_base.specs.Texts.{Text}
 use Rattle.proto_names.specs.Linking.{LinkOf, name_text}
 use Rattle.proto_names.specs.Linking.{RefId}
-use Rattle.proto_edit_captures.specs.declared.aim.Aim.{Aim}
+use Rattle.proto_edit_captures.specs.declared.rename_target.RenameTarget.{RenameTarget}
 use Rattle.proto_edit_rename.specs.MadeChanges.{marked_from}
 use Rattle.proto_edit_rename.specs.StandingTokens.{goes_on}
 
@@ -32,7 +32,7 @@ HasReferencesMarked l marks row =
 -- declared below it, and for a value each with a reference to its enum: in no other file does the
 -- rename change words
 pub record AreChangedFiles
-    (l : LinkOf) (aim : Aim) (enum_name : Option Text) (count : ℕ) (marks : List Bool)
+    (l : LinkOf) (aim : RenameTarget) (enum_name : Option Text) (count : ℕ) (marks : List Bool)
     : Type 0 where
   pub as_many : length marks ≡ count
   pub own : get_or marks aim.file false ≡ true

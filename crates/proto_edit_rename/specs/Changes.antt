@@ -13,8 +13,8 @@ use Rattle.proto_edit_entries.specs.declared.entry.Change.{Change}
 use Rattle.proto_edit_rename.specs.MadeChanges.{IsFileChange}
 use Rattle.proto_edit_rename.specs.declared.changing.RewordFault.{RewordFault}
 use Rattle.proto_edit_rename.specs.declared.changing.RewordFault.TheVariants.{TooLarge, NoMemory}
-use Rattle.proto_edit_captures.specs.Aims.{IsAimedAt}
-use Rattle.proto_edit_captures.specs.declared.aim.Aim.{Aim}
+use Rattle.proto_edit_captures.specs.FoundTargets.{IsFoundTarget}
+use Rattle.proto_edit_captures.specs.declared.rename_target.RenameTarget.{RenameTarget}
 
 -- the tokens that a rename changes
 abbrev pub places_of : List FileOf → List ReadOf → Target → Text → List At
@@ -23,11 +23,11 @@ places_of files reads t to =
     t.token (renamed_defaults files reads t.enum (name_map files reads t to).old)
 
 -- these tokens of the file, and no others of it, whatever the new name is
-abbrev pub ArePlacesIn : List FileOf → Aim → ℕ → List ℕ → Type 0
+abbrev pub ArePlacesIn : List FileOf → RenameTarget → ℕ → List ℕ → Type 0
 ArePlacesIn files aim file found = (reads : List ReadOf)
     → AreRead files reads
     → (t : Target)
-    → IsAimedAt files reads aim t
+    → IsFoundTarget files reads aim t
     → (to : Text) (i : ℕ)
     → Contains found i ↔ Contains (places_of files reads t to) (at file i)
 
@@ -44,19 +44,19 @@ pub record AreWholeChanges
   pub short : (k : ℕ) → k < length files → IsRewordedTooLong c files reads k → ⊥
 
 -- the same of each reading of the files
-abbrev pub AreChangesOf : List FileOf → Aim → Text → List ChangeOf → Type 0
+abbrev pub AreChangesOf : List FileOf → RenameTarget → Text → List ChangeOf → Type 0
 AreChangesOf files aim to cs = (reads : List ReadOf)
     → AreRead files reads
     → (t : Target)
-    → IsAimedAt files reads aim t
+    → IsFoundTarget files reads aim t
     → AreWholeChanges files reads (renamed_words files reads t to) cs
 
 -- a file gets too long by them, or memory is wanting
-abbrev pub IsChangesFault : List FileOf → Aim → Text → RewordFault → Type 0
+abbrev pub IsChangesFault : List FileOf → RenameTarget → Text → RewordFault → Type 0
 IsChangesFault files aim to TooLarge = (reads : List ReadOf)
     → AreRead files reads
     → (t : Target)
-    → IsAimedAt files reads aim t
+    → IsFoundTarget files reads aim t
     → (k : ℕ) × (k < length files) × IsRewordedTooLong
     (renamed_words files reads t to) files reads k
 IsChangesFault files aim to NoMemory = Unit {0}
@@ -64,11 +64,11 @@ IsChangesFault files aim to NoMemory = Unit {0}
 -- ---- the tokens of a file
 
 -- the name of the enum that has the value, if it is one, and its old word
-abbrev pub IsValueOf : List FileOf → Aim → Option Text → Text → Type 0
+abbrev pub IsValueOf : List FileOf → RenameTarget → Option Text → Text → Type 0
 IsValueOf files aim enum_name old = (reads : List ReadOf)
     → AreRead files reads
     → (old ≡ text_of files reads (at aim.file aim.token))
-    × ((t : Target) → IsAimedAt files reads aim t → enum_name ≡ option_map joined t.enum)
+    × ((t : Target) → IsFoundTarget files reads aim t → enum_name ≡ option_map joined t.enum)
 
 -- the token, if it is one of this file
 abbrev pub or_own : ℕ → ℕ → ℕ → List ℕ
@@ -88,18 +88,18 @@ HasDefaultsIn files file (Some name) old found = (reads : List ReadOf)
 -- ---- the change of a file
 
 -- the change that the new words make of the file, or none, and the file does not get too long
-abbrev pub IsChangeIn : List FileOf → Aim → ℕ → Text → Option Change → Type 0
+abbrev pub IsChangeIn : List FileOf → RenameTarget → ℕ → Text → Option Change → Type 0
 IsChangeIn files aim file to found = (reads : List ReadOf)
     → AreRead files reads
     → (t : Target)
-    → IsAimedAt files reads aim t
+    → IsFoundTarget files reads aim t
     → IsFileChange files reads (renamed_words files reads t to) file found
 
 -- it gets too long, or memory is wanting
-abbrev pub IsFaultIn : List FileOf → Aim → ℕ → Text → RewordFault → Type 0
+abbrev pub IsFaultIn : List FileOf → RenameTarget → ℕ → Text → RewordFault → Type 0
 IsFaultIn files aim file to TooLarge = (reads : List ReadOf)
     → AreRead files reads
     → (t : Target)
-    → IsAimedAt files reads aim t
+    → IsFoundTarget files reads aim t
     → IsRewordedTooLong (renamed_words files reads t to) files reads file
 IsFaultIn files aim file to NoMemory = Unit {0}

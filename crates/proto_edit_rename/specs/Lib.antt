@@ -8,5 +8,6 @@ pub mod Members
 pub mod MembersCommon
 pub mod Occurrences
 pub use Rattle.proto_resolved.specs.Blocks
+pub mod RenameScopes
 pub mod Renames
 pub mod StandingTokens

@@ -9,8 +9,8 @@ use Rattle.proto_names_imports.specs.Links.{names_of_files}
 use Rattle.proto_names_rules.specs.Joined.{joined}
 use Rattle.proto_names_rules.specs.Names.{Symbol}
 use Rattle.proto_edit_rules.specs.Rename.{Target, IsNamed, may_rename, renamed_words}
-use Rattle.proto_edit_captures.specs.Aims.{IsAimedAt}
-use Rattle.proto_edit_captures.specs.declared.aim.Aim.{Aim}
+use Rattle.proto_edit_captures.specs.FoundTargets.{IsFoundTarget}
+use Rattle.proto_edit_captures.specs.declared.rename_target.RenameTarget.{RenameTarget}
 use Rattle.proto_edit_rename.specs.Changes.{ArePlacesIn}
 use Rattle.proto_edit_rename.specs.MadeChanges.{PutsAt}
 use Rattle.proto_edit_rename.specs.declared.file_occurrences.FileOccurrences.{FileOccurrences}
@@ -53,15 +53,15 @@ AreOccurrencesOfName files name (Some found) = (reads : List ReadOf)
 -- ---- as they are found
 
 -- the same of what was aimed at
-abbrev pub AreOccurrencesOf : List FileOf → Aim → ℕ → List FileOccurrences → Type 0
+abbrev pub AreOccurrencesOf : List FileOf → RenameTarget → ℕ → List FileOccurrences → Type 0
 AreOccurrencesOf files aim count found = (reads : List ReadOf)
     → AreRead files reads
     → (t : Target)
-    → IsAimedAt files reads aim t
+    → IsFoundTarget files reads aim t
     → AreOccurrences files reads t count found
 
 -- the tokens of one file, in order, or none
-abbrev pub AreOccurrencesIn : List FileOf → Aim → ℕ → Option FileOccurrences → Type 0
+abbrev pub AreOccurrencesIn : List FileOf → RenameTarget → ℕ → Option FileOccurrences → Type 0
 AreOccurrencesIn files aim file None = ArePlacesIn files aim file []
 AreOccurrencesIn files aim file (Some o) = (o.file ≡ file)
     × (0 < length o.tokens.items)

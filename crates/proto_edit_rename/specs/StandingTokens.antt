@@ -13,16 +13,16 @@ use Rattle.proto_names_imports.specs.Links.{text_of, link_skeleton}
 use Rattle.proto_names.specs.Linking.{LinkOf, name_text}
 use Rattle.proto_names.specs.Linking.{Meant}
 use Rattle.proto_edit_rules.specs.Rename.{standing, Target, name_map}
-use Rattle.proto_edit_captures.specs.Aims.{IsAimedAt}
-use Rattle.proto_edit_captures.specs.declared.aim.Aim.{Aim}
+use Rattle.proto_edit_captures.specs.FoundTargets.{IsFoundTarget}
+use Rattle.proto_edit_captures.specs.declared.rename_target.RenameTarget.{RenameTarget}
 
 -- These tokens of the file, and no others of it, stand for the target in
 -- references, whatever its new name is.
-abbrev pub IsStandingIn : List FileOf → Aim → ℕ → List ℕ → Type 0
+abbrev pub IsStandingIn : List FileOf → RenameTarget → ℕ → List ℕ → Type 0
 IsStandingIn files aim file found = (reads : List ReadOf)
     → AreRead files reads
     → (t : Target)
-    → IsAimedAt files reads aim t
+    → IsFoundTarget files reads aim t
     → (to : Text) (i : ℕ)
     → Contains found i
     ↔ Contains (flat_map (standing (text_of files reads) (link_skeleton files reads)

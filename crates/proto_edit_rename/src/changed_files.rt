@@ -8,9 +8,9 @@ ghost use Rattle.proto_edit_rename.specs.StandingTokens.{goes_on};
 use crate::changing::mark;
 use crate::standing::words_behind;
 use proto_base::NoMemory;
-use proto_edit_captures::Aim;
-use proto_files::Files;
+use proto_edit_captures::RenameTarget;
 use proto_names::{DeclaredNames, Link, RefId, SymbolId};
+use proto_resolved::CleanLinked;
 use std::alloc::Global;
 
 /// Marks the files of these references.
@@ -98,23 +98,23 @@ fn blank_marks(alloc: Global, count: usize) -> Result<Vec<bool>, NoMemory>
     Ok(marks)
 }
 
-/// Marks of the files in which a rename of what is aimed at may change words. The enum is that of a
+/// Marks of the files in which a rename of the target may change words. The enum is that of a
 /// value.
 pub(crate) fn changed_files(
     alloc: Global,
-    files: &Files,
-    link: &Link,
-    aim: Aim,
+    linked: &CleanLinked<'_>,
+    target: RenameTarget,
     enum_name: Option<&str>,
 ) -> Result<Vec<bool>, NoMemory>
-    requires { aim.file < length files.now }
-    ensures { IfOk result (λ marks. AreChangedFiles link.now aim.entry
-        (option_map (λ x. x.now) enum_name.entry) (length files.now) marks.items) }
+    requires { target.file < length linked.now.files }
+    ensures { IfOk result (λ marks. AreChangedFiles linked.now.link target.entry
+        (option_map (λ x. x.now) enum_name.entry) (length linked.now.files) marks.items) }
 {
-    let mut marks = blank_marks(alloc, files.len())?;
-    mark(&mut marks, aim.file as usize);
-    let declared = link.declared_in(aim.file);
-    mark_names(&mut marks, link, aim.name, &declared);
+    let link = linked.link();
+    let mut marks = blank_marks(alloc, linked.file_count())?;
+    mark(&mut marks, target.file as usize);
+    let declared = link.declared_in(target.file);
+    mark_names(&mut marks, link, target.name, &declared);
     mark_users(&mut marks, link, enum_name);
     Ok(marks)
 }

@@ -5,7 +5,6 @@ ghost use Rattle.std.specs.List.{list_any};
 ghost use Rattle.proto_tree.specs.declared.tree.FieldType.TheVariants as field_type;
 ghost use Rattle.proto_files.specs.FilesRead.{AreRead, ReadOf, read_at};
 ghost use Rattle.proto_names_rules.specs.Joined.{ArePlain, joined};
-ghost use Rattle.proto_names.specs.LinkOfFiles.{IsLinkOf};
 ghost use Rattle.proto_names.specs.Linking.{name_text};
 ghost use Rattle.proto_ast.specs.Options.{is_named};
 ghost use Rattle.proto_ast.specs.Scenes.{text};
@@ -19,8 +18,8 @@ use crate::scenes::scene;
 use crate::{BlockAt, blocks_of};
 use proto_ast::{FieldAt, OptionAt, Scene, extension_fields, fields_of, options_between};
 use proto_base::NoMemory;
-use proto_files::Files;
 use proto_names::{Link, Meant, SymbolId};
+use proto_resolved::CleanLinked;
 use proto_tree::{Constant, FieldType, Reference};
 use std::alloc::Global;
 
@@ -221,19 +220,19 @@ fn defaults(
 /// enum with this full name: those of the fields and extensions whose type means the enum.
 pub(crate) fn renamed_defaults_in<'a>(
     alloc: Global,
-    files: &Files,
-    link: &'a Link,
+    linked: &CleanLinked<'a>,
     file: u32,
     enum_name: &'a str,
     old: &'a str,
 ) -> Result<Vec<u32>, NoMemory>
-    requires link { IsLinkOf files.now link.now }
-    requires file { file < length files.now }
-    ensures { IfOk result (λ found. (reads : List ReadOf) → AreRead files.now reads
+    requires { file < length linked.now.files }
+    ensures { IfOk result (λ found. (reads : List ReadOf) → AreRead linked.now.files reads
         → (enum : List (List ℕ)) → ArePlain enum → joined enum ≡ enum_name.now
-        → found.items ≡ flat_map (renamed_default files.now reads (Some enum) old.now file)
+        → found.items ≡ flat_map (renamed_default linked.now.files reads (Some enum) old.now file)
         (fields_of_file (read_at reads file).tree)) }
 {
+    let files = linked.files();
+    let link = linked.link();
     let scene = scene(alloc, files, file);
     let tree = files.tree(file);
     // Most files do not use the enum: their fields are not gone through.

@@ -8,16 +8,16 @@ ghost use Rattle.proto_names_rules.specs.Joined.{joined};
 ghost use Rattle.proto_names_rules.specs.declared.kind.Kind.TheVariants.{Value};
 ghost use Rattle.proto_resolved.specs.Blocks.{block_of, holders_in};
 ghost use Rattle.proto_edit_rules.specs.Rename.{Target};
-ghost use Rattle.proto_edit_captures.specs.Aims.{IsAimOf, IsAimedAt};
+ghost use Rattle.proto_edit_captures.specs.FoundTargets.{IsTargetOf, IsFoundTarget};
 ghost use Rattle.proto_edit_rename.specs.Members.{holds_value, name_token};
 
 use crate::members::has_value;
 use proto_ast::values;
 use proto_base::NoMemory;
-use proto_edit_captures::{Aim, beside, front};
-use proto_files::{Files, Words, are_read};
+use proto_edit_captures::{RenameTarget, beside, front};
+use proto_files::Words;
 use proto_names_rules::Kind;
-use proto_resolved::{BlockAt, blocks_of};
+use proto_resolved::{BlockAt, CleanLinked, blocks_of};
 use proto_tree::File;
 use std::alloc::Global;
 
@@ -73,20 +73,25 @@ fn enum_in(alloc: Global, file: &File, token: u32) -> Result<Option<u32>, NoMemo
 }
 
 /// The full name of the enum that has the value, which stands beside it; none for what is no value.
-pub fn enum_name(alloc: Global, files: &Files, aim: Aim) -> Result<Option<String>, NoMemory>
-    requires { IsAimOf files.now aim }
+pub(crate) fn enum_name(
+    alloc: Global,
+    linked: &CleanLinked<'_>,
+    target: RenameTarget,
+) -> Result<Option<String>, NoMemory>
+    requires { IsTargetOf linked.now.files target }
     ensures { IfOk result (λ name. (reads : List ReadOf)
-        → AreRead files.now reads → (t : Target) → IsAimedAt files.now reads aim.entry t
+        → AreRead linked.now.files reads → (t : Target)
+        → IsFoundTarget linked.now.files reads target.entry t
         → option_map string_bytes name ≡ option_map joined t.enum) }
 {
-    are_read(files);
-    if !is_value(aim.kind) {
+    let files = linked.files();
+    if !is_value(target.kind) {
         return Ok(None);
     }
-    let words = Words::new(files, aim.file);
-    match enum_in(alloc, files.tree(aim.file), aim.token)? {
+    let words = Words::new(files, target.file);
+    match enum_in(alloc, files.tree(target.file), target.token)? {
         Some(token) => {
-            let front = front(aim.name, words.get(aim.token));
+            let front = front(target.name, words.get(target.token));
             let name = beside(alloc, front, words.get(token))?;
             Ok(Some(name))
         }

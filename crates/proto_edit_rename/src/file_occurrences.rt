@@ -1,22 +1,19 @@
 //! The tokens that stand for a name, file by file: those that a rename of it changes.
 
-ghost use Rattle.std.specs.Prelude.{◌≡◌, ◌↔◌, ◌<◌, ◌++◌, ℕ, length, IfOk, OnOk, option_map, option_to_list};
+ghost use Rattle.std.specs.Prelude.{◌≡◌, ◌↔◌, ◌<◌, ◌++◌, ℕ, length, IfOk, OnOk, option_to_list};
 ghost use Rattle.std.specs.List.{AllPairs, Contains};
 ghost use Rattle.proto_files.specs.Faults.{HasNoFault};
 ghost use Rattle.proto_names_imports.specs.Links.{LinkFaults};
 ghost use Rattle.proto_names.specs.LinkOfFiles.{IsLinkOf};
-ghost use Rattle.proto_edit_rename.specs.ChangedFiles.{AreChangedFiles};
-ghost use Rattle.proto_edit_rename.specs.Changes.{IsValueOf};
 ghost use Rattle.proto_edit_rename.specs.Occurrences.{AreOccurrencesIn, AreOccurrencesOf, AreOccurrencesOfName};
-ghost use Rattle.proto_edit_captures.specs.Aims.{IsAimOf, IsNoTarget};
+ghost use Rattle.proto_edit_captures.specs.FoundTargets.{IsTargetOf, IsNoTarget};
 
-use crate::changed_files::changed_files;
-use crate::enum_names::enum_name;
 use crate::places::{RenameScope, places_in};
 use proto_base::NoMemory;
-use proto_edit_captures::{Aim, NoTarget, target};
-use proto_files::{Files, Words, are_read};
+use proto_edit_captures::{NoTarget, RenameTarget, find_target};
+use proto_files::Files;
 use proto_names::Link;
+use proto_resolved::CleanLinked;
 use std::alloc::Global;
 
 /// The tokens of a file that stand for a name, of which there is one at least.
@@ -38,24 +35,16 @@ fn in_order(mut tokens: Vec<u32>) -> Vec<u32>
     tokens
 }
 
-/// The tokens of a file that stand for what is sought, if there are some.
+/// The tokens of a file that stand for the target, if there are some.
 fn occurrences_in(
     alloc: Global,
-    sought: &RenameScope,
+    scope: &RenameScope,
     file: u32,
 ) -> Result<Option<FileOccurrences>, NoMemory>
-    requires link { IsLinkOf sought.now.files.now sought.now.link.now }
-    requires linked { HasNoFault (LinkFaults sought.now.files.now) }
-    requires aim { IsAimOf sought.now.files.now sought.now.aim }
-    requires value { IsValueOf sought.now.files.now sought.now.aim
-        (option_map (λ x. x.now) sought.now.enum_name) sought.now.old.now }
-    requires marks { AreChangedFiles sought.now.link.now sought.now.aim
-        (option_map (λ x. x.now) sought.now.enum_name) (length sought.now.files.now)
-        sought.now.marks.now }
-    requires file { file < length sought.now.files.now }
-    ensures { IfOk result (AreOccurrencesIn sought.now.files.now sought.now.aim file) }
+    requires { file < length scope.now.files }
+    ensures { IfOk result (AreOccurrencesIn scope.now.files scope.now.target file) }
 {
-    let places = places_in(alloc, sought, file)?;
+    let places = places_in(alloc, scope, file)?;
     if places.as_slice().is_empty() {
         return Ok(None);
     }
@@ -76,66 +65,43 @@ fn push_found(
 }
 
 /// Those of all files, in their order.
-fn all_occurrences(alloc: Global, sought: &RenameScope) -> Result<Vec<FileOccurrences>, NoMemory>
-    requires link { IsLinkOf sought.now.files.now sought.now.link.now }
-    requires linked { HasNoFault (LinkFaults sought.now.files.now) }
-    requires aim { IsAimOf sought.now.files.now sought.now.aim }
-    requires value { IsValueOf sought.now.files.now sought.now.aim
-        (option_map (λ x. x.now) sought.now.enum_name) sought.now.old.now }
-    requires marks { AreChangedFiles sought.now.link.now sought.now.aim
-        (option_map (λ x. x.now) sought.now.enum_name) (length sought.now.files.now)
-        sought.now.marks.now }
-    ensures { IfOk result (λ found. AreOccurrencesOf sought.now.files.now sought.now.aim
-        (length sought.now.files.now) found.items) }
+fn all_occurrences(alloc: Global, scope: &RenameScope) -> Result<Vec<FileOccurrences>, NoMemory>
+    ensures { IfOk result (λ found. AreOccurrencesOf scope.now.files scope.now.target
+        (length scope.now.files) found.items) }
 {
     let mut all = Vec::new(alloc);
-    for file in 0..sought.files.len() as u32 {
-        let found = occurrences_in(alloc, sought, file)?;
+    for file in 0..scope.file_count() as u32 {
+        let found = occurrences_in(alloc, scope, file)?;
         push_found(&mut all, found)?;
     }
     Ok(all)
 }
 
-/// Those of what a rename aims at.
+/// Those of a target.
 fn occurrences_of<'a>(
     alloc: Global,
-    files: &'a Files,
-    link: &'a Link,
-    aim: Aim<'a>,
+    linked: &'a CleanLinked<'a>,
+    target: RenameTarget<'a>,
 ) -> Result<Vec<FileOccurrences>, NoMemory>
-    requires link { IsLinkOf files.now link.now }
-    requires linked { HasNoFault (LinkFaults files.now) }
-    requires aim { IsAimOf files.now aim }
-    requires file { aim.file < length files.now }
-    ensures { IfOk result (λ found.
-        AreOccurrencesOf files.now aim.entry (length files.now) found.items) }
+    requires target { IsTargetOf linked.now.files target }
+    requires file { target.file < length linked.now.files }
+    ensures { IfOk result (λ found. AreOccurrencesOf linked.now.files target.entry
+        (length linked.now.files) found.items) }
 {
-    let name = enum_name(alloc, files, aim)?;
-    let enum_name = name.as_deref();
-    let old = Words::new(files, aim.file).get(aim.token);
-    let marks = changed_files(alloc, files, link, aim, enum_name)?;
-    let sought = RenameScope {
-        files,
-        link,
-        aim,
-        enum_name,
-        old,
-        marks: &marks,
-    };
-    all_occurrences(alloc, &sought)
+    let scope = RenameScope::new(alloc, linked, target)?;
+    all_occurrences(alloc, &scope)
 }
 
-/// The answer for a name that aims at nothing.
+/// The answer for a name that no target has.
 fn no_occurrences(
-    files: &Files,
+    linked: &CleanLinked<'_>,
     name: &str,
     cause: NoTarget,
 ) -> Result<Option<Vec<FileOccurrences>>, NoMemory>
-    requires linked { HasNoFault (LinkFaults files.now) }
-    requires cause { IsNoTarget files.now name.now cause }
-    ensures { IfOk result (AreOccurrencesOfName files.now name.now) }
+    requires { IsNoTarget linked.now.files name.now cause }
+    ensures { IfOk result (AreOccurrencesOfName linked.now.files name.now) }
 {
-    are_read(files);
+    linked.files();
     match cause {
         NoTarget::Unknown => Ok(None),
         NoTarget::NotAllowed => Ok(None),
@@ -156,11 +122,12 @@ pub fn occurrences(
     requires linked { HasNoFault (LinkFaults files.now) }
     ensures { IfOk result (AreOccurrencesOfName files.now name.now) }
 {
-    match target(alloc, files, link, name) {
-        Ok(aim) => {
-            let found = occurrences_of(alloc, files, link, aim)?;
+    let linked = CleanLinked::new(files, link);
+    match find_target(alloc, &linked, name) {
+        Ok(target) => {
+            let found = occurrences_of(alloc, &linked, target)?;
             Ok(Some(found))
         }
-        Err(cause) => no_occurrences(files, name, cause),
+        Err(cause) => no_occurrences(&linked, name, cause),
     }
 }

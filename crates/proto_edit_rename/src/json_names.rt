@@ -5,7 +5,7 @@ ghost use Rattle.std.specs.List.{list_any};
 ghost use Rattle.proto_files.specs.FilesRead.{AreRead, ReadOf};
 ghost use Rattle.proto_ast.specs.Views.{field_of};
 ghost use Rattle.proto_edit_rules.specs.Rename.{JsonNameClashes, Target};
-ghost use Rattle.proto_edit_captures.specs.Aims.{IsAimOf, IsAimedAt};
+ghost use Rattle.proto_edit_captures.specs.FoundTargets.{IsTargetOf, IsFoundTarget};
 ghost use Rattle.proto_edit_rename.specs.Blocks.{block_of};
 ghost use Rattle.proto_edit_rename.specs.Members.{clash_in, fields_clash, is_made, is_other};
 
@@ -15,8 +15,8 @@ use crate::{BlockAt, blocks_of};
 use proto_ast::{FieldAt, Scene, fields_of, json_name, options_between, text_option};
 use proto_base::NoMemory;
 use proto_case::camel_from;
-use proto_edit_captures::Aim;
-use proto_files::{Files, are_read};
+use proto_edit_captures::RenameTarget;
+use proto_resolved::CleanLinked;
 use std::alloc::Global;
 
 /// Whether it is the field of the name token, and its JSON name is made of its word.
@@ -133,18 +133,24 @@ fn one_clashes(
 
 /// Whether the field of a proto3 file, no JSON name being written for it, would get that of another
 /// field of its message by the new word.
-pub(crate) fn clashes(alloc: Global, files: &Files, aim: Aim, word: &str) -> Result<bool, NoMemory>
-    requires { IsAimOf files.now aim }
+pub(crate) fn clashes(
+    alloc: Global,
+    linked: &CleanLinked<'_>,
+    target: RenameTarget,
+    word: &str,
+) -> Result<bool, NoMemory>
+    requires { IsTargetOf linked.now.files target }
     ensures { IfOk result (λ b. (reads : List ReadOf)
-        → AreRead files.now reads → (t : Target) → IsAimedAt files.now reads aim.entry t
-        → IsTrue b ↔ JsonNameClashes files.now reads t.token word.now) }
+        → AreRead linked.now.files reads → (t : Target)
+        → IsFoundTarget linked.now.files reads target.entry t
+        → IsTrue b ↔ JsonNameClashes linked.now.files reads t.token word.now) }
 {
-    are_read(files);
-    let scene = scene(alloc, files, aim.file);
+    let files = linked.files();
+    let scene = scene(alloc, files, target.file);
     if !scene.is_proto3() {
         return Ok(false);
     }
     let name = camel_from(alloc, false, word)?;
-    let blocks = blocks_of(alloc, files.tree(aim.file))?;
-    one_clashes(alloc, &scene, &blocks, aim.token, &name)
+    let blocks = blocks_of(alloc, files.tree(target.file))?;
+    one_clashes(alloc, &scene, &blocks, target.token, &name)
 }

@@ -2,7 +2,6 @@
 //! file say of a field or a value: reserved names, and the enum of a value.
 #![tactic(auto)]
 
-mod aimed;
 mod changed_files;
 mod changes;
 mod changing;
@@ -10,6 +9,7 @@ mod checks;
 mod defaults;
 mod enum_names;
 mod file_occurrences;
+mod found_target;
 mod json_names;
 mod members;
 mod places;
@@ -18,10 +18,8 @@ mod reserved;
 mod scenes;
 mod standing;
 
-pub use enum_names::enum_name;
 pub use file_occurrences::{FileOccurrences, occurrences};
 pub use members::oneof_fields;
 pub use proto_resolved::{BlockAt, blocks_of};
 pub use renaming::rename;
-pub use reserved::is_reserved;
 pub use scenes::scene;

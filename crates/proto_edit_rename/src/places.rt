@@ -1,43 +1,93 @@
 //! The tokens of a file that a rename changes.
 
 ghost use Rattle.std.specs.Prelude.{◌≡◌, ◌<◌, ◌++◌, length, IfOk, OnOk, option_map};
-ghost use Rattle.proto_files.specs.Faults.{HasNoFault};
-ghost use Rattle.proto_names_imports.specs.Links.{LinkFaults};
-ghost use Rattle.proto_names_rules.specs.Grown.{at};
-ghost use Rattle.proto_names.specs.LinkOfFiles.{IsLinkOf};
-ghost use Rattle.proto_edit_rename.specs.ChangedFiles.{AreChangedFiles};
-ghost use Rattle.proto_edit_rename.specs.Changes.{ArePlacesIn, IsValueOf, HasDefaultsIn, or_own};
-ghost use Rattle.proto_edit_captures.specs.Aims.{IsAimOf};
+ghost use Rattle.proto_files.specs.GivenFiles.{AreWorkspaceFiles};
+ghost use Rattle.proto_edit_rename.specs.Changes.{ArePlacesIn, HasDefaultsIn, or_own};
+ghost use Rattle.proto_edit_captures.specs.FoundTargets.{IsTargetOf};
 
+use crate::changed_files::changed_files;
 use crate::defaults::renamed_defaults_in;
+use crate::enum_names::enum_name;
 use crate::standing::standing_in;
 use proto_base::NoMemory;
-use proto_edit_captures::Aim;
-use proto_files::Files;
-use proto_names::Link;
+use proto_edit_captures::RenameTarget;
+use proto_files::{Files, Words};
 use proto_names_rules::marks::is_marked;
+use proto_resolved::CleanLinked;
 use std::alloc::Global;
+use std::marker::Model;
 
-/// What is looked for in each file of a workspace: what the rename aims at, with its old word, and
-/// the name of its enum where it is a value.
-#[derive(Clone, Copy)]
+/// What a rename looks for in each file of a workspace: its target, with the old word, and the name
+/// of the target's enum where that is a value.
+#[derive(Drop)]
 pub(crate) struct RenameScope<'a> {
-    pub(crate) files: &'a Files,
-    pub(crate) link: &'a Link,
-    pub(crate) aim: Aim<'a>,
-    pub(crate) enum_name: Option<&'a str>,
-    pub(crate) old: &'a str,
+    linked: &'a CleanLinked<'a>,
+    target: RenameTarget<'a>,
+    enum_name: Option<String>,
+    old: &'a str,
     /// Marks of the files in which the rename may change words.
-    pub(crate) marks: &'a [bool],
+    marks: Vec<bool>,
+}
+
+impl<'a> Model for RenameScope<'a> {
+    ghost use Rattle.std.specs.Prelude.{option_map, string_bytes};
+    ghost use Rattle.proto_edit_rename.specs.RenameScopes.{IsRenameScope, RenameScopeOf};
+
+    ghost Value = { RenameScopeOf };
+
+    ghost view = { λ s. record { files = s.linked.now.files; target = s.target } };
+
+    ghost invariant = { λ s. IsRenameScope s.linked.now s.target
+        (option_map string_bytes s.enum_name) s.old.now s.marks.items };
+}
+
+impl<'a> RenameScope<'a> {
+    /// What the rename of the target looks for. Fails only when out of memory.
+    pub(crate) fn new(
+        alloc: Global,
+        linked: &'a CleanLinked<'a>,
+        target: RenameTarget<'a>,
+    ) -> Result<RenameScope<'a>, NoMemory>
+        requires target { IsTargetOf linked.now.files target }
+        requires file { target.file < length linked.now.files }
+        ensures files { IfOk result (λ scope. scope.files ≡ linked.entry.now.files) }
+        ensures target { IfOk result (λ scope. scope.target ≡ target.entry) }
+    {
+        let enum_name = enum_name(alloc, linked, target)?;
+        let old = Words::new(linked.files(), target.file).get(target.token);
+        let marks = changed_files(alloc, linked, target, enum_name.as_deref())?;
+        Ok(RenameScope {
+            linked,
+            target,
+            enum_name,
+            old,
+            marks,
+        })
+    }
+
+    /// The files.
+    pub(crate) fn files(&self) -> &'a Files
+        ensures { result.now ≡ self.now.files }
+    {
+        self.linked.files()
+    }
+
+    /// How many files there are.
+    pub(crate) fn file_count(&self) -> usize
+        ensures len { result ≡ length self.now.files }
+        ensures workspace { AreWorkspaceFiles self.now.files }
+    {
+        self.linked.file_count()
+    }
 }
 
 /// The token, if it is one of this file.
-fn push_own(places: &mut Vec<u32>, aim: Aim, file: u32) -> Result<(), NoMemory>
+fn push_own(places: &mut Vec<u32>, target: RenameTarget, file: u32) -> Result<(), NoMemory>
     ensures { OnOk result (places.new.items ≡ places.old.items
-        ++ or_own aim.entry.file aim.entry.token file) }
+        ++ or_own target.entry.file target.entry.token file) }
 {
-    if aim.file == file {
-        places.push(aim.token)?;
+    if target.file == file {
+        places.push(target.token)?;
     }
     Ok(())
 }
@@ -53,57 +103,36 @@ fn push_all(places: &mut Vec<u32>, more: &[u32]) -> Result<(), NoMemory>
 /// enum; none where there is no enum.
 fn defaults_in<'a>(
     alloc: Global,
-    files: &Files,
-    link: &'a Link,
+    linked: &CleanLinked<'a>,
     file: u32,
     enum_name: Option<&'a str>,
     old: &'a str,
 ) -> Result<Vec<u32>, NoMemory>
-    requires link { IsLinkOf files.now link.now }
-    requires file { file < length files.now }
-    ensures { IfOk result (λ found. HasDefaultsIn files.now file
+    requires { file < length linked.now.files }
+    ensures { IfOk result (λ found. HasDefaultsIn linked.now.files file
         (option_map (λ x. x.now) enum_name.entry) old.entry.now found.items) }
 {
     match enum_name {
-        Some(enum_name) => renamed_defaults_in(alloc, files, link, file, enum_name, old),
+        Some(enum_name) => renamed_defaults_in(alloc, linked, file, enum_name, old),
         None => Ok(Vec::new(alloc)),
     }
 }
 
 /// The tokens of a file that the rename changes: the declaring one, where it is of this file, the
-/// words of references that stand for what is aimed at, and for a value the defaults that mean it.
-pub(crate) fn places_in(
-    alloc: Global,
-    sought: &RenameScope,
-    file: u32,
-) -> Result<Vec<u32>, NoMemory>
-    requires link { IsLinkOf sought.now.files.now sought.now.link.now }
-    requires linked { HasNoFault (LinkFaults sought.now.files.now) }
-    requires aim { IsAimOf sought.now.files.now sought.now.aim }
-    requires value { IsValueOf sought.now.files.now sought.now.aim
-        (option_map (λ x. x.now) sought.now.enum_name) sought.now.old.now }
-    requires marks { AreChangedFiles sought.now.link.now sought.now.aim
-        (option_map (λ x. x.now) sought.now.enum_name) (length sought.now.files.now)
-        sought.now.marks.now }
-    requires file { file < length sought.now.files.now }
+/// words of references that stand for the target, and for a value the defaults that mean it.
+pub(crate) fn places_in(alloc: Global, scope: &RenameScope, file: u32) -> Result<Vec<u32>, NoMemory>
+    requires { file < length scope.now.files }
     ensures { IfOk result (λ found.
-        ArePlacesIn sought.now.files.now sought.now.aim file found.items) }
+        ArePlacesIn scope.now.files scope.now.target file found.items) }
 {
-    let RenameScope {
-        files,
-        link,
-        aim,
-        enum_name,
-        old,
-        marks,
-    } = *sought;
     // Most files are not marked, and nothing of them is looked at.
-    if !is_marked(marks, file) {
+    if !is_marked(&scope.marks, file) {
         return Ok(Vec::new(alloc));
     }
-    let mut places = standing_in(alloc, files, link, aim, file)?;
-    push_own(&mut places, aim, file)?;
-    let defaults = defaults_in(alloc, files, link, file, enum_name, old)?;
+    let mut places = standing_in(alloc, scope.linked, scope.target, file)?;
+    push_own(&mut places, scope.target, file)?;
+    let enum_name = scope.enum_name.as_deref();
+    let defaults = defaults_in(alloc, scope.linked, file, enum_name, scope.old)?;
     push_all(&mut places, &defaults)?;
     Ok(places)
 }

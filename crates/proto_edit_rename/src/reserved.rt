@@ -7,16 +7,15 @@ ghost use Rattle.proto_files.specs.FilesRead.{AreRead, ReadOf};
 ghost use Rattle.proto_ast.specs.Parts.{fields_in, reserved_names_in, values_in};
 ghost use Rattle.proto_resolved.specs.Blocks.{block_of};
 ghost use Rattle.proto_edit_rules.specs.Rename.{ReservesWord, Target};
-ghost use Rattle.proto_edit_captures.specs.Aims.{IsAimOf, IsAimedAt};
+ghost use Rattle.proto_edit_captures.specs.FoundTargets.{IsTargetOf, IsFoundTarget};
 ghost use Rattle.proto_edit_rename.specs.Members.{has_field, has_value, reserves, says_word};
 
 use crate::members::{has_field, has_value};
 use crate::scenes::scene;
 use proto_ast::{Scene, enum_reserved_names, fields_of, reserved_names, values};
 use proto_base::NoMemory;
-use proto_edit_captures::Aim;
-use proto_files::{Files, are_read};
-use proto_resolved::{BlockAt, blocks_of};
+use proto_edit_captures::RenameTarget;
+use proto_resolved::{BlockAt, CleanLinked, blocks_of};
 use proto_tree::{EnumItem, Member};
 use std::alloc::Global;
 
@@ -114,14 +113,20 @@ fn one_reserves(
 
 /// Whether the message of the field, or the enum of the value, reserves the word. Fails only when
 /// out of memory, here and below.
-pub fn is_reserved(alloc: Global, files: &Files, aim: Aim, word: &str) -> Result<bool, NoMemory>
-    requires { IsAimOf files.now aim }
+pub(crate) fn is_reserved(
+    alloc: Global,
+    linked: &CleanLinked<'_>,
+    target: RenameTarget,
+    word: &str,
+) -> Result<bool, NoMemory>
+    requires { IsTargetOf linked.now.files target }
     ensures { IfOk result (λ b. (reads : List ReadOf)
-        → AreRead files.now reads → (t : Target) → IsAimedAt files.now reads aim.entry t
-        → IsTrue b ↔ ReservesWord files.now reads t.token word.now) }
+        → AreRead linked.now.files reads → (t : Target)
+        → IsFoundTarget linked.now.files reads target.entry t
+        → IsTrue b ↔ ReservesWord linked.now.files reads t.token word.now) }
 {
-    are_read(files);
-    let scene = scene(alloc, files, aim.file);
-    let blocks = blocks_of(alloc, files.tree(aim.file))?;
-    one_reserves(alloc, &scene, &blocks, aim.token, word)
+    let files = linked.files();
+    let scene = scene(alloc, files, target.file);
+    let blocks = blocks_of(alloc, files.tree(target.file))?;
+    one_reserves(alloc, &scene, &blocks, target.token, word)
 }

@@ -1,51 +1,46 @@
-//! The tokens of references that stand for what a rename aims at.
+//! The tokens of references that stand for the target of a rename.
 
 ghost use Rattle.std.specs.Prelude.{◌≡◌, ◌==◌, ◌<◌, ◌++◌, length, IfOk, OnOk, option_to_list};
 ghost use Rattle.std.specs.List.{count_by, list_any};
 ghost use Rattle.proto_base.specs.Ascii as ascii;
 ghost use Rattle.proto_tree.specs.References.{dotted};
-ghost use Rattle.proto_files.specs.Faults.{HasNoFault};
-ghost use Rattle.proto_names_imports.specs.Links.{LinkFaults};
 ghost use Rattle.proto_names.specs.Linking.{name_text};
-ghost use Rattle.proto_names.specs.LinkOfFiles.{IsLinkOf};
 ghost use Rattle.proto_edit_rename.specs.StandingTokens.{IsStandingIn, goes_on, words_after, words_in, words_behind, from_end, counted, standing_tokens};
 
 use proto_base::NoMemory;
-use proto_edit_captures::Aim;
-use proto_files::{Files, are_read};
+use proto_edit_captures::RenameTarget;
 use proto_names::{Link, Meant};
 use proto_names_outline::file_listing::list_file;
 use proto_names_outline::listing::Use;
+use proto_resolved::CleanLinked;
 use proto_tree::Dotted;
 use std::alloc::Global;
 
-/// The tokens of a file that stand for what the rename aims at, in the words of its references.
-/// Each is found by counting: where a reference means a name that goes on from the aim's, it has as
-/// many words behind the one that stands for the aim as that name has behind the aim's.
+/// The tokens of a file that stand for the target of the rename, in the words of its references.
+/// Each is found by counting: where a reference means a name that goes on from the target's, it has
+/// as many words behind the one that stands for the target as that name has behind the target's.
 pub(crate) fn standing_in(
     alloc: Global,
-    files: &Files,
-    link: &Link,
-    aim: Aim,
+    linked: &CleanLinked<'_>,
+    target: RenameTarget,
     file: u32,
 ) -> Result<Vec<u32>, NoMemory>
-    requires file { file < length files.now }
-    requires link { IsLinkOf files.now link.now }
-    requires linked { HasNoFault (LinkFaults files.now) }
-    ensures { IfOk result (λ found. IsStandingIn files.now aim.entry file found.items) }
+    requires { file < length linked.now.files }
+    ensures { IfOk result (λ found. IsStandingIn linked.now.files target.entry file found.items) }
 {
+    let files = linked.files();
+    let link = linked.link();
     // Fields, extensions, values and methods are neither meant nor hold what is meant.
-    if !aim.kind.is_outer() {
+    if !target.kind.is_outer() {
         return Ok(Vec::new(alloc));
     }
     // Nor is a file listed whose references mean nothing of it: most are such.
     let meant = link.meant_in(file);
-    if !one_goes_on(link, aim.name, meant) {
+    if !one_goes_on(link, target.name, meant) {
         return Ok(Vec::new(alloc));
     }
-    are_read(files);
     let listing = list_file(alloc, files.tree(file))?;
-    standing_words(alloc, link, aim.name, &listing.used, meant)
+    standing_words(alloc, link, target.name, &listing.used, meant)
 }
 
 /// Whether one of these means the name, or one that goes on from it.

@@ -28,34 +28,30 @@ use proto_edit_statement_laws::laws::additions_are_read;
 use proto_files::{Files, are_read};
 use proto_names::Link;
 use proto_names_imports::import::FileImport;
+use proto_resolved::CleanLinked;
 use proto_text::Span;
 use std::alloc::Global;
 
 /// Case 7: no reference of the file is overtaken. (The cases before it do not concern imports.)
 fn check_captured(
     alloc: Global,
-    files: &Files,
-    link: &Link,
+    linked: &CleanLinked<'_>,
     imports: &[Vec<FileImport>],
     paths: Paths,
-    file: u32,
-    to: u32,
 ) -> Result<(), Refusal>
-    requires link { IsLinkOf files.now link.now }
-    requires linked { HasNoFault (LinkFaults files.now) }
-    requires imports { AreImportsOf files.now imports.now }
-    requires file { IsPlaceOf files.now paths.file.now file }
-    requires to { IsPlaceOf files.now paths.path.now to }
-    ensures free { IfOk result (λ _. (n : ℕ)
-        → n < 11 → IsAdditionCase files.now paths.entry.file.now paths.entry.path.now n → ⊥) }
+    requires imports { AreImportsOf linked.now.files imports.now }
+    requires file { IsPlaceOf linked.now.files paths.file.now paths.from }
+    requires to { IsPlaceOf linked.now.files paths.path.now paths.to }
+    ensures free { IfOk result (λ _. (n : ℕ) → n < 11
+        → IsAdditionCase linked.now.files paths.entry.file.now paths.entry.path.now n → ⊥) }
     ensures err { IfErr result
-        (IsAdditionRefusal files.now paths.entry.file.now paths.entry.path.now) }
+        (IsAdditionRefusal linked.now.files paths.entry.file.now paths.entry.path.now) }
 {
-    are_read(files);
-    let seen = seen_with(alloc, imports, file, to)?;
-    match first_overtaken(alloc, files, link, file, &seen)? {
+    let files = linked.files();
+    let seen = seen_with(alloc, imports, paths.from, paths.to)?;
+    match first_overtaken(alloc, linked, paths.from, &seen)? {
         None => Ok(()),
-        Some(token) => Err(captured_refusal(alloc, files, file, token)?),
+        Some(token) => Err(captured_refusal(alloc, files, paths.from, token)?),
     }
 }
 
@@ -65,12 +61,10 @@ fn check_new(
     files: &Files,
     imports: &[Vec<FileImport>],
     paths: Paths,
-    file: u32,
-    to: u32,
 ) -> Result<(), Refusal>
     requires imports { AreImportsOf files.now imports.now }
-    requires file { IsPlaceOf files.now paths.file.now file }
-    requires to { IsPlaceOf files.now paths.path.now to }
+    requires file { IsPlaceOf files.now paths.file.now paths.from }
+    requires to { IsPlaceOf files.now paths.path.now paths.to }
     requires before { (n : ℕ) → n < 11 → IsAdditionCase files.now paths.file.now paths.path.now n
         → ⊥ }
     ensures free { IfOk result (λ _. (n : ℕ)
@@ -79,10 +73,10 @@ fn check_new(
         (IsAdditionRefusal files.now paths.entry.file.now paths.entry.path.now) }
 {
     are_read(files);
-    if import_named(files, file, paths.path).is_some() {
+    if import_named(files, paths.from, paths.path).is_some() {
         return Err(Refusal::AlreadyImported);
     }
-    if leads(alloc, imports, to, file)? {
+    if leads(alloc, imports, paths.to, paths.from)? {
         return Err(Refusal::Cycle);
     }
     Ok(())
@@ -106,17 +100,13 @@ fn text_of(alloc: Global, end: Option<u32>, path: &str) -> Result<String, NoMemo
 }
 
 /// The change of the file that imports the path; none where it would be too large.
-fn change_of_file(
-    alloc: Global,
-    files: &Files,
-    paths: Paths,
-    file: u32,
-) -> Result<Option<Change>, NoMemory>
-    requires { IsPlaceOf files.now paths.file.now file }
+fn change_of_file(alloc: Global, files: &Files, paths: Paths) -> Result<Option<Change>, NoMemory>
+    requires { IsPlaceOf files.now paths.file.now paths.from }
     ensures { IfOk result (λ found. (reads : List ReadOf) → AreRead files.now reads
-        → IsChangeOfAddition files.now reads file paths.entry.path.now found) }
+        → IsChangeOfAddition files.now reads paths.entry.from paths.entry.path.now found) }
 {
     additions_are_read();
+    let file = paths.from;
     // A text is UTF-8.
     files.source(file).as_bytes();
     let end = end_before_import(files.tree(file));
@@ -130,13 +120,8 @@ fn change_of_file(
 }
 
 /// What the import changes, and case 16.
-fn changes_of_addition(
-    alloc: Global,
-    files: &Files,
-    paths: Paths,
-    file: u32,
-) -> Result<Vec<Change>, Refusal>
-    requires file { IsPlaceOf files.now paths.file.now file }
+fn changes_of_addition(alloc: Global, files: &Files, paths: Paths) -> Result<Vec<Change>, Refusal>
+    requires file { IsPlaceOf files.now paths.file.now paths.from }
     requires before { (n : ℕ) → n < 15 → IsAdditionCase files.now paths.file.now paths.path.now n
         → ⊥ }
     ensures ok { IfOk result (λ cs. HasAdditionChanges files.now paths.entry.file.now
@@ -146,7 +131,7 @@ fn changes_of_addition(
         (IsAdditionRefusal files.now paths.entry.file.now paths.entry.path.now) }
 {
     are_read(files);
-    match change_of_file(alloc, files, paths, file)? {
+    match change_of_file(alloc, files, paths)? {
         Some(change) => Ok(only(alloc, change)?),
         None => Err(Refusal::TooLarge),
     }
@@ -170,15 +155,21 @@ pub fn add_import(
     are_read(files);
     // The paths of a workspace are apart.
     files.len();
-    let paths = Paths { file, path };
     let Some(from) = files.place_of_path(file) else {
         return Err(Refusal::UnknownFile);
     };
     let Some(to) = files.place_of_path(path) else {
         return Err(Refusal::UnknownFile);
     };
-    let imports = linked_imports(alloc, files)?;
-    check_captured(alloc, files, link, &imports, paths, from, to)?;
-    check_new(alloc, files, &imports, paths, from, to)?;
-    changes_of_addition(alloc, files, paths, from)
+    let paths = Paths {
+        file,
+        path,
+        from,
+        to,
+    };
+    let linked = CleanLinked::new(files, link);
+    let imports = linked_imports(alloc, &linked)?;
+    check_captured(alloc, &linked, &imports, paths)?;
+    check_new(alloc, files, &imports, paths)?;
+    changes_of_addition(alloc, files, paths)
 }

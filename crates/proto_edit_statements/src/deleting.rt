@@ -27,6 +27,7 @@ use proto_edit_statement_laws::laws::statements_are_one;
 use proto_files::{Files, Words, are_read};
 use proto_names::Link;
 use proto_names_rules::Kind;
+use proto_resolved::CleanLinked;
 use proto_text::Span;
 use std::alloc::Global;
 
@@ -44,15 +45,14 @@ fn is_field(kind: Option<Kind>) -> bool
 }
 
 /// Cases 1 and 2: the field of this full name.
-fn field_named(files: &Files, link: &Link, name: &str) -> Result<FieldName, Refusal>
-    requires link { IsLinkOf files.now link.now }
-    requires linked { HasNoFault (LinkFaults files.now) }
+fn field_named(linked: &CleanLinked<'_>, name: &str) -> Result<FieldName, Refusal>
     ensures field { IfOk result (λ field. (reads : List ReadOf)
-        → AreRead files.now reads → IsFieldToken files.now reads name.now field) }
-    ensures free { IfOk result (λ _. (n : ℕ) → n < 10 → IsDeletionCase files.now name.now n → ⊥) }
-    ensures err { IfErr result (IsDeletionRefusal files.now name.now) }
+        → AreRead linked.now.files reads → IsFieldToken linked.now.files reads name.now field) }
+    ensures free { IfOk result (λ _. (n : ℕ) → n < 10
+        → IsDeletionCase linked.now.files name.now n → ⊥) }
+    ensures err { IfErr result (IsDeletionRefusal linked.now.files name.now) }
 {
-    are_read(files);
+    let link = linked.link();
     let Some(id) = link.symbol(name) else {
         return Err(Refusal::UnknownTarget);
     };
@@ -203,7 +203,7 @@ pub fn delete_field(
 {
     are_read(files);
     statements_are_one();
-    let field = field_named(files, link, name)?;
+    let field = field_named(&CleanLinked::new(files, link), name)?;
     let tree = files.tree(field.file);
     if is_alone(tree, field.token) {
         return Err(Refusal::LastOfOneof);

@@ -21,6 +21,7 @@ use proto_base::NoMemory;
 use proto_edit_entries::{Change, Refusal};
 use proto_files::{Files, are_read, offset_of};
 use proto_names::{Link, RefId};
+use proto_resolved::CleanLinked;
 use proto_text::Span;
 use proto_tree::Import;
 use std::alloc::Global;
@@ -37,26 +38,19 @@ fn needed_refusal(alloc: Global, files: &Files, reference: RefId) -> Result<Refu
 }
 
 /// Case 15: no reference of any file needs the import.
-fn check_needed(
-    alloc: Global,
-    files: &Files,
-    link: &Link,
-    paths: Paths,
-    file: u32,
-    to: u32,
-) -> Result<(), Refusal>
-    requires link { IsLinkOf files.now link.now }
-    requires linked { HasNoFault (LinkFaults files.now) }
-    requires file { IsPlaceOf files.now paths.file.now file }
-    requires to { IsPlaceOf files.now paths.path.now to }
-    requires before { (n : ℕ) → n < 15 → IsDropCase files.now paths.file.now paths.path.now n → ⊥ }
+fn check_needed(alloc: Global, linked: &CleanLinked<'_>, paths: Paths) -> Result<(), Refusal>
+    requires file { IsPlaceOf linked.now.files paths.file.now paths.from }
+    requires to { IsPlaceOf linked.now.files paths.path.now paths.to }
+    requires before { (n : ℕ) → n < 15
+        → IsDropCase linked.now.files paths.file.now paths.path.now n → ⊥ }
     ensures free { IfOk result (λ _. (n : ℕ)
-        → IsDropCase files.now paths.entry.file.now paths.entry.path.now n → ⊥) }
-    ensures err { IfErr result (IsDropRefusal files.now paths.entry.file.now paths.entry.path.now) }
+        → IsDropCase linked.now.files paths.entry.file.now paths.entry.path.now n → ⊥) }
+    ensures err { IfErr result
+        (IsDropRefusal linked.now.files paths.entry.file.now paths.entry.path.now) }
 {
-    are_read(files);
-    let seen = seen_without(alloc, files, file, to)?;
-    match first_needed(files, link, &seen) {
+    let files = linked.files();
+    let seen = seen_without(alloc, linked, paths.from, paths.to)?;
+    match first_needed(linked, &seen) {
         None => Ok(()),
         Some(reference) => Err(needed_refusal(alloc, files, reference)?),
     }
@@ -67,12 +61,11 @@ fn changes_of_drop(
     alloc: Global,
     files: &Files,
     paths: Paths,
-    file: u32,
     import: Import,
 ) -> Result<Vec<Change>, Refusal>
-    requires file { IsPlaceOf files.now paths.file.now file }
+    requires file { IsPlaceOf files.now paths.file.now paths.from }
     requires import { (reads : List ReadOf) → AreRead files.now reads
-        → IsImportOf files.now reads file paths.path.now import }
+        → IsImportOf files.now reads paths.from paths.path.now import }
     requires free { (n : ℕ) → IsDropCase files.now paths.file.now paths.path.now n → ⊥ }
     ensures ok { IfOk result (λ cs. HasDropChanges files.now paths.entry.file.now
         paths.entry.path.now
@@ -80,6 +73,7 @@ fn changes_of_drop(
     ensures err { IfErr result (IsDropRefusal files.now paths.entry.file.now paths.entry.path.now) }
 {
     are_read(files);
+    let file = paths.from;
     // A text is short.
     files.source(file).as_bytes();
     let tokens = files.tokens(file);
@@ -112,7 +106,6 @@ pub fn drop_import(
     are_read(files);
     // The paths of a workspace are apart.
     files.len();
-    let paths = Paths { file, path };
     let Some(from) = files.place_of_path(file) else {
         return Err(Refusal::UnknownFile);
     };
@@ -123,6 +116,12 @@ pub fn drop_import(
     let Some(to) = files.place_of_path(path) else {
         unreachable!();
     };
-    check_needed(alloc, files, link, paths, from, to)?;
-    changes_of_drop(alloc, files, paths, from, import)
+    let paths = Paths {
+        file,
+        path,
+        from,
+        to,
+    };
+    check_needed(alloc, &CleanLinked::new(files, link), paths)?;
+    changes_of_drop(alloc, files, paths, import)
 }

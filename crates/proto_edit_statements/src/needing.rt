@@ -1,16 +1,13 @@
 //! The first reference that needs an import.
 
 ghost use Rattle.std.specs.Prelude.{◌≡◌, ◌<◌, ℕ, List, length};
-ghost use Rattle.proto_files.specs.Faults.{HasNoFault};
 ghost use Rattle.proto_files.specs.FilesRead.{ReadOf, AreRead};
-ghost use Rattle.proto_names_imports.specs.Links.{LinkFaults};
-ghost use Rattle.proto_names.specs.LinkOfFiles.{IsLinkOf};
 ghost use Rattle.proto_edit_statements.specs.Steps.{AreSeenIn, IsFirstNeeded, first_hidden, is_hidden};
 ghost use Rattle.proto_edit_rules.specs.DropImport.{with_dropped};
 
-use proto_files::{Files, are_read};
 use proto_names::{Link, RefId, SymbolId};
 use proto_names_rules::marks::is_marked;
+use proto_resolved::CleanLinked;
 
 /// Whether a name is of a file that is not marked.
 fn is_hidden(link: &Link, marks: &[bool], symbol: SymbolId) -> bool
@@ -36,16 +33,14 @@ fn first_hidden(link: &Link, file: u32, marks: &[bool]) -> Option<u32>
 
 /// The first reference, by file and first token, that means a name of a file that its own would not
 /// see. For each file the files that it would see are marked.
-pub(crate) fn first_needed(files: &Files, link: &Link, seen: &[Vec<bool>]) -> Option<RefId>
-    requires link { IsLinkOf files.now link.now }
-    requires linked { HasNoFault (LinkFaults files.now) }
-    requires seen { length seen.now ≡ length files.now }
-    ensures { (reads : List ReadOf) → AreRead files.now reads → (k : ℕ) (path : List ℕ)
-        → AreSeenIn files.now (with_dropped files.now reads k path) seen.now
-        → IsFirstNeeded files.now reads k path result }
+pub(crate) fn first_needed(linked: &CleanLinked<'_>, seen: &[Vec<bool>]) -> Option<RefId>
+    requires { length seen.now ≡ length linked.now.files }
+    ensures { (reads : List ReadOf) → AreRead linked.now.files reads → (k : ℕ) (path : List ℕ)
+        → AreSeenIn linked.now.files (with_dropped linked.now.files reads k path) seen.now
+        → IsFirstNeeded linked.now.files reads k path result }
 {
-    are_read(files);
-    for place in 0..files.len() {
+    let link = linked.link();
+    for place in 0..linked.file_count() {
         let file = place as u32;
         if let Some(token) = first_hidden(link, file, &seen[place]) {
             return Some(RefId { file, token });

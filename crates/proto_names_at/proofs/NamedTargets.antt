@@ -6,9 +6,9 @@ use Rattle.proto_files.proofs.Common.{HasNoFault, FileOf, ReadOf, AreRead}
 use Rattle.proto_names_rules.proofs.Common.{At, at, Symbol, Token, joined, name_of, joined_apart, one_symbol, symbol_of}
 use Rattle.proto_names_imports.proofs.Common.{LinkFaults, link_skeleton, names_of_files, text_of, names_are_plain}
 use Rattle.proto_edit_rename_laws.proofs.Common.{IsNamed, Target, may_rename, files_are_linked, files_are_woven, targets_are_one}
-use Rattle.proto_edit_captures.specs.Aims.{IsAimOf, IsNoTarget}
-use Rattle.proto_edit_captures.specs.declared.aim.Aim.{Aim}
-use Rattle.proto_edit_captures.specs.declared.aim.NoTarget.TheVariants as no_target
+use Rattle.proto_edit_captures.specs.FoundTargets.{IsTargetOf, IsNoTarget}
+use Rattle.proto_edit_captures.specs.declared.rename_target.RenameTarget.{RenameTarget}
+use Rattle.proto_edit_captures.specs.declared.rename_target.NoTarget.TheVariants as no_target
 use Rattle.proto_names_at.specs.NamesAt.{DeclaresName, HasTarget}
 
 -- ---- a name that aims at nothing
@@ -32,10 +32,10 @@ not_allowed_has_none files clean name h reads are t =
 
 -- ---- a name that aims at something
 
-pub aimed_has_one : (files : List FileOf) (name : List ℕ) (a : Aim) → IsAimOf files a → a.name.now ≡ name → (reads : List ReadOf) → AreRead files reads → HasTarget files reads name
+pub aimed_has_one : (files : List FileOf) (name : List ℕ) (a : RenameTarget) → IsTargetOf files a → a.name.now ≡ name → (reads : List ReadOf) → AreRead files reads → HasTarget files reads name
 aimed_has_one files name a is named reads are = let t = is reads are in (t.0, subst (λ n. IsNamed files reads n t.0) named t.1.named)
 
-pub declared_here : (files : List FileOf) → HasNoFault (LinkFaults files) → (name : List ℕ) (a : Aim) → IsAimOf files a → a.name.now ≡ name → (place : At) (b : Bool) → IsTrue b ↔ ((a.file ≡ place.file) × (a.token ≡ place.token)) → (reads : List ReadOf) → AreRead files reads → IsTrue b ↔ DeclaresName files reads place name
+pub declared_here : (files : List FileOf) → HasNoFault (LinkFaults files) → (name : List ℕ) (a : RenameTarget) → IsTargetOf files a → a.name.now ≡ name → (place : At) (b : Bool) → IsTrue b ↔ ((a.file ≡ place.file) × (a.token ≡ place.token)) → (reads : List ReadOf) → AreRead files reads → IsTrue b ↔ DeclaresName files reads place name
 declared_here files clean name a is named place b test reads are =
     let t = is reads are in
     let mine : IsNamed files reads name t.0 = subst (λ n. IsNamed files reads n t.0) named t.1.named in (

@@ -1,18 +1,15 @@
 //! The name that a token declares.
 
 ghost use Rattle.std.specs.Prelude.{◌≡◌, ◌↔◌, ◌<◌, ℕ, List, IfOk, Some, get_or, length, option_map};
-ghost use Rattle.proto_files.specs.Faults.{HasNoFault};
 ghost use Rattle.proto_files.specs.FilesRead.{AreRead, ReadOf};
-ghost use Rattle.proto_names_imports.specs.Links.{LinkFaults};
-ghost use Rattle.proto_names.specs.LinkOfFiles.{IsLinkOf};
 ghost use Rattle.proto_names_at.specs.DeclaredAt.{text_declared_at};
 ghost use Rattle.proto_names_at.specs.NamesAt.{DeclaresName, IsOnlyName, at_place};
 
 use crate::place::Place;
-use crate::targets::{aim, is_at};
+use crate::targets::{is_at, target};
 use proto_base::NoMemory;
-use proto_files::Files;
 use proto_names::{DeclaredNames, Link, SymbolId};
+use proto_resolved::CleanLinked;
 use std::alloc::Global;
 
 /// One of these symbols.
@@ -40,23 +37,23 @@ fn text_declared_at(link: &Link, id: SymbolId, token: u32) -> Option<&str>
 /// The name, if there is one and the token declares what has it.
 fn if_declared<'a>(
     alloc: Global,
-    files: &Files,
-    link: &Link,
+    linked: &CleanLinked<'_>,
     name: Option<&'a str>,
     place: Place,
 ) -> Result<Option<&'a str>, NoMemory>
-    requires link { IsLinkOf files.now link.now }
-    requires linked { HasNoFault (LinkFaults files.now) }
-    ensures { IfOk result (λ found. (reads : List ReadOf) → AreRead files.now reads → (n : List ℕ)
-        → (option_map (λ text. text.now) found ≡ Some n) ↔ ((option_map (λ text. text.now) name.entry
-        ≡ Some n) × DeclaresName files.now reads (at_place place) n)) }
+    ensures { IfOk result (λ found. (reads : List ReadOf) → AreRead linked.now.files reads
+        → (n : List ℕ) → (option_map (λ text. text.now) found ≡ Some n)
+        ↔ ((option_map (λ text. text.now) name.entry ≡ Some n)
+        × DeclaresName linked.now.files reads (at_place place) n)) }
 {
     let Some(name) = name else {
         return Ok(None);
     };
-    match aim(alloc, files, link, name)? {
-        Some(aim) => {
-            if is_at(aim, place) {
+    // The files have no fault.
+    linked.files();
+    match target(alloc, linked, name)? {
+        Some(target) => {
+            if is_at(target, place) {
                 Ok(Some(name))
             } else {
                 Ok(None)
@@ -70,20 +67,18 @@ fn if_declared<'a>(
 /// key and its value, is declared at the same token, it is the field's.
 pub(crate) fn declared_name<'a>(
     alloc: Global,
-    files: &Files,
-    link: &'a Link,
+    linked: &CleanLinked<'a>,
     place: Place,
 ) -> Result<Option<&'a str>, NoMemory>
-    requires link { IsLinkOf files.now link.now }
-    requires linked { HasNoFault (LinkFaults files.now) }
-    ensures { IfOk result (λ found. IsOnlyName files.now
-        (λ reads. DeclaresName files.now reads (at_place place))
+    ensures { IfOk result (λ found. IsOnlyName linked.now.files
+        (λ reads. DeclaresName linked.now.files reads (at_place place))
         (option_map (λ text. text.now) found)) }
 {
+    let link = linked.link();
     let declared = link.declared_in(place.file);
     for index in 0..declared.len() {
         let name = text_declared_at(link, declared_symbol(&declared, index), place.token);
-        let found = if_declared(alloc, files, link, name, place)?;
+        let found = if_declared(alloc, linked, name, place)?;
         if found.is_some() {
             return Ok(found);
         }

@@ -15,31 +15,31 @@ use crate::references::referred_name;
 use proto_base::NoMemory;
 use proto_files::Files;
 use proto_names::Link;
+use proto_resolved::CleanLinked;
 use std::alloc::Global;
 
 /// The name for which a token of one of the files stands: it declares it, is a word of a reference to
 /// it, or a default that means it.
 fn name_in_file<'a>(
     alloc: Global,
-    files: &Files,
-    link: &'a Link,
+    linked: &CleanLinked<'a>,
     place: Place,
 ) -> Result<Option<&'a str>, NoMemory>
-    requires file { place.file < length files.now }
-    requires link { IsLinkOf files.now link.now }
-    requires linked { HasNoFault (LinkFaults files.now) }
+    requires { place.file < length linked.now.files }
     ensures { IfOk result (λ found.
-        IsNameAt files.now (at_place place) (option_map (λ text. text.now) found)) }
+        IsNameAt linked.now.files (at_place place) (option_map (λ text. text.now) found)) }
 {
-    let declared = declared_name(alloc, files, link, place)?;
+    // The files have no fault.
+    linked.files();
+    let declared = declared_name(alloc, linked, place)?;
     if declared.is_some() {
         return Ok(declared);
     }
-    let found = referred_name(alloc, files, link, place)?;
+    let found = referred_name(alloc, linked, place)?;
     if found.is_some() {
         return Ok(found);
     }
-    default_name(alloc, files, link, place)
+    default_name(alloc, linked, place)
 }
 
 /// The full name, without a leading dot, that stands at the token with this index of the file with
@@ -61,7 +61,8 @@ pub fn name_at(
     if file as usize >= files.len() {
         return Ok(None);
     }
-    match name_in_file(alloc, files, link, Place { file, token })? {
+    let linked = CleanLinked::new(files, link);
+    match name_in_file(alloc, &linked, Place { file, token })? {
         Some(name) => Ok(Some(name.to_string(alloc)?)),
         None => Ok(None),
     }

@@ -5,22 +5,20 @@ ghost use Rattle.std.specs.String.{string_bytes};
 ghost use Rattle.proto_base.specs.Ascii as ascii;
 ghost use Rattle.proto_text.specs.Texts.{word_at};
 ghost use Rattle.proto_tree.specs.References.{dotted};
-ghost use Rattle.proto_files.specs.Faults.{HasNoFault};
 ghost use Rattle.proto_files.specs.FilesRead.{AreRead, ReadOf};
-ghost use Rattle.proto_names_imports.specs.Links.{LinkFaults};
-ghost use Rattle.proto_names.specs.LinkOfFiles.{IsLinkOf};
 ghost use Rattle.proto_names.specs.Linking.{name_text};
 ghost use Rattle.proto_edit_rules.specs.Rename.{dotted_text};
 ghost use Rattle.proto_names_at.specs.NamesAt.{HasTarget, IsOnlyName, RefersToName, at_place};
 ghost use Rattle.proto_names_at.specs.References.{behind_token, word_meant, word_of};
 
 use crate::place::Place;
-use crate::targets::aim;
+use crate::targets::target;
 use proto_base::NoMemory;
-use proto_files::{Files, Words, are_read};
+use proto_files::Words;
 use proto_names::{Link, Meant};
 use proto_names_outline::file_listing::list_file;
 use proto_names_outline::listing::Use;
+use proto_resolved::CleanLinked;
 use proto_tree::{Behind, Dotted};
 use std::alloc::Global;
 
@@ -115,18 +113,17 @@ fn front_of<'a>(
 /// renamed.
 fn name_of_word<'a>(
     alloc: Global,
-    files: &Files,
-    link: &'a Link,
+    linked: &CleanLinked<'a>,
     place: Place,
 ) -> Result<Option<&'a str>, NoMemory>
-    requires file { place.file < length files.now }
-    requires link { IsLinkOf files.now link.now }
-    requires linked { HasNoFault (LinkFaults files.now) }
-    ensures { IfOk result (λ found. (reads : List ReadOf) → AreRead files.now reads → (n : List ℕ)
-        → ((option_map (λ text. text.now) found ≡ Some n) × HasTarget files.now reads n)
-        ↔ RefersToName files.now reads (at_place place) n) }
+    requires { place.file < length linked.now.files }
+    ensures { IfOk result (λ found. (reads : List ReadOf) → AreRead linked.now.files reads
+        → (n : List ℕ)
+        → ((option_map (λ text. text.now) found ≡ Some n) × HasTarget linked.now.files reads n)
+        ↔ RefersToName linked.now.files reads (at_place place) n) }
 {
-    are_read(files);
+    let files = linked.files();
+    let link = linked.link();
     let listing = list_file(alloc, files.tree(place.file))?;
     let meant = link.meant_in(place.file);
     let words = Words::new(files, place.file);
@@ -140,21 +137,18 @@ fn name_of_word<'a>(
 /// stands for it with its last word, and each word before that for the name before.
 pub(crate) fn referred_name<'a>(
     alloc: Global,
-    files: &Files,
-    link: &'a Link,
+    linked: &CleanLinked<'a>,
     place: Place,
 ) -> Result<Option<&'a str>, NoMemory>
-    requires file { place.file < length files.now }
-    requires link { IsLinkOf files.now link.now }
-    requires linked { HasNoFault (LinkFaults files.now) }
-    ensures { IfOk result (λ found. IsOnlyName files.now
-        (λ reads. RefersToName files.now reads (at_place place))
+    requires { place.file < length linked.now.files }
+    ensures { IfOk result (λ found. IsOnlyName linked.now.files
+        (λ reads. RefersToName linked.now.files reads (at_place place))
         (option_map (λ text. text.now) found)) }
 {
-    let Some(name) = name_of_word(alloc, files, link, place)? else {
+    let Some(name) = name_of_word(alloc, linked, place)? else {
         return Ok(None);
     };
-    match aim(alloc, files, link, name)? {
+    match target(alloc, linked, name)? {
         Some(_) => Ok(Some(name)),
         None => Ok(None),
     }

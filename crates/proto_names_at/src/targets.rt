@@ -1,45 +1,41 @@
-//! What a name aims at.
+//! The target that a name has.
 
 ghost use Rattle.std.specs.Prelude.{◌≡◌, ◌↔◌, List, IsTrue, IfOk, IfSome, IfNone};
-ghost use Rattle.proto_files.specs.Faults.{HasNoFault};
 ghost use Rattle.proto_files.specs.FilesRead.{AreRead, ReadOf};
-ghost use Rattle.proto_names_imports.specs.Links.{LinkFaults};
-ghost use Rattle.proto_names.specs.LinkOfFiles.{IsLinkOf};
-ghost use Rattle.proto_edit_captures.specs.Aims.{IsAimOf};
+ghost use Rattle.proto_edit_captures.specs.FoundTargets.{IsTargetOf};
 ghost use Rattle.proto_names_at.specs.NamesAt.{HasTarget};
 
 use crate::place::Place;
 use proto_base::NoMemory;
-use proto_edit_captures::{Aim, NoTarget, target};
-use proto_files::Files;
-use proto_names::Link;
+use proto_edit_captures::{NoTarget, RenameTarget, find_target};
+use proto_resolved::CleanLinked;
 use std::alloc::Global;
 
-/// What the name aims at, if it is that of a symbol that may be renamed.
-pub(crate) fn aim<'a>(
+/// The target with this name, if a symbol that may be renamed has it.
+pub(crate) fn target<'a>(
     alloc: Global,
-    files: &Files,
-    link: &Link,
+    linked: &CleanLinked<'_>,
     name: &'a str,
-) -> Result<Option<Aim<'a>>, NoMemory>
-    requires link { IsLinkOf files.now link.now }
-    requires linked { HasNoFault (LinkFaults files.now) }
+) -> Result<Option<RenameTarget<'a>>, NoMemory>
     ensures some { IfOk result (λ found. IfSome found
-        (λ aim. IsAimOf files.now aim × (aim.name.now ≡ name.entry.now))) }
+        (λ target. IsTargetOf linked.now.files target × (target.name.now ≡ name.entry.now))) }
     ensures none { IfOk result (λ found. IfNone found ((reads : List ReadOf)
-        → AreRead files.now reads → HasTarget files.now reads name.entry.now → ⊥)) }
+        → AreRead linked.now.files reads → HasTarget linked.now.files reads name.entry.now → ⊥)) }
 {
-    match target(alloc, files, link, name) {
-        Ok(aim) => Ok(Some(aim)),
+    // The files have no fault.
+    linked.files();
+    match find_target(alloc, linked, name) {
+        Ok(target) => Ok(Some(target)),
         Err(NoTarget::Unknown) => Ok(None),
         Err(NoTarget::NotAllowed) => Ok(None),
         Err(NoTarget::NoMemory) => Err(NoMemory),
     }
 }
 
-/// Whether the aim stands at the token.
-pub(crate) fn is_at(aim: Aim, place: Place) -> bool
-    ensures { IsTrue result ↔ ((aim.entry.file ≡ place.file) × (aim.entry.token ≡ place.token)) }
+/// Whether the target stands at the token.
+pub(crate) fn is_at(target: RenameTarget, place: Place) -> bool
+    ensures { IsTrue result
+        ↔ ((target.entry.file ≡ place.file) × (target.entry.token ≡ place.token)) }
 {
-    aim.file == place.file && aim.token == place.token
+    target.file == place.file && target.token == place.token
 }

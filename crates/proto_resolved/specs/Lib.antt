@@ -1,6 +1,7 @@
 pub mod Blocks
 pub mod Common
 pub mod Enums
+pub mod LinkedFiles
 pub mod Meanings
 pub mod SceneOf
 pub mod Scenes

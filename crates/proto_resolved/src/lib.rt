@@ -4,7 +4,9 @@
 
 mod blocks;
 pub mod enum_table;
+mod linked;
 pub mod scenes;
 
 pub use blocks::{BlockAt, blocks_of};
+pub use linked::{CleanLinked, Linked};
 pub use proto_names::{Derived, Link};

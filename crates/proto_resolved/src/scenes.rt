@@ -2,17 +2,17 @@
 
 ghost use Rattle.std.specs.Prelude.{◌≡◌, ◌<◌, [], length, get_or, map, option_map, IfOk};
 ghost use Rattle.std.specs.List.{AllPairs};
-ghost use Rattle.proto_names.specs.LinkOfFiles.{IsLinkOf};
 ghost use Rattle.proto_ast.specs.Views.{enum_of, meant_of};
 ghost use Rattle.proto_resolved.specs.Scenes.{AreScenes, IsSceneOf};
 ghost use Rattle.proto_resolved.specs.Enums.{IsEnumTable, enum_in};
 ghost use Rattle.proto_resolved.specs.Meanings.{HasEnumsMeant, enum_of_name, meant_in_table};
 
 use crate::enum_table::{EnumRow, enum_at};
+use crate::linked::Linked;
 use indexmap::IndexMap;
 use proto_ast::{EnumAt, MeantAt, Scene, is_proto3};
 use proto_base::NoMemory;
-use proto_files::{Files, Words};
+use proto_files::Words;
 use proto_names::{Link, Meant, SymbolId};
 use std::alloc::Global;
 
@@ -65,42 +65,38 @@ fn means<'a>(
     Ok(means)
 }
 
-/// The file with this number, from 0, as checks and descriptors read it. The link is that of the
-/// files, and the table has the enums that references of this file mean. Fails only when out of
-/// memory.
+/// The file with this number, from 0, as checks and descriptors read it. The table has the enums
+/// that references of this file mean. Fails only when out of memory.
 pub fn scene<'a>(
     alloc: Global,
-    files: &'a Files,
-    link: &'a Link,
+    linked: &Linked<'a>,
     table: &'a [IndexMap<u32, EnumRow<'a>>],
     file: u32,
 ) -> Result<Scene<'a>, NoMemory>
-    requires file { file < length files.now }
-    requires link { IsLinkOf files.now link.now }
-    requires table { HasEnumsMeant files.now link.now file table.now }
-    ensures { IfOk result (IsSceneOf files.now file) }
+    requires file { file < length linked.now.files }
+    requires table { HasEnumsMeant linked.now.files linked.now.link file table.now }
+    ensures { IfOk result (IsSceneOf linked.now.files file) }
 {
+    let files = linked.files();
     let words = Words::new(files, file);
     let is_proto3 = is_proto3(&words, files.tree(file));
-    let means = means(alloc, link, table, file)?;
+    let means = means(alloc, linked.link(), table, file)?;
     Ok(Scene::new(words, files.profile(file), is_proto3, means))
 }
 
-/// Each file as checks and descriptors read it, in the order of their paths. The link is that of
-/// the files, and the table is of their enums. Fails only when out of memory.
+/// Each file as checks and descriptors read it, in the order of their paths. The table is of their
+/// enums. Fails only when out of memory.
 pub fn scenes<'a>(
     alloc: Global,
-    files: &'a Files,
-    link: &'a Link,
+    linked: &Linked<'a>,
     table: &'a [IndexMap<u32, EnumRow<'a>>],
 ) -> Result<Vec<Scene<'a>>, NoMemory>
-    requires link { IsLinkOf files.now link.now }
-    requires table { IsEnumTable files.now table.now }
-    ensures { IfOk result (λ scenes. AreScenes files.now scenes.items) }
+    requires { IsEnumTable linked.now.files table.now }
+    ensures { IfOk result (λ scenes. AreScenes linked.now.files scenes.items) }
 {
     let mut scenes = Vec::new(alloc);
-    for file in 0..files.len() as u32 {
-        scenes.push(scene(alloc, files, link, table, file)?)?;
+    for file in 0..linked.file_count() as u32 {
+        scenes.push(scene(alloc, linked, table, file)?)?;
     }
     Ok(scenes)
 }

@@ -8,9 +8,9 @@ use Rattle.proto_all_faults.proofs.checks.check_faults.Goals as goal
 
 pub returns : goal.returns
 returns c =
-    let files = c.args.files.now in
-    let reads = c.are_read.ensures.0 in
-    let are = c.are_read.ensures.1 in
+    let files = c.args.linked.now.files in
+    let reads = c.files.ensures.linked.reads in
+    let are = c.files.ensures.linked.read in
     let faults = CheckFaultsUpTo (Some past) files in
     in_their_order faults (map fault_at c.in_ok-found.found.items) (map fault_at c.in_order.result.items)
     (subst (AreFound faults) (sym (c.in_ok-found.ensures reads are)) (checks_found (Some past) files reads are))

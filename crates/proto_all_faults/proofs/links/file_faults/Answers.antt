@@ -11,4 +11,4 @@ pub returns-in-Ok : goal.returns-in-Ok
 returns-in-Ok c =
     let files = c.args.files.now in
     IfOk-weaker c.check_faults-listed.result (λ v. AreAllOf (CheckFaultsUpTo (Some past) files) (map fault_at v.items)) (λ v. AreAllOf (FirstPhase (FileFaultsUpTo (Some past) files)) (map fault_at v.items))
-    (λ v all. checks_last (Some past) files c.len-count.ensures.clean (map fault_at v.items) c.in-Ok.ensures.clean all) c.check_faults-listed.ensures
+    (λ v all. checks_last (Some past) files c.len-count.ensures.clean (map fault_at v.items) c.in-Ok.ensures.clean all) (rw c.new-in-Ok.ensures.files at c.check_faults-listed.ensures)

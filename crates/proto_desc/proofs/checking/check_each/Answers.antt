@@ -6,17 +6,17 @@ use Rattle.proto_desc.proofs.checking.check_each.Goals as goal
 
 pub returns-in_err-check_file-clause-fault : goal.returns-in_err-check_file-clause-fault
 returns-in_err-check_file-clause-fault c =
-    let files = c.args.files.now in
-    let within : c.loop-file.file < length files = omega (arith, c.loop-file-test.true, c.len-file-end.ensures.len) in
+    let files = c.args.linked.now.files in
+    let within : c.loop-file.file < length files = omega (arith, c.loop-file-test.true, c.file_count-file-end.ensures.len) in
     let exit = err_from_is_err_and c.from_residual.result c.from_residual.ensures.1 in
-    rw (exit.1, exit.2) (check_error files c.are_read.ensures.0 c.are_read.ensures.1 c.len-count.ensures.workspace c.loop-file.file within c.loop-file.invariant c.in_err-check_file.field-0.0 c.in_err-check_file.ensures.fault)
+    rw (exit.1, exit.2) (check_error files c.files-files.ensures.linked.reads c.files-files.ensures.linked.read c.file_count-file-end.ensures.workspace c.loop-file.file within c.loop-file.invariant c.in_err-check_file.field-0.0 (rw c.files-files.ensures.files at c.in_err-check_file.ensures.fault))
 
 pub loop-file-preserved : goal.loop-file-preserved
 loop-file-preserved c = λ k l. elim (cases_lt k c.loop-file.file) [
   | inl before ↦ c.loop-file.invariant k before
-  | inr past ↦ (let same : c.loop-file.file ≡ k = omega (arith, l, past) in subst (λ (i : ℕ). HasNoFlaw c.args.files.now i) same c.in_ok-check_file.ensures.clean)
+  | inr past ↦ (let same : c.loop-file.file ≡ k = omega (arith, l, past) in subst (λ (i : ℕ). HasNoFlaw c.args.linked.now.files i) same (rw c.files-files.ensures.files at c.in_ok-check_file.ensures.clean))
 ]
 
 pub returns-clause-clean : goal.returns-clause-clean
 returns-clause-clean c =
-    no_fault c.args.files.now c.are_read.ensures.0 c.are_read.ensures.1 (λ k l. c.loop-file.invariant k (omega (arith, l, c.loop-file-test.false, c.len-file-end.ensures.len, c.loop-file.auto.file-end)))
+    no_fault c.args.linked.now.files c.files-files.ensures.linked.reads c.files-files.ensures.linked.read (λ k l. c.loop-file.invariant k (omega (arith, l, c.loop-file-test.false, c.file_count-file-end.ensures.len, c.loop-file.auto.file-end)))

@@ -8,5 +8,5 @@ use Rattle.proto_desc.proofs.checking.descriptors.Given as goal
 abbrev pub invariant-loop-file : goal.invariant-loop-file
 invariant-loop-file l = record {
   len : length l.descriptors.items ≡ l.file;
-  each : (reads : List ReadOf) → AreRead l.files reads → Each (λ k d. file_desc d ≡ file_described (scene_of None l.files reads k) (file_at l.files k).path (read_at reads k).tree) l.descriptors.items;
+  each : (reads : List ReadOf) → AreRead l.linked.files reads → Each (λ k d. file_desc d ≡ file_described (scene_of None l.linked.files reads k) (file_at l.linked.files k).path (read_at reads k).tree) l.descriptors.items;
 }

@@ -7,17 +7,17 @@ use Rattle.proto_desc.proofs.renewing.check_again.Goals as goal
 
 pub returns : goal.returns
 returns c =
-    let files = c.args.files.now in
+    let files = c.args.linked.now.files in
     let file = c.args.file in
     let scene = c.in_ok-scene.scene in
     let tree = tree_of_file c.tree-tree.result.now in
     let flaws = c.in_ok-flaws.flaws.items in
     let count : length flaws ≡ 0 = search rules in
     record {
-      flawless = λ reads are. none_of_file files file c.requires.file scene c.in_ok-scene.ensures tree c.tree-tree.ensures reads are (sym c.in_ok-flaws.ensures ∙ nil_from_length flaws count);
+      flawless = λ reads are. none_of_file files file c.requires.file scene c.in_ok-scene.ensures tree (rw c.files-files.ensures.files at c.tree-tree.ensures) reads are (sym c.in_ok-flaws.ensures ∙ nil_from_length flaws count);
       described = λ reads are.
           (c.in_ok-descriptor.ensures
-          ∙ ap (λ p. file_described scene p tree) c.path.ensures
-          ∙ described_of_file files file c.requires.file scene c.in_ok-scene.ensures tree c.tree-tree.ensures reads are);
+          ∙ ap (λ p. file_described scene p tree) (rw c.files-files.ensures.files at c.path.ensures)
+          ∙ described_of_file files file c.requires.file scene c.in_ok-scene.ensures tree (rw c.files-files.ensures.files at c.tree-tree.ensures) reads are);
       kept = c.in_ok-kept.ensures;
     }

@@ -7,7 +7,7 @@ use Rattle.proto_desc.proofs.renewing.check_marked.Goals.{then-marks-file+in_ok-
 
 pub loop-file-preserved : goal.loop-file-preserved
 loop-file-preserved c =
-    let files = c.args.files.now in
+    let files = c.args.linked.now.files in
     let marks = c.args.marks.now in
     let done = c.loop-file.all.items in
     let after = c.if-marks-file.all.items in

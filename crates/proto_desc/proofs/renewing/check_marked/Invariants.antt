@@ -6,5 +6,5 @@ use Rattle.proto_desc.proofs.renewing.check_marked.Given as goal
 abbrev pub invariant-loop-file : goal.invariant-loop-file
 invariant-loop-file l = record {
   len : length l.all.items ≡ l.file;
-  each : Each (λ file made. IsMadeIfMarked l.files (get_or l.marks file false) file made) l.all.items;
+  each : Each (λ file made. IsMadeIfMarked l.linked.files (get_or l.marks file false) file made) l.all.items;
 }

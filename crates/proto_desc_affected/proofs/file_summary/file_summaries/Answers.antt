@@ -12,8 +12,8 @@ loop-file-preserved c =
     let more : file_summaries_of c.push.new.self.items ≡ was ++ one ∷ [] = ap (map file_summary_of) c.in_ok-push.ensures.items ∙ map-append file_summary_of c.loop-file.kept.items (c.in_ok-new.field-0 ∷ []) in
     record {
       len = omega (arith, ap length more, length-append was (one ∷ []), c.loop-file.invariant.len);
-      each = each_pushed (IsKeptOf c.args.files.now) was (file_summaries_of c.push.new.self.items) one c.loop-file.file more c.loop-file.invariant.len c.loop-file.invariant.each c.in_ok-new.ensures;
+      each = each_pushed (IsKeptOf c.args.linked.now.files) was (file_summaries_of c.push.new.self.items) one c.loop-file.file more c.loop-file.invariant.len c.loop-file.invariant.each c.in_ok-new.ensures;
     }
 
 pub returns : goal.returns
-returns c = record { len = omega (arith, c.loop-file.invariant.len, c.loop-file-test.false, c.len-file-end.ensures.len, c.loop-file.auto.file-end); each = c.loop-file.invariant.each }
+returns c = record { len = omega (arith, c.loop-file.invariant.len, c.loop-file-test.false, c.file_count-file-end.ensures.len, c.loop-file.auto.file-end); each = c.loop-file.invariant.each }

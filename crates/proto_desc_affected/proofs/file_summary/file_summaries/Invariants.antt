@@ -7,5 +7,5 @@ use Rattle.proto_desc_affected.proofs.file_summary.file_summaries.Given as goal
 abbrev pub invariant-loop-file : goal.invariant-loop-file
 invariant-loop-file l = record {
   len : length (file_summaries_of l.kept.items) ≡ l.file;
-  each : Each (λ file k. IsKeptOf l.files file k) (file_summaries_of l.kept.items);
+  each : Each (λ file k. IsKeptOf l.linked.files file k) (file_summaries_of l.kept.items);
 }

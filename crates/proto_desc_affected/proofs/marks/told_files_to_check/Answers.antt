@@ -7,14 +7,14 @@ use Rattle.proto_desc_affected.proofs.marks.told_files_to_check.Goals as goal
 
 pub returns-clause-others : goal.returns-clause-others
 returns-clause-others c =
-    let files = c.args.files.now in
+    let files = c.args.linked.now.files in
     let places = c.args.places.now in
-    let l = c.args.link.now in
+    let l = c.args.linked.now.link in
     let ks = file_summaries_of c.args.kept.now in
     let told = c.args.told.now in
     let unsure = c.mark_users.new.marks.items in
     IfOk-weaker c.unsure_to_check.result _ _
-    (λ found asked. told_others c.marks_tell_kept.ensures c.links_have_what_is_kept.ensures.listed places files l c.requires.link ks told unsure found.items c.requires.told
-    (subst (λ (marks : List Bool). MarksStay marks unsure) c.in_ok-unsure.ensures.items c.mark_users.ensures.stay) c.mark_users.ensures.marked
+    (λ found asked. told_others c.marks_tell_kept.ensures c.links_have_what_is_kept.ensures.listed places files l c.link.ensures.linked.link ks told unsure found.items c.requires.told
+    (subst (λ (marks : List Bool). MarksStay marks unsure) c.in_ok-unsure.ensures.items c.mark_users.ensures.stay) (rw c.link.ensures.link at c.mark_users.ensures.marked)
     (subst (λ (us : List Bool). AreUnsureKept places files l ks us found.items) c.deref.ensures.value asked))
     c.unsure_to_check.ensures.others

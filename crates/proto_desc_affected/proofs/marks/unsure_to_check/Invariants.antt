@@ -7,5 +7,5 @@ use Rattle.proto_desc_affected.proofs.marks.unsure_to_check.Given as goal
 abbrev pub invariant-loop-file : goal.invariant-loop-file
 invariant-loop-file l = record {
   len : length l.marks.items ≡ l.file;
-  others : Each (λ file mark. mark ≡ false → (get_or l.unsure file false ≡ false) ⊎ IsKeptStill l.places l.files l.link (file_summaries_of l.kept) file) l.marks.items;
+  others : Each (λ file mark. mark ≡ false → (get_or l.unsure file false ≡ false) ⊎ IsKeptStill l.places l.linked.files l.linked.link (file_summaries_of l.kept) file) l.marks.items;
 }

@@ -7,6 +7,6 @@ use Rattle.proto_desc_extensions.proofs.flaws.flaws_with.Given as goal
 abbrev pub invariant-loop-file : goal.invariant-loop-file
 invariant-loop-file l = record {
   len : length l.found.items ≡ l.file;
-  each : (reads : List ReadOf) → AreRead l.files reads → Each (λ k flaws. flaws.items ≡ workspace_flaws (Some past) l.files reads k) l.found.items;
-  seen : (reads : List ReadOf) → AreRead l.files reads → HasSeen l.seen (map (told l.files reads) (extensions_before (Some past) l.files reads l.file));
+  each : (reads : List ReadOf) → AreRead l.linked.files reads → Each (λ k flaws. flaws.items ≡ workspace_flaws (Some past) l.linked.files reads k) l.found.items;
+  seen : (reads : List ReadOf) → AreRead l.linked.files reads → HasSeen l.seen (map (told l.linked.files reads) (extensions_before (Some past) l.linked.files reads l.file));
 }

@@ -16,39 +16,39 @@ first_is (Some i) words = refl
 
 pub returns-in_err-meant : goal.returns-in_err-meant
 returns-in_err-meant c = λ reads are.
-    (let files = c.args.files.now in
+    (let files = c.args.at.now.linked.now.files in
     let r = c.args.reference.now in
     let first = c.unwrap_or-first.ensures ∙ first_is r.dot r.words in
-    subst (IsExtendee files reads c.args.file r) (sym c.from_residual.ensures)
-    (meant_none files reads c.args.link.now (c.requires.link reads are) c.args.file c.requires.file r (sym (c.in_err-meant.ensures ∙ ap (meant_at c.args.link.now c.args.file) first))))
+    subst (IsExtendee files reads c.args.at.now.file r) (sym c.from_residual.ensures)
+    (meant_none files reads c.args.at.now.linked.now.link (c.link-link.ensures.linked.link reads are) c.args.at.now.file c.requires.file r (sym ((rw c.link-link.ensures.link at c.in_err-meant.ensures) ∙ ap (meant_at c.args.at.now.linked.now.link c.args.at.now.file) first))))
 
 pub returns-in_err-name : goal.returns-in_err-name
 returns-in_err-name c = λ reads are.
-    (let files = c.args.files.now in
+    (let files = c.args.at.now.linked.now.files in
     let r = c.args.reference.now in
     let first = c.unwrap_or-first.ensures ∙ first_is r.dot r.words in
-    let m = meant_some files reads c.args.link.now (c.requires.link reads are) c.args.file c.requires.file r c.in_ok-meant.meant.row (sym (c.in_ok-meant.ensures ∙ ap (meant_at c.args.link.now c.args.file) first)) in
-    absurd (none-some _ (c.in_err-name.ensures ∙ text_there files reads c.args.link.now (c.requires.link reads are) c.args.file c.requires.file r c.in_ok-meant.meant.row m)))
+    let m = meant_some files reads c.args.at.now.linked.now.link (c.link-link.ensures.linked.link reads are) c.args.at.now.file c.requires.file r c.in_ok-meant.meant.row (sym ((rw c.link-link.ensures.link at c.in_ok-meant.ensures) ∙ ap (meant_at c.args.at.now.linked.now.link c.args.at.now.file) first)) in
+    absurd (none-some _ ((rw c.link-link.ensures.link at c.in_err-name.ensures) ∙ text_there files reads c.args.at.now.linked.now.link (c.link-link.ensures.linked.link reads are) c.args.at.now.file c.requires.file r c.in_ok-meant.meant.row m)))
 
 pub returns-in_err-declared : goal.returns-in_err-declared
 returns-in_err-declared c = λ reads are.
-    (let files = c.args.files.now in
+    (let files = c.args.at.now.linked.now.files in
     let r = c.args.reference.now in
     let first = c.unwrap_or-first.ensures ∙ first_is r.dot r.words in
-    let m = meant_some files reads c.args.link.now (c.requires.link reads are) c.args.file c.requires.file r c.in_ok-meant.meant.row (sym (c.in_ok-meant.ensures ∙ ap (meant_at c.args.link.now c.args.file) first)) in
-    absurd (none-some _ (c.in_err-declared.ensures.exact ∙ file_there files reads c.args.link.now (c.requires.link reads are) c.args.file c.requires.file r c.in_ok-meant.meant.row m)))
+    let m = meant_some files reads c.args.at.now.linked.now.link (c.link-link.ensures.linked.link reads are) c.args.at.now.file c.requires.file r c.in_ok-meant.meant.row (sym ((rw c.link-link.ensures.link at c.in_ok-meant.ensures) ∙ ap (meant_at c.args.at.now.linked.now.link c.args.at.now.file) first)) in
+    absurd (none-some _ ((rw c.link-link.ensures.link at c.in_err-declared.ensures.exact) ∙ file_there files reads c.args.at.now.linked.now.link (c.link-link.ensures.linked.link reads are) c.args.at.now.file c.requires.file r c.in_ok-meant.meant.row m)))
 
 pub returns : goal.returns
 returns c = λ reads are.
-    (let files = c.args.files.now in
-    let l = c.args.link.now in
-    let link = c.requires.link reads are in
+    (let files = c.args.at.now.linked.now.files in
+    let l = c.args.at.now.linked.now.link in
+    let link = c.link-link.ensures.linked.link reads are in
     let r = c.args.reference.now in
     let row = c.in_ok-meant.meant.row in
     let first = c.unwrap_or-first.ensures ∙ first_is r.dot r.words in
-    let m = meant_some files reads l link c.args.file c.requires.file r row (sym (c.in_ok-meant.ensures ∙ ap (meant_at l c.args.file) first)) in
-    found_extendee files reads l link c.args.file c.requires.file r row m (record { name = c.in_ok-name.name; ranges = c.index_at.result }) c.in_ok-declared.declared c.in_ok-token.token
-    (same_Some _ _ (c.in_ok-name.ensures ∙ text_there files reads l link c.args.file c.requires.file r row m))
-    (same_Some _ _ (c.in_ok-declared.ensures.exact ∙ file_there files reads l link c.args.file c.requires.file r row m))
-    (same_Some _ _ (c.in_ok-token.ensures ∙ token_there files reads l link c.args.file c.requires.file r row m))
+    let m = meant_some files reads l link c.args.at.now.file c.requires.file r row (sym ((rw c.link-link.ensures.link at c.in_ok-meant.ensures) ∙ ap (meant_at l c.args.at.now.file) first)) in
+    found_extendee files reads l link c.args.at.now.file c.requires.file r row m (record { name = c.in_ok-name.name; ranges = c.index_at.result }) c.in_ok-declared.declared c.in_ok-token.token
+    (same_Some _ _ ((rw c.link-link.ensures.link at c.in_ok-name.ensures) ∙ text_there files reads l link c.args.at.now.file c.requires.file r row m))
+    (same_Some _ _ ((rw c.link-link.ensures.link at c.in_ok-declared.ensures.exact) ∙ file_there files reads l link c.args.at.now.file c.requires.file r row m))
+    (same_Some _ _ ((rw c.link-link.ensures.link at c.in_ok-token.ensures) ∙ token_there files reads l link c.args.at.now.file c.requires.file r row m))
     (subst (IsRangeIndexOf (extension_ranges_at (Some past) files reads (at c.in_ok-declared.declared c.in_ok-token.token))) (sym c.index_at.ensures) (c.requires.table reads are (at c.in_ok-declared.declared c.in_ok-token.token))))

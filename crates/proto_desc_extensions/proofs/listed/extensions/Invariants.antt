@@ -6,5 +6,5 @@ use Rattle.proto_desc_extensions.specs.Common.{block_extensions, told, told_by}
 use Rattle.proto_desc_extensions.proofs.listed.extensions.Given as goal
 
 abbrev pub invariant-loop-block : goal.invariant-loop-block
-invariant-loop-block l = (reads : List ReadOf) → AreRead l.files reads
-    → map told_by l.found.items ≡ map (told l.files reads) (flat_map (block_extensions (Some past) l.files reads l.file) (map block_of (take l.block-index l.block-items)))
+invariant-loop-block l = (reads : List ReadOf) → AreRead l.at.linked.now.files reads
+    → map told_by l.found.items ≡ map (told l.at.linked.now.files reads) (flat_map (block_extensions (Some past) l.at.linked.now.files reads l.at.file) (map block_of (take l.block-index l.block-items)))

@@ -7,21 +7,21 @@ use Rattle.proto_edit_captures.proofs.capturing.is_shown_from.Goals as goal
 
 pub loop-part-preserved : goal.loop-part-preserved
 loop-part-preserved c =
-    let test : List ℕ → Bool = λ front. shown_below c.args.link.now c.args.looking.file c.args.looking.is_long (texts_of c.args.names.now) front c.args.word.now in
+    let test : List ℕ → Bool = λ front. shown_below c.args.after.now.link.now c.args.after.now.file c.args.around.is_long (texts_of c.args.after.now.names.now) front c.args.word.now in
     let here = string_bytes c.extend.new.name in
     let here_is = c.in_ok-extend.ensures ∙ ap (under (string_bytes c.loop-part.front)) c.as_str.ensures.value in
-    let tested = c.in_ok-is_shown_in.ensures ∙ ap (λ z. nat_le c.args.least (length z) && test z) c.as_str-in-loop-part.ensures.value in
-    c.loop-part.invariant ∙ not_shown_here string_bytes test c.args.least c.args.scope.now c.loop-part.part-index c.part-item.result (string_bytes c.loop-part.front) here c.loop-part-test.true c.part-item.is here_is (sym tested ∙ c.if-branch.false)
+    let tested = c.in_ok-is_shown_in.ensures ∙ ap (λ z. nat_le c.args.around.least (length z) && test z) c.as_str-in-loop-part.ensures.value in
+    c.loop-part.invariant ∙ not_shown_here string_bytes test c.args.around.least c.args.around.scope.now c.loop-part.part-index c.part-item.result (string_bytes c.loop-part.front) here c.loop-part-test.true c.part-item.is here_is (sym tested ∙ c.if-branch.false)
 
 pub returns-then-branch : goal.returns-then-branch
 returns-then-branch c =
-    let test : List ℕ → Bool = λ front. shown_below c.args.link.now c.args.looking.file c.args.looking.is_long (texts_of c.args.names.now) front c.args.word.now in
+    let test : List ℕ → Bool = λ front. shown_below c.args.after.now.link.now c.args.after.now.file c.args.around.is_long (texts_of c.args.after.now.names.now) front c.args.word.now in
     let here = string_bytes c.extend.new.name in
     let here_is = c.in_ok-extend.ensures ∙ ap (under (string_bytes c.loop-part.front)) c.as_str.ensures.value in
-    let tested = c.in_ok-is_shown_in.ensures ∙ ap (λ z. nat_le c.args.least (length z) && test z) c.as_str-in-loop-part.ensures.value in
-    sym (c.loop-part.invariant ∙ shown_here string_bytes test c.args.least c.args.scope.now c.loop-part.part-index c.part-item.result (string_bytes c.loop-part.front) here c.loop-part-test.true c.part-item.is here_is (sym tested ∙ c.if-branch.true))
+    let tested = c.in_ok-is_shown_in.ensures ∙ ap (λ z. nat_le c.args.around.least (length z) && test z) c.as_str-in-loop-part.ensures.value in
+    sym (c.loop-part.invariant ∙ shown_here string_bytes test c.args.around.least c.args.around.scope.now c.loop-part.part-index c.part-item.result (string_bytes c.loop-part.front) here c.loop-part-test.true c.part-item.is here_is (sym tested ∙ c.if-branch.true))
 
 pub returns : goal.returns
 returns c =
-    let test : List ℕ → Bool = λ front. shown_below c.args.link.now c.args.looking.file c.args.looking.is_long (texts_of c.args.names.now) front c.args.word.now in
-    sym (c.loop-part.invariant ∙ at_drop_all (λ parts. shown_from test c.args.least (string_bytes c.loop-part.front) (map string_bytes parts)) c.args.scope.now c.loop-part.part-index (omega arith))
+    let test : List ℕ → Bool = λ front. shown_below c.args.after.now.link.now c.args.after.now.file c.args.around.is_long (texts_of c.args.after.now.names.now) front c.args.word.now in
+    sym (c.loop-part.invariant ∙ at_drop_all (λ parts. shown_from test c.args.around.least (string_bytes c.loop-part.front) (map string_bytes parts)) c.args.around.scope.now c.loop-part.part-index (omega arith))

@@ -10,15 +10,16 @@ use Rattle.proto_edit_captures.proofs.first.first_in.Goals as goal
 
 pub returns : goal.returns
 returns c =
-    let files = c.args.files.now in
+    let files = c.args.linked.now.files in
     let file = c.args.file in
-    let l = c.args.link.now in
+    let l = c.args.linked.now.link in
     let n = texts_of c.args.names.now in
     let declared = c.in_ok-listing.listing.declared.items in
     let us = c.in_ok-listing.listing.used.items in
     let ms = c.meant_in.result.now in
-    if_ok c.first_of.result c.first_of.ensures (λ first h reads t to r texts.
-    first_is files reads t to r l c.requires.link c.visible_is_seen.ensures.shown file c.requires.file n texts declared us ms
-    (c.in_ok-listing.ensures.used ∙ ap (λ z. (file_names z).used) (sym (same_tree files reads file (tree_of_file c.tree.result.now) r.read c.requires.file c.tree.ensures)))
-    c.meant_in.ensures.exact first
-    (h ∙ ap (λ z. first_passing (captures_by l file n (word_at z) declared) us ms) (c.new-words.ensures.words (read_at reads file).tokens (r.read.tokens file c.requires.file))))
+    let same = c.files-files.ensures.files in
+    if_ok c.first_of.result (rw c.link-link.ensures.link at c.first_of.ensures) (λ first h reads t to r texts.
+    first_is files reads t to r l c.link-link.ensures.clean.link c.visible_is_seen.ensures.shown file c.requires n texts declared us ms
+    (c.in_ok-listing.ensures.used ∙ ap (λ z. (file_names z).used) (sym (same_tree files reads file (tree_of_file c.tree.result.now) r.read c.requires (rw same at c.tree.ensures))))
+    (rw c.link-link.ensures.link at c.meant_in.ensures.exact) first
+    (h ∙ ap (λ z. first_passing (captures_by l file n (word_at z) declared) us ms) ((rw same at c.new-words.ensures.words) (read_at reads file).tokens (r.read.tokens file c.requires))))

@@ -5,10 +5,10 @@ use Rattle.proto_edit_rename.proofs.changes.change_in.Goals as goal
 
 pub returns-clause-change : goal.returns-clause-change
 returns-clause-change c =
-    let are = subst (ArePlacesIn c.args.sought.now.files.now c.args.sought.now.aim c.args.file) (sym c.deref.ensures.value) c.in_ok-places.ensures in
-    changed_in c.args.sought.now.files.now c.args.sought.now.aim c.args.file c.deref.result.now c.args.to.now are c.change_of_file.result c.change_of_file.ensures.change
+    let are = subst (ArePlacesIn c.args.scope.now.files c.args.scope.now.target c.args.file) (sym c.deref.ensures.value) c.in_ok-places.ensures in
+    changed_in c.args.scope.now.files c.args.scope.now.target c.args.file c.deref.result.now c.args.to.now are c.change_of_file.result (rw c.files.ensures at c.change_of_file.ensures.change)
 
 pub returns-clause-fault : goal.returns-clause-fault
 returns-clause-fault c =
-    let are = subst (ArePlacesIn c.args.sought.now.files.now c.args.sought.now.aim c.args.file) (sym c.deref.ensures.value) c.in_ok-places.ensures in
-    faulty_in c.args.sought.now.files.now c.args.sought.now.aim c.args.file c.deref.result.now c.args.to.now are c.change_of_file.result c.change_of_file.ensures.fault
+    let are = subst (ArePlacesIn c.args.scope.now.files c.args.scope.now.target c.args.file) (sym c.deref.ensures.value) c.in_ok-places.ensures in
+    faulty_in c.args.scope.now.files c.args.scope.now.target c.args.file c.deref.result.now c.args.to.now are c.change_of_file.result (rw c.files.ensures at c.change_of_file.ensures.fault)

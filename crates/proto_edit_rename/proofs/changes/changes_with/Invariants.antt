@@ -3,8 +3,8 @@ use Rattle.proto_edit_entries.specs.Entries.{change_of}
 use Rattle.proto_files.specs.FilesRead.{ReadOf, AreRead}
 use Rattle.proto_edit_rules.specs.Rename.{Target, renamed_words}
 use Rattle.proto_edit_rename.proofs.WholeChanges.{AreChangesUpTo}
-use Rattle.proto_edit_captures.specs.Aims.{IsAimedAt}
+use Rattle.proto_edit_captures.specs.FoundTargets.{IsFoundTarget}
 use Rattle.proto_edit_rename.proofs.changes.changes_with.Given as goal
 
 abbrev pub invariant-loop-file : goal.invariant-loop-file
-invariant-loop-file l = (reads : List ReadOf) → AreRead l.sought.files.now reads → (t : Target) → IsAimedAt l.sought.files.now reads l.sought.aim t → AreChangesUpTo l.sought.files.now reads (renamed_words l.sought.files.now reads t l.to) l.file (map change_of l.changes.items)
+invariant-loop-file l = (reads : List ReadOf) → AreRead l.scope.files reads → (t : Target) → IsFoundTarget l.scope.files reads l.scope.target t → AreChangesUpTo l.scope.files reads (renamed_words l.scope.files reads t l.to) l.file (map change_of l.changes.items)

@@ -7,7 +7,7 @@ use Rattle.proto_edit_rename.proofs.file_occurrences.occurrences_in.Goals as goa
 pub returns-then-is_empty : goal.returns-then-is_empty
 returns-then-is_empty c =
     let none : c.in_ok-places.places.items ≡ [] = sym c.as_slice.ensures.value ∙ nil_from_length c.as_slice.result.now (eqb-true (length c.as_slice.result.now) 0 (sym c.is_empty.ensures ∙ c.if-is_empty.true)) in
-    subst (ArePlacesIn c.args.sought.now.files.now c.args.sought.now.aim c.args.file) none c.in_ok-places.ensures
+    subst (ArePlacesIn c.args.scope.now.files c.args.scope.now.target c.args.file) none c.in_ok-places.ensures
 
 pub returns : goal.returns
 returns c =
@@ -17,5 +17,5 @@ returns c =
       refl,
       some_stay items tokens c.in_order-tokens.ensures.same some,
       c.in_order-tokens.ensures.rising,
-      places_in_order c.args.sought.now.files.now c.args.sought.now.aim c.args.file items tokens c.in_order-tokens.ensures.same c.in_ok-places.ensures,
+      places_in_order c.args.scope.now.files c.args.scope.now.target c.args.file items tokens c.in_order-tokens.ensures.same c.in_ok-places.ensures,
     )

@@ -1,19 +1,39 @@
-use Rattle.std.proofs.Common.{List, ℕ, Bor, option_map, ◌≡◌, ◌++◌, sym, ap₂, subst, ◌∙◌}
-use Rattle.proto_edit_rename.specs.Changes.{ArePlacesIn, or_own}
+use Rattle.std.proofs.Common.{◌≡◌, ◌<◌, ◌++◌, ℕ, List, Bool, Option, false, length, get_or, sym, ap, ap₂, subst, ◌∙◌, option_map, string_bytes}
+use Rattle.proto_edit_rename.specs.Changes.{ArePlacesIn, HasDefaultsIn, or_own}
+use Rattle.proto_edit_rename.specs.RenameScopes.{RenameScopeOf}
 use Rattle.proto_edit_rename.proofs.ChangedMarks.{nothing_changes}
 use Rattle.proto_edit_rename.proofs.Placed.{places_are}
 use Rattle.proto_edit_rename.proofs.places.places_in.Goals as goal
 
+pub standing_in-requires : goal.standing_in-requires
+standing_in-requires c = rw (ap (λ (s : RenameScopeOf). s.files) c.scope.view_is) c.requires
+
+pub defaults_in-requires : goal.defaults_in-requires
+defaults_in-requires c = rw (ap (λ (s : RenameScopeOf). s.files) c.scope.view_is) c.requires
+
 pub returns : goal.returns
 returns c =
-    let a = c.args.sought.now.aim in
-    let items : c.push_all.new.places.items ≡ (c.in_ok-places.places.items ++ or_own a.file a.token c.args.file) ++ c.in_ok-defaults.defaults.items =
-    c.in_ok-push_all.ensures ∙ ap₂ (λ (x y : List ℕ). x ++ y) c.in_ok-push_own.ensures c.deref.ensures.value in
-    subst (ArePlacesIn c.args.sought.now.files.now a c.args.file) (sym items)
-    (places_are c.args.sought.now.files.now a c.args.file c.requires.file (option_map (λ (x : Bor (List ℕ)). x.now) c.args.sought.now.enum_name) c.args.sought.now.old.now c.requires.value c.in_ok-places.places.items c.in_ok-defaults.defaults.items c.in_ok-places.ensures c.in_ok-defaults.ensures)
+    let i = c.scope.inside in
+    let files = i.linked.now.files in
+    let a = i.target in
+    let file = c.args.file in
+    let enum = option_map string_bytes i.enum_name in
+    let places = c.in_ok-places.places.items in
+    let defaults = c.in_ok-defaults.defaults.items in
+    let within : file < length files = rw (ap (λ (s : RenameScopeOf). s.files) c.scope.view_is) c.requires in
+    let found : HasDefaultsIn files file enum i.old.now defaults = subst (λ (o : Option (List ℕ)). HasDefaultsIn files file o i.old.now defaults) c.as_deref-enum_name.ensures.value c.in_ok-defaults.ensures in
+    let items : c.push_all.new.places.items ≡ (places ++ or_own a.file a.token file) ++ defaults =
+    c.in_ok-push_all.ensures ∙ ap₂ (λ (x y : List ℕ). x ++ y) c.in_ok-push_own.ensures c.deref-2.ensures.value in
+    rw (← c.scope.view_is) (subst (ArePlacesIn files a file) (sym items)
+    (places_are files a file within enum i.old.now c.scope.invariant.value places defaults c.in_ok-places.ensures found))
 
 pub returns-then-not-is_marked : goal.returns-then-not-is_marked
 returns-then-not-is_marked c =
-    let s = c.args.sought.now in
-    subst (ArePlacesIn s.files.now s.aim c.args.file) (sym c.new.ensures.items)
-    (nothing_changes s.files.now c.requires.linked s.link.now c.requires.link s.aim (option_map (λ (x : Bor (List ℕ)). x.now) s.enum_name) s.marks.now c.requires.marks c.args.file c.requires.file (sym c.is_marked.ensures ∙ c.if-not-is_marked.true) s.old.now c.requires.value)
+    let i = c.scope.inside in
+    let is = c.scope.invariant in
+    let files = i.linked.now.files in
+    let file = c.args.file in
+    let within : file < length files = rw (ap (λ (s : RenameScopeOf). s.files) c.scope.view_is) c.requires in
+    let unmarked : get_or i.marks.items file false ≡ false = ap (λ (ms : List Bool). get_or ms file false) (sym c.deref.ensures.value) ∙ sym c.is_marked.ensures ∙ c.if-not-is_marked.true in
+    rw (← c.scope.view_is) (subst (ArePlacesIn files i.target file) (sym c.new.ensures.items)
+    (nothing_changes files is.clean.clean i.linked.now.link is.clean.link i.target (option_map string_bytes i.enum_name) i.marks.items is.changed file within unmarked i.old.now is.value))

@@ -5,4 +5,4 @@ use Rattle.proto_edit_rename.proofs.renaming.changes_or_refusal.Goals as goal
 
 pub returns-in-Ok-clause-ok : goal.returns-in-Ok-clause-ok
 returns-in-Ok-clause-ok c =
-    is_renamed c.args.files.now c.requires.linked c.args.aim c.requires.aim c.args.to.now c.are_read.ensures.0 c.are_read.ensures.1 (map change_of c.in-Ok.changes.items) c.in-Ok.ensures.ok c.requires.before
+    is_renamed c.args.linked.now.files c.files.ensures.clean.clean c.args.target c.requires.target c.args.to.now c.files.ensures.clean.reads c.files.ensures.clean.read (map change_of c.in-Ok.changes.items) c.in-Ok.ensures.ok c.requires.before

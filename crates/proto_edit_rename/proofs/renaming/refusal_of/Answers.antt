@@ -5,4 +5,4 @@ use Rattle.proto_edit_rename.proofs.renaming.refusal_of.Goals as goal
 
 pub returns-in-TooLarge : goal.returns-in-TooLarge
 returns-in-TooLarge c =
-    large_refused c.args.files.now c.requires.linked c.args.aim c.requires.aim c.args.to.now c.are_read.ensures.0 c.are_read.ensures.1 (subst (IsChangesFault c.args.files.now c.args.aim c.args.to.now) c.in-TooLarge.is c.requires.fault) c.requires.before
+    large_refused c.args.linked.now.files c.files.ensures.clean.clean c.args.target c.requires.target c.args.to.now c.files.ensures.clean.reads c.files.ensures.clean.read (subst (IsChangesFault c.args.linked.now.files c.args.target c.args.to.now) c.in-TooLarge.is c.requires.fault) c.requires.before

@@ -8,24 +8,24 @@ use Rattle.proto_edit_rename.proofs.ReservedNames.{reserves_from, reserves_to}
 use Rattle.proto_edit_rename.proofs.reserved.is_reserved.Goals as goal
 
 pub scene-scene-requires : goal.scene-scene-requires
-scene-scene-requires c = let t = c.requires c.are_read.ensures.0 c.are_read.ensures.1 in aim_inside c.args.files.now c.are_read.ensures.0 c.are_read.ensures.1 c.args.aim t.0 t.1
+scene-scene-requires c = let t = c.requires c.files-files.ensures.clean.reads c.files-files.ensures.clean.read in rw c.files-files.ensures.files (aim_inside c.args.linked.now.files c.files-files.ensures.clean.reads c.files-files.ensures.clean.read c.args.target t.0 t.1)
 
 pub tree-requires : goal.tree-requires
-tree-requires c = let t = c.requires c.are_read.ensures.0 c.are_read.ensures.1 in aim_inside c.args.files.now c.are_read.ensures.0 c.are_read.ensures.1 c.args.aim t.0 t.1
+tree-requires c = let t = c.requires c.files-files.ensures.clean.reads c.files-files.ensures.clean.read in rw c.files-files.ensures.files (aim_inside c.args.linked.now.files c.files-files.ensures.clean.reads c.files-files.ensures.clean.read c.args.target t.0 t.1)
 
 pub returns : goal.returns
 returns c =
     IfOk-weaker c.one_reserves.result _ _
     (λ b e. λ reads are t h.
-    let files = c.args.files.now in
+    let files = c.args.linked.now.files in
     let tree = tree_of_file c.tree.result.now in
-    let aim = c.args.aim in
+    let aim = c.args.target in
     let within = aim_inside files reads are aim t h in
-    let as_read = c.scene-scene.ensures reads are in
+    let as_read = (rw c.files-files.ensures.files at c.scene-scene.ensures) reads are in
     let blocks = ap (map block_of) c.deref.ensures.value ∙ c.in_ok-blocks.ensures in
     let same = e ∙ ap (list_any (reserves c.scene-scene.result aim.token c.args.word.now)) blocks in
     subst (λ a. IsTrue b ↔ ReservesWord files reads a c.args.word.now) h.token (
-      (λ is. reserves_to files reads are aim.file within c.scene-scene.result as_read tree c.tree.ensures aim.token c.args.word.now (sym same ∙ is)),
-      (λ r. same ∙ reserves_from files reads are aim.file within c.scene-scene.result as_read tree c.tree.ensures aim.token c.args.word.now r),
+      (λ is. reserves_to files reads are aim.file within c.scene-scene.result as_read tree (rw c.files-files.ensures.files at c.tree.ensures) aim.token c.args.word.now (sym same ∙ is)),
+      (λ r. same ∙ reserves_from files reads are aim.file within c.scene-scene.result as_read tree (rw c.files-files.ensures.files at c.tree.ensures) aim.token c.args.word.now r),
     ))
     c.one_reserves.ensures

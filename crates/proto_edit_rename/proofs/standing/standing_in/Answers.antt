@@ -20,44 +20,44 @@ if_ok P Q f (Err e) h = tt
 
 pub returns-then-not-is_outer : goal.returns-then-not-is_outer
 returns-then-not-is_outer c = λ reads are t aimed to i.
-    (let files = c.args.files.now in
+    (let files = c.args.linked.now.files in
     let inner : is_outer t.aim.kind ≡ false = ap is_outer (sym aimed.kind) ∙ sym c.is_outer.ensures ∙ c.if-not-is_outer.true in
     let nothing = c.new.ensures.items in (
       λ h. absurd (let none = subst (λ (z : List ℕ). Contains z i) nothing h in omega (arith, none.1)),
-      λ h. absurd (none_stands files reads are c.requires.linked c.args.aim.name.now to t aimed.named inner (at c.args.file i) h),
+      λ h. absurd (none_stands files reads are c.files-files.ensures.clean.clean c.args.target.name.now to t aimed.named inner (at c.args.file i) h),
     ))
 
 pub returns-then-not-one_goes_on : goal.returns-then-not-one_goes_on
 returns-then-not-one_goes_on c = λ reads are t aimed to i.
-    (let files = c.args.files.now in
-    let l = c.args.link.now in
-    let name = c.args.aim.name.now in
+    (let files = c.args.linked.now.files in
+    let l = c.args.linked.now.link in
+    let name = c.args.target.name.now in
     let none : list_any (λ m. goes_on l name m.row) (get_or l.meant c.args.file []) ≡ false =
-    ap (list_any (λ (m : Meant). goes_on l name m.row)) (sym c.meant_in-meant.ensures.exact) ∙ sym c.one_goes_on.ensures ∙ c.if-not-one_goes_on.true in
+    ap (list_any (λ (m : Meant). goes_on l name m.row)) (sym (rw c.link-link.ensures.link at c.meant_in-meant.ensures.exact)) ∙ sym (rw c.link-link.ensures.link at c.one_goes_on.ensures) ∙ c.if-not-one_goes_on.true in
     let nothing = c.new-then-not-one_goes_on.ensures.items in (
       λ h. absurd (let empty = subst (λ (z : List ℕ). Contains z i) nothing h in omega (arith, empty.1)),
-      λ h. absurd (none_goes_on files reads are c.requires.linked l (c.requires.link reads are) name to t aimed.named c.args.file c.requires.file [] none i h),
+      λ h. absurd (none_goes_on files reads are c.files-files.ensures.clean.clean l (c.files-files.ensures.clean.link reads are) name to t aimed.named c.args.file c.requires [] none i h),
     ))
 
 pub standing_words-requires : goal.standing_words-requires
 standing_words-requires c =
-    let files = c.args.files.now in
-    let reads = c.are_read.ensures.0 in
-    let are : AreRead files reads = c.are_read.ensures.1 in
+    let files = c.args.linked.now.files in
+    let reads = c.files-files.ensures.clean.reads in
+    let are : AreRead files reads = c.files-files.ensures.clean.read in
     let listing = c.in_ok-listing.listing in
-    let used = c.in_ok-listing.ensures.used ∙ uses_are files reads are c.args.file c.requires.file (tree_of_file c.tree.result.now) (c.tree.ensures (read_at reads c.args.file).tokens (are.tokens c.args.file c.requires.file)) in
-    ap length c.meant_in-meant.ensures.exact
-    ∙ meant_are_as_many files reads c.args.link.now (c.requires.link reads are) c.args.file c.requires.file
+    let used = c.in_ok-listing.ensures.used ∙ uses_are files reads are c.args.file c.requires (tree_of_file c.tree.result.now) ((rw c.files-files.ensures.files at c.tree.ensures) (read_at reads c.args.file).tokens (are.tokens c.args.file c.requires)) in
+    ap length (rw c.link-link.ensures.link at c.meant_in-meant.ensures.exact)
+    ∙ meant_are_as_many files reads c.args.linked.now.link (c.files-files.ensures.clean.link reads are) c.args.file c.requires
     ∙ sym (ap length used)
     ∙ length-map listing.used.items (used_by (read listing.declared.items))
     ∙ sym (ap length c.deref.ensures.value)
 
 pub returns : goal.returns
 returns c = if_ok _ _ (λ found h reads are t aimed to i.
-    (let files = c.args.files.now in
+    (let files = c.args.linked.now.files in
     let listing = c.in_ok-listing.listing in
-    let used = c.in_ok-listing.ensures.used ∙ uses_are files reads are c.args.file c.requires.file (tree_of_file c.tree.result.now) (c.tree.ensures (read_at reads c.args.file).tokens (are.tokens c.args.file c.requires.file)) in
-    let is = h ∙ ap (λ (z : List Use). standing_tokens c.args.link.now c.args.aim.name.now z c.meant_in-meant.result.now) c.deref.ensures.value ∙ ap (standing_tokens c.args.link.now c.args.aim.name.now listing.used.items) c.meant_in-meant.ensures.exact in
+    let used = c.in_ok-listing.ensures.used ∙ uses_are files reads are c.args.file c.requires (tree_of_file c.tree.result.now) ((rw c.files-files.ensures.files at c.tree.ensures) (read_at reads c.args.file).tokens (are.tokens c.args.file c.requires)) in
+    let is = h ∙ ap (λ (z : List Use). standing_tokens c.args.linked.now.link c.args.target.name.now z c.meant_in-meant.result.now) c.deref.ensures.value ∙ ap (standing_tokens c.args.linked.now.link c.args.target.name.now listing.used.items) (rw c.link-link.ensures.link at c.meant_in-meant.ensures.exact) in
     subst (λ (z : List ℕ). Contains z i ↔ Contains (flat_map (standing (text_of files reads) (link_skeleton files reads) (name_map files reads t to)) (link_skeleton files reads).used) (at c.args.file i)) (sym is)
-    (counted_are_standing files reads are c.requires.linked c.args.link.now (c.requires.link reads are) c.args.aim.name.now to t aimed.named c.args.file c.requires.file (read listing.declared.items) listing.used.items used i)))
-    c.standing_words.result c.standing_words.ensures
+    (counted_are_standing files reads are c.files-files.ensures.clean.clean c.args.linked.now.link (c.files-files.ensures.clean.link reads are) c.args.target.name.now to t aimed.named c.args.file c.requires (read listing.declared.items) listing.used.items used i)))
+    c.standing_words.result (rw c.link-link.ensures.link at c.standing_words.ensures)

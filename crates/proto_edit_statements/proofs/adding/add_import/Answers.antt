@@ -9,10 +9,10 @@ pub returns-in_default-place_of_path-clause-err : goal.returns-in_default-place_
 returns-in_default-place_of_path-clause-err c = no_path c.args.files.now c.are_read.ensures.0 c.are_read.ensures.1 c.args.file.now c.args.path.now (sym c.place_of_path-2.ensures ∙ c.in_default-place_of_path.is)
 
 pub check_captured-requires-clause-file : goal.check_captured-requires-clause-file
-check_captured-requires-clause-file c = sym c.place_of_path.ensures ∙ c.in-Some.is
+check_captured-requires-clause-file c = rw c.new-linked.ensures.files (sym c.place_of_path.ensures ∙ c.in-Some.is)
 
 pub check_captured-requires-clause-to : goal.check_captured-requires-clause-to
-check_captured-requires-clause-to c = sym c.place_of_path-2.ensures ∙ c.in-Some-place_of_path.is
+check_captured-requires-clause-to c = rw c.new-linked.ensures.files (sym c.place_of_path-2.ensures ∙ c.in-Some-place_of_path.is)
 
 pub check_new-requires-clause-file : goal.check_new-requires-clause-file
 check_new-requires-clause-file c = sym c.place_of_path.ensures ∙ c.in-Some.is

@@ -16,7 +16,7 @@ use Rattle.proto_edit_statements.proofs.adding.change_of_file.Goals.{in-Some, in
 pub bounds-tokens-token : goal.bounds-tokens-token
 bounds-tokens-token c =
     let files = c.args.files.now in
-    let file = c.args.file in
+    let file = c.args.paths.from in
     let within = place_within files c.args.paths.file.now file c.requires in
     let bytes = (file_at files file).bytes in
     let ts = c.tokens.result.now in
@@ -28,7 +28,7 @@ bounds-tokens-token c =
 pub splice_change-requires-clause-span : goal.splice_change-requires-clause-span
 splice_change-requires-clause-span c =
     let files = c.args.files.now in
-    let file = c.args.file in
+    let file = c.args.paths.from in
     let bytes = (file_at files file).bytes in
     let tree = tree_of_file c.tree.result.now in
     let d : Token = record { kind = Word; span = record { start = 0; end = 0 } } in
@@ -46,7 +46,7 @@ splice_change-requires-clause-span c =
 pub returns : goal.returns
 returns c =
     let files = c.args.files.now in
-    let file = c.args.file in
+    let file = c.args.paths.from in
     let path = c.args.paths.path.now in
     let bytes = (file_at files file).bytes in
     let within = place_within files c.args.paths.file.now file c.requires in

@@ -9,7 +9,7 @@ use Rattle.proto_edit_statements.proofs.adding.changes_of_addition.Goals as goal
 pub returns-in_ok-only-in-Some-clause-ok : goal.returns-in_ok-only-in-Some-clause-ok
 returns-in_ok-only-in-Some-clause-ok c =
     let files = c.args.files.now in
-    let file = c.args.file in
+    let file = c.args.paths.from in
     let path = c.args.paths.path.now in
     let reads = c.are_read.ensures.0 in
     let are = c.are_read.ensures.1 in
@@ -23,7 +23,7 @@ returns-in_ok-only-in-Some-clause-ok c =
 pub returns-in-None-clause-err : goal.returns-in-None-clause-err
 returns-in-None-clause-err c =
     let files = c.args.files.now in
-    let file = c.args.file in
+    let file = c.args.paths.from in
     let path = c.args.paths.path.now in
     let reads = c.are_read.ensures.0 in
     let are = c.are_read.ensures.1 in

@@ -17,7 +17,7 @@ use Rattle.proto_edit_statements.proofs.dropping.changes_of_drop.Goals as goal
 pub bounds-tokens-import : goal.bounds-tokens-import
 bounds-tokens-import c =
     let files = c.args.files.now in
-    let file = c.args.file in
+    let file = c.args.paths.from in
     let reads = c.are_read.ensures.0 in
     let are = c.are_read.ensures.1 in
     let within = place_within files c.args.paths.file.now file c.requires.file in
@@ -31,7 +31,7 @@ bounds-tokens-import c =
 pub bounds-tokens-import-2 : goal.bounds-tokens-import-2
 bounds-tokens-import-2 c =
     let files = c.args.files.now in
-    let file = c.args.file in
+    let file = c.args.paths.from in
     let reads = c.are_read.ensures.0 in
     let are = c.are_read.ensures.1 in
     let within = place_within files c.args.paths.file.now file c.requires.file in
@@ -44,7 +44,7 @@ bounds-tokens-import-2 c =
 pub splice_change-requires-clause-span : goal.splice_change-requires-clause-span
 splice_change-requires-clause-span c =
     let files = c.args.files.now in
-    let file = c.args.file in
+    let file = c.args.paths.from in
     let reads = c.are_read.ensures.0 in
     let are = c.are_read.ensures.1 in
     let ts = c.tokens-tokens.result.now in
@@ -58,7 +58,7 @@ splice_change-requires-clause-span c =
 pub unreachable-requires : goal.unreachable-requires
 unreachable-requires c =
     let files = c.args.files.now in
-    let file = c.args.file in
+    let file = c.args.paths.from in
     let ts = c.tokens-tokens.result.now in
     let start = (get_or ts c.args.import.keyword (record { kind = Word; span = record { start = 0; end = 0 } })).span.start in
     let end = (get_or ts c.args.import.semicolon (record { kind = Word; span = record { start = 0; end = 0 } })).span.end in
@@ -69,7 +69,7 @@ unreachable-requires c =
 pub returns-clause-ok : goal.returns-clause-ok
 returns-clause-ok c =
     let files = c.args.files.now in
-    let file = c.args.file in
+    let file = c.args.paths.from in
     let reads = c.are_read.ensures.0 in
     let are = c.are_read.ensures.1 in
     let ts = c.tokens-tokens.result.now in

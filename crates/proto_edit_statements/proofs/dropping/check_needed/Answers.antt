@@ -7,31 +7,31 @@ use Rattle.proto_edit_statements.proofs.dropping.check_needed.Goals as goal
 
 pub first_needed-requires-clause-seen : goal.first_needed-requires-clause-seen
 first_needed-requires-clause-seen c =
-    ap (λ (z : List (Vec Bool)). length z) c.deref.ensures.value ∙ (c.in_ok-seen.ensures c.are_read.ensures.0 c.are_read.ensures.1 c.args.paths.path.now c.requires.to).0
+    ap (λ (z : List (Vec Bool)). length z) c.deref.ensures.value ∙ (c.in_ok-seen.ensures c.files-files.ensures.clean.reads c.files-files.ensures.clean.read c.args.paths.path.now c.requires.to).0
 
 pub returns-in-None-clause-free : goal.returns-in-None-clause-free
 returns-in-None-clause-free c =
-    let files = c.args.files.now in
-    let reads = c.are_read.ensures.0 in
-    let are = c.are_read.ensures.1 in
+    let files = c.args.linked.now.files in
+    let reads = c.files-files.ensures.clean.reads in
+    let are = c.files-files.ensures.clean.read in
     let path = c.args.paths.path.now in
-    let sees = subst (AreSeenIn files (with_dropped files reads c.args.file path)) (sym c.deref.ensures.value) (c.in_ok-seen.ensures reads are path c.requires.to) in
-    free_15 files reads are c.args.paths.file.now path c.args.file c.requires.file c.requires.before (c.in-None.ensures reads are c.args.file path sees)
+    let sees = subst (AreSeenIn files (with_dropped files reads c.args.paths.from path)) (sym c.deref.ensures.value) (c.in_ok-seen.ensures reads are path c.requires.to) in
+    free_15 files reads are c.args.paths.file.now path c.args.paths.from c.requires.file c.requires.before (c.in-None.ensures reads are c.args.paths.from path sees)
 
 pub needed_refusal-requires : goal.needed_refusal-requires
-needed_refusal-requires c =
-    let files = c.args.files.now in
-    let reads = c.are_read.ensures.0 in
-    let are = c.are_read.ensures.1 in
+needed_refusal-requires c = rw c.files-files.ensures.files (
+    let files = c.args.linked.now.files in
+    let reads = c.files-files.ensures.clean.reads in
+    let are = c.files-files.ensures.clean.read in
     let path = c.args.paths.path.now in
-    let sees = subst (AreSeenIn files (with_dropped files reads c.args.file path)) (sym c.deref.ensures.value) (c.in_ok-seen.ensures reads are path c.requires.to) in
-    needed_inside files reads are c.args.file path c.in-Some.reference (c.in-Some.ensures reads are c.args.file path sees)
+    let sees = subst (AreSeenIn files (with_dropped files reads c.args.paths.from path)) (sym c.deref.ensures.value) (c.in_ok-seen.ensures reads are path c.requires.to) in
+    needed_inside files reads are c.args.paths.from path c.in-Some.reference (c.in-Some.ensures reads are c.args.paths.from path sees))
 
 pub returns-clause-err : goal.returns-clause-err
 returns-clause-err c =
-    let files = c.args.files.now in
-    let reads = c.are_read.ensures.0 in
-    let are = c.are_read.ensures.1 in
+    let files = c.args.linked.now.files in
+    let reads = c.files-files.ensures.clean.reads in
+    let are = c.files-files.ensures.clean.read in
     let path = c.args.paths.path.now in
-    let sees = subst (AreSeenIn files (with_dropped files reads c.args.file path)) (sym c.deref.ensures.value) (c.in_ok-seen.ensures reads are path c.requires.to) in
-    refused_15 files reads are c.args.paths.file.now path c.args.file c.requires.file c.requires.before c.in-Some.reference (c.in-Some.ensures reads are c.args.file path sees) c.in_ok-needed_refusal-in-Some.field-0 c.in_ok-needed_refusal-in-Some.ensures
+    let sees = subst (AreSeenIn files (with_dropped files reads c.args.paths.from path)) (sym c.deref.ensures.value) (c.in_ok-seen.ensures reads are path c.requires.to) in
+    refused_15 files reads are c.args.paths.file.now path c.args.paths.from c.requires.file c.requires.before c.in-Some.reference (c.in-Some.ensures reads are c.args.paths.from path sees) c.in_ok-needed_refusal-in-Some.field-0 (rw c.files-files.ensures.files at c.in_ok-needed_refusal-in-Some.ensures)

@@ -20,16 +20,16 @@ unreachable-requires c =
     none_missing files reads are c.requires.linked c.in-Some.from c.args.path.now (c.in-Some-import_named.ensures reads are).0 (sym c.place_of_path-2.ensures ∙ c.in_default-place_of_path.is)
 
 pub check_needed-requires-clause-file : goal.check_needed-requires-clause-file
-check_needed-requires-clause-file c = sym c.place_of_path.ensures ∙ c.in-Some.is
+check_needed-requires-clause-file c = rw c.new.ensures.files (sym c.place_of_path.ensures ∙ c.in-Some.is)
 
 pub check_needed-requires-clause-to : goal.check_needed-requires-clause-to
-check_needed-requires-clause-to c = sym c.place_of_path-2.ensures ∙ c.in-Some-place_of_path.is
+check_needed-requires-clause-to c = rw c.new.ensures.files (sym c.place_of_path-2.ensures ∙ c.in-Some-place_of_path.is)
 
 pub check_needed-requires-clause-before : goal.check_needed-requires-clause-before
 check_needed-requires-clause-before c =
-    free_13 c.args.files.now c.are_read.ensures.0 c.are_read.ensures.1 c.args.file.now c.args.path.now c.in-Some.from
+    rw c.new.ensures.files (free_13 c.args.files.now c.are_read.ensures.0 c.are_read.ensures.1 c.args.file.now c.args.path.now c.in-Some.from
     (sym c.place_of_path.ensures ∙ c.in-Some.is)
-    (c.in-Some-import_named.ensures c.are_read.ensures.0 c.are_read.ensures.1).0
+    (c.in-Some-import_named.ensures c.are_read.ensures.0 c.are_read.ensures.1).0)
 
 pub changes_of_drop-requires-clause-file : goal.changes_of_drop-requires-clause-file
 changes_of_drop-requires-clause-file c = sym c.place_of_path.ensures ∙ c.in-Some.is

@@ -9,14 +9,14 @@ returns-in-Some c = λ reads are k path sees. (
     let seen = c.args.seen.now in
     let place = c.loop-place.place in
     let test = c.loop-place-test.true in
-    let count = c.len-place-end.ensures.len in
-    let same = c.requires.seen in
-    let l : place < length c.args.files.now = omega (arith, test, count) in
+    let count = c.file_count-place-end.ensures.len in
+    let same = c.requires in
+    let l : place < length c.args.linked.now.files = omega (arith, test, count) in
     let m : place < length seen = omega (arith, test, count, same) in
     let marks = c.deref.ensures.value ∙ ap (λ v. v.items) c.index-seen-place.is ∙ sym (get_or-map (λ v. v.items) seen place c.index-seen-place.result [] m) in
-    first_of_all c.args.files.now reads are c.requires.linked c.args.link.now c.requires.link k path seen sees place c.in-Some.token l c.loop-place.invariant
-    (ap (first_hidden c.args.link.now place) (sym marks) ∙ sym c.in-Some.ensures))
+    first_of_all c.args.linked.now.files reads are c.link-link.ensures.clean.clean c.args.linked.now.link c.link-link.ensures.clean.link k path seen sees place c.in-Some.token l (rw c.link-link.ensures.link at c.loop-place.invariant)
+    (ap (first_hidden c.args.linked.now.link place) (sym marks) ∙ sym (rw c.link-link.ensures.link at c.in-Some.ensures)))
 
 pub returns : goal.returns
 returns c = λ reads are k path sees.
-    none_in_all c.args.files.now reads are c.requires.linked c.args.link.now c.requires.link k path c.args.seen.now sees c.loop-place.place (let f = c.loop-place-test.false in let count = c.len-place-end.ensures.len in let e = c.loop-place.auto.place-end in omega (arith, f, count, e)) c.loop-place.invariant
+    none_in_all c.args.linked.now.files reads are c.link-link.ensures.clean.clean c.args.linked.now.link c.link-link.ensures.clean.link k path c.args.seen.now sees c.loop-place.place (let f = c.loop-place-test.false in let count = c.file_count-place-end.ensures.len in let e = c.loop-place.auto.place-end in omega (arith, f, count, e)) (rw c.link-link.ensures.link at c.loop-place.invariant)

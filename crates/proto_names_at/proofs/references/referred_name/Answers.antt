@@ -7,13 +7,13 @@ use Rattle.proto_names_at.proofs.references.referred_name.Goals as goal
 pub returns-in_default : goal.returns-in_default
 returns-in_default c = λ reads are.
     (let said = λ (x : Bor (List ℕ)). x.now in
-    none_referred c.args.files.now reads (at_place c.args.place) (option_map said c.in_ok-name.field-0) (c.in_ok-name.ensures reads are) (ap (option_map said) c.in_default.is))
+    none_referred c.args.linked.now.files reads (at_place c.args.place) (option_map said c.in_ok-name.field-0) (c.in_ok-name.ensures reads are) (ap (option_map said) c.in_default.is))
 
 pub returns-in-Some-2 : goal.returns-in-Some-2
 returns-in-Some-2 c =
-    let aimed = rw c.in-Some-2.is at c.in_ok-aim.ensures.some in
+    let aimed = rw c.in-Some-2.is at c.in_ok-target.ensures.some in
     λ reads are name.
-    (let files = c.args.files.now in
+    (let files = c.args.linked.now.files in
     let a = at_place c.args.place in
     let said = λ (x : Bor (List ℕ)). x.now in
     let is = ap (option_map said) c.in-Some.is in
@@ -23,8 +23,8 @@ returns-in-Some-2 c =
 
 pub returns-in-None : goal.returns-in-None
 returns-in-None c =
-    let never = rw c.in-None.is at c.in_ok-aim.ensures.none in
+    let never = rw c.in-None.is at c.in_ok-target.ensures.none in
     λ reads are.
-    (let files = c.args.files.now in
+    (let files = c.args.linked.now.files in
     let said = λ (x : Bor (List ℕ)). x.now in
     not_referred files reads (at_place c.args.place) (option_map said c.in_ok-name.field-0) (c.in_ok-name.ensures reads are) c.in-Some.name.now (ap (option_map said) c.in-Some.is) (never reads are))

@@ -5,8 +5,8 @@ use Rattle.proto_desc.proofs.descriptors.Descriptors.renew_or_check.Goals.{then-
 
 pub returns-clause-descriptors : goal.returns-clause-descriptors
 returns-clause-descriptors c =
-    let are = AreDescriptorsOf c.args.files.now in
+    let are = AreDescriptorsOf c.args.clean.now.files in
     elim c.if-not-branch.branch [
-      | then-not-branch+in_ok-self w ↦ subst are (sym w.self-is) (record { described = w.in_ok-self.ensures.descriptors; kept = w.in_ok-self.ensures.kept })
+      | then-not-branch+in_ok-self w ↦ subst are (sym w.self-is) (record { described = rw w.files.ensures.files at w.in_ok-self.ensures.descriptors; kept = rw w.files.ensures.files at w.in_ok-self.ensures.kept })
       | else-not-branch w ↦ subst are (sym w.self-is) (c.in_ok-renew.ensures.descriptors w.if-not-branch.false)
     ]

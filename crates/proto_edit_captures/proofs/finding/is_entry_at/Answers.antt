@@ -1,7 +1,7 @@
 use Rattle.std.proofs.Common.{false, IsTrue}
 use Rattle.proto_names_rules.specs.Grown.{at}
 use Rattle.proto_edit_captures.proofs.LookedUp.{entry_found, no_entry_found}
-use Rattle.proto_edit_captures.proofs.aiming.is_entry_at.Goals as goal
+use Rattle.proto_edit_captures.proofs.finding.is_entry_at.Goals as goal
 
 pub returns-in-Some-place : goal.returns-in-Some-place
 returns-in-Some-place c =

@@ -1,11 +1,11 @@
-//! A written declaration, as a rename aims at it.
+//! The target of a rename: a written declaration.
 
 use proto_base::NoMemory;
 use proto_names_rules::Kind;
 
 /// A written declaration that may be renamed.
 #[derive(Clone, Copy)]
-pub struct Aim<'a> {
+pub struct RenameTarget<'a> {
     /// Its full name, without a leading dot.
     pub name: &'a str,
     pub kind: Kind,
@@ -29,7 +29,7 @@ pub enum NoTarget {
 
 impl From<NoMemory> for NoTarget {
     ghost use Rattle.std.specs.Prelude.{◌≡◌};
-    ghost use Rattle.proto_edit_captures.specs.declared.aim.NoTarget.TheVariants.{NoMemory as OutOfMemory};
+    ghost use Rattle.proto_edit_captures.specs.declared.rename_target.NoTarget.TheVariants.{NoMemory as OutOfMemory};
 
     ghost from_gives = { λ _ e. e ≡ OutOfMemory };
 

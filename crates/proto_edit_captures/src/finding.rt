@@ -1,26 +1,24 @@
-//! What a name aims at.
+//! The target that a name has.
 
 ghost use Rattle.std.specs.Prelude.{◌≡◌, ◌<◌, ◌↔◌, ◌++◌, List, ℕ, true, IsTrue, IfOk, IfErr, IfSome, IfNone, Some, length};
 ghost use Rattle.proto_case.specs.Camel.{entry_name};
-ghost use Rattle.proto_files.specs.Faults.{HasNoFault};
 ghost use Rattle.proto_files.specs.FilesRead.{ReadOf, AreRead};
-ghost use Rattle.proto_names_imports.specs.Links.{LinkFaults, text_of};
+ghost use Rattle.proto_names_imports.specs.Links.{text_of};
 ghost use Rattle.proto_names_rules.specs.Grown.{at};
 ghost use Rattle.proto_names_rules.specs.Linked.{is_package};
-ghost use Rattle.proto_names.specs.LinkOfFiles.{IsLinkOf};
 ghost use Rattle.proto_names.specs.Linking.{NameOf, name_at};
 ghost use Rattle.proto_edit_rename_laws.specs.Inside.{IsInside};
 ghost use Rattle.proto_edit_rules.specs.Rename.{may_rename};
-ghost use Rattle.proto_edit_captures.specs.Aims.{IsAimOf, IsNoTarget, IsSpelled};
+ghost use Rattle.proto_edit_captures.specs.FoundTargets.{IsTargetOf, IsNoTarget, IsSpelled};
 ghost use Rattle.proto_edit_captures.specs.Looked.{HasDeclared, IsEntryThere, IsNotDeclared, first_place};
 
-use crate::aim::{Aim, NoTarget};
 use crate::parts::{beside, front, word};
+use crate::rename_target::{NoTarget, RenameTarget};
 use proto_base::NoMemory;
 use proto_case::entry_name;
-use proto_files::{Files, are_read};
 use proto_names::{Link, SymbolId};
 use proto_names_rules::Kind;
+use proto_resolved::CleanLinked;
 use std::alloc::Global;
 
 /// The kind of a declaration, and the token that it stands at.
@@ -86,29 +84,33 @@ fn is_entry_at(link: &Link, name: &str, file: u32, token: u32) -> bool
 }
 
 /// Whether a declaration has an entry beside it, and so is a map field.
-fn has_entry(alloc: Global, files: &Files, link: &Link, aim: Aim) -> Result<bool, NoMemory>
-    requires { IsSpelled files.now aim }
-    ensures { (reads : List ReadOf) → AreRead files.now reads
-        → (front : List ℕ)
-        → aim.entry.name.now ≡ front ++ text_of files.now reads (at aim.entry.file aim.entry.token)
-        → IfOk result (λ is. IsTrue is ↔ HasDeclared link.now
-        (front ++ entry_name (text_of files.now reads (at aim.entry.file aim.entry.token)))
-        Kind.Entry (at aim.entry.file aim.entry.token)) }
+fn has_entry(
+    alloc: Global,
+    linked: &CleanLinked<'_>,
+    target: RenameTarget,
+) -> Result<bool, NoMemory>
+    requires { IsSpelled linked.now.files target }
+    ensures { (reads : List ReadOf) → AreRead linked.now.files reads
+        → (front : List ℕ) → target.entry.name.now
+        ≡ front ++ text_of linked.now.files reads (at target.entry.file target.entry.token)
+        → IfOk result (λ is. IsTrue is ↔ HasDeclared linked.now.link
+        (front ++ entry_name
+        (text_of linked.now.files reads (at target.entry.file target.entry.token)))
+        Kind.Entry (at target.entry.file target.entry.token)) }
 {
-    are_read(files);
-    let own = word(files, aim.file, aim.token);
-    let front = front(aim.name, own);
+    let own = word(linked.files(), target.file, target.token);
+    let front = front(target.name, own);
     let entry = entry_name(alloc, own)?;
     let name = beside(alloc, front, entry.as_str())?;
-    Ok(is_entry_at(link, name.as_str(), aim.file, aim.token))
+    Ok(is_entry_at(linked.link(), name.as_str(), target.file, target.token))
 }
 
 /// The declaration of this name in a link; it is not yet asked whether it is a map field.
-fn declared_aim<'a>(link: &Link, name: &'a str) -> Result<Aim<'a>, NoTarget>
-    ensures ok { IfOk result (λ aim.
-        HasDeclared link.now aim.name.now aim.kind (at aim.file aim.token)) }
-    ensures named { IfOk result (λ aim. aim.name.now ≡ name.entry.now) }
-    ensures kind { IfOk result (λ aim. may_rename aim.kind ≡ true) }
+fn declared_target<'a>(link: &Link, name: &'a str) -> Result<RenameTarget<'a>, NoTarget>
+    ensures ok { IfOk result (λ target.
+        HasDeclared link.now target.name.now target.kind (at target.file target.token)) }
+    ensures named { IfOk result (λ target. target.name.now ≡ name.entry.now) }
+    ensures kind { IfOk result (λ target. may_rename target.kind ≡ true) }
     ensures err { IfErr result (IsNotDeclared link.now name.entry.now) }
 {
     let Some(id) = link.symbol(name) else {
@@ -120,7 +122,7 @@ fn declared_aim<'a>(link: &Link, name: &'a str) -> Result<Aim<'a>, NoTarget>
     if !may_rename(place.kind) {
         return Err(NoTarget::NotAllowed);
     }
-    Ok(Aim {
+    Ok(RenameTarget {
         name,
         kind: place.kind,
         file: place.file,
@@ -129,26 +131,22 @@ fn declared_aim<'a>(link: &Link, name: &'a str) -> Result<Aim<'a>, NoTarget>
     })
 }
 
-/// What a name aims at: the declaration of this full name, without a
-/// leading dot, if it may be renamed.
-pub fn target<'a>(
+/// The target with this full name, without a leading dot: its declaration, if that may be renamed.
+pub fn find_target<'a>(
     alloc: Global,
-    files: &Files,
-    link: &Link,
+    linked: &CleanLinked<'_>,
     name: &'a str,
-) -> Result<Aim<'a>, NoTarget>
-    requires link { IsLinkOf files.now link.now }
-    requires linked { HasNoFault (LinkFaults files.now) }
-    ensures ok { IfOk result (λ aim. IsAimOf files.now aim) }
-    ensures named { IfOk result (λ aim. aim.name.now ≡ name.entry.now) }
+) -> Result<RenameTarget<'a>, NoTarget>
+    ensures ok { IfOk result (λ target. IsTargetOf linked.now.files target) }
+    ensures named { IfOk result (λ target. target.name.now ≡ name.entry.now) }
     // It stands at a token of a file.
-    ensures file { IfOk result (λ aim. aim.file < length files.now) }
-    ensures inside { IfOk result (λ aim. (reads : List ReadOf) → AreRead files.now reads
-        → IsInside files.now reads (at aim.file aim.token)) }
-    ensures err { IfErr result (IsNoTarget files.now name.entry.now) }
+    ensures file { IfOk result (λ target. target.file < length linked.now.files) }
+    ensures inside { IfOk result (λ target. (reads : List ReadOf) → AreRead linked.now.files reads
+        → IsInside linked.now.files reads (at target.file target.token)) }
+    ensures err { IfErr result (IsNoTarget linked.now.files name.entry.now) }
 {
-    are_read(files);
-    let found = declared_aim(link, name)?;
-    let is_map = has_entry(alloc, files, link, found)?;
-    Ok(Aim { is_map, ..found })
+    let link = linked.link();
+    let found = declared_target(link, name)?;
+    let is_map = has_entry(alloc, linked, found)?;
+    Ok(RenameTarget { is_map, ..found })
 }
