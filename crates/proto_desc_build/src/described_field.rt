@@ -156,6 +156,23 @@ pub(crate) fn extension_descriptor(
     field_with(alloc, scene, "", FieldRole::Extension { extendee }, field)
 }
 
+// The default of a field, and the options of its descriptor.
+fn default_and_options(
+    alloc: Global,
+    scene: &Scene,
+    field: FieldAt,
+) -> Result<(Option<String>, FieldOptions), NoMemory>
+    ensures default { IfOk result (λ d. option_map string_bytes d.0
+        ≡ option_map (default_text scene.now)
+        (value_named (text scene.now) (codes "default") (field_of field.entry).options)) }
+    ensures options { IfOk result (λ d. d.1
+        ≡ field_options scene.now (field_of field.entry).options) }
+{
+    let options = options_between(alloc, field.settings)?;
+    let default = default_value(alloc, scene, &options)?;
+    Ok((default, field_options(scene, &options)))
+}
+
 // A field, with the full name of its message and with its role.
 fn field_with(
     alloc: Global,
@@ -168,34 +185,17 @@ fn field_with(
         ≡ field_with scene.now full.now (role_extendee role) (role_json_name role)
         (field_of field.entry)) }
 {
-    let options = options_between(alloc, field.settings)?;
-    field_with_options(alloc, scene, full, role, field, &options)
-}
-
-// The same, with the options at the field.
-fn field_with_options(
-    alloc: Global,
-    scene: &Scene,
-    full: &str,
-    role: FieldRole,
-    field: FieldAt,
-    options: &[OptionAt],
-) -> Result<FieldDescriptor, NoMemory>
-    requires { map option_of options.now ≡ (field_of field).options }
-    ensures { IfOk result (λ d. field_desc d
-        ≡ field_with scene.now full.now (role_extendee role) (role_json_name role)
-        (field_of field.entry)) }
-{
+    let (default_value, options) = default_and_options(alloc, scene, field)?;
     Ok(FieldDescriptor {
         name: String::from_str(alloc, scene.text(field.name))?,
         number: field_number(scene.number(field.number)),
         label: label_of(scene, field),
         field_type: field_type_of(scene, field),
         type_name: field_type_name(alloc, scene, full, field)?,
-        default_value: default_value(alloc, scene, options)?,
+        default_value,
         oneof_index: field.oneof,
         role,
         proto3_optional: scene.is_proto3() && has_label(scene, "optional", field),
-        options: field_options(scene, options),
+        options,
     })
 }

@@ -42,7 +42,7 @@ pub fn message_descriptor(
 {
     let full = below(alloc, around, scene.text(message.name))?;
     let nested = nested_messages(alloc, scene, &full, &message.members)?;
-    message_around(alloc, scene, &full, message.name, &message.members, nested)
+    message_around(alloc, scene, &full, message, nested)
 }
 
 #[cycle(messages)]
@@ -138,21 +138,21 @@ fn message_around(
     alloc: Global,
     scene: &Scene,
     full: &str,
-    name: u32,
-    members: &[Member],
+    message: &Message,
     nested: Vec<MessageDescriptor>,
 ) -> Result<MessageDescriptor, NoMemory>
     ensures { IfOk result (λ d. descriptor_tree d
         ≡ record {
-          message = message_described scene.now full.now name
-              (trees member_tree members.now);
+          message = message_described scene.now full.now message.now.name
+              (trees member_tree message.now.members.items);
           nested_type = messages_desc nested.items;
         }) }
 {
+    let members = message.members.as_slice();
     let (field, extension, enum_type, oneof_decl) = declared_parts(alloc, scene, full, members)?;
     let (extension_range, reserved_range, reserved_name) = reserved_parts(alloc, scene, members)?;
     Ok(MessageDescriptor {
-        name: String::from_str(alloc, scene.text(name))?,
+        name: String::from_str(alloc, scene.text(message.name))?,
         field,
         extension,
         nested_type: nested,

@@ -1,9 +1,10 @@
 //! What is wrong with the default of a field.
 
-ghost use Rattle.std.specs.Prelude.{◌≡◌, ◌++◌, map, option_map, OnOk};
+ghost use Rattle.std.specs.Prelude.{◌≡◌, ◌++◌, option_map, OnOk};
 ghost use Rattle.proto_ast.specs.Views.{enum_of, field_of, option_of};
 ghost use Rattle.proto_desc_checks.specs.FieldFlaws.{holds_number, is_scalar_default, is_value_of, is_default_of, may_default, wrong_default, default_flaws, proto3_defaults};
 
+use crate::fields::FieldWithOptions;
 use proto_ast::{EnumAt, FieldAt, OptionAt, Scene, has_label, option_named, truth, word};
 use proto_base::{FaultKind, NoMemory};
 use proto_desc_numbers::{Flaw, LEAST_VALUE, MOST_VALUE, add_if, is_within};
@@ -82,31 +83,28 @@ fn add_wrong_default(
 pub(crate) fn add_default_flaws(
     found: &mut Vec<Flaw>,
     scene: &Scene,
-    field: FieldAt,
-    options: &[OptionAt],
+    field: &FieldWithOptions,
 ) -> Result<(), NoMemory>
-    requires { map option_of options.now ≡ (field_of field).options }
     ensures { OnOk result (found.new.items ≡ found.old.items
-        ++ default_flaws scene.now (field_of field.entry)) }
+        ++ default_flaws scene.now field.now) }
 {
     if scene.is_proto3() {
         return Ok(());
     }
-    add_wrong_default(found, scene, field, option_named(scene, options, "default"))
+    let default = option_named(scene, field.options(), "default");
+    add_wrong_default(found, scene, field.at(), default)
 }
 
 /// Adds the defaults of a proto3 field.
 pub(crate) fn add_proto3_defaults(
     found: &mut Vec<Flaw>,
     scene: &Scene,
-    field: FieldAt,
-    options: &[OptionAt],
+    field: &FieldWithOptions,
 ) -> Result<(), NoMemory>
-    requires { map option_of options.now ≡ (field_of field).options }
     ensures { OnOk result (found.new.items ≡ found.old.items
-        ++ proto3_defaults scene.now (field_of field.entry)) }
+        ++ proto3_defaults scene.now field.now) }
 {
-    for option in options {
+    for option in field.options() {
         let is_wrong = scene.is_proto3() && scene.text(option.name) == "default";
         add_if(found, is_wrong, FaultKind::NotInProto3, option.name)?;
     }

@@ -1,8 +1,9 @@
 //! What is wrong with one field, or one extension: its label, its type, its options and its
 //! default.
 
-ghost use Rattle.std.specs.Prelude.{◌≡◌, ◌++◌, map, option_map, OnOk};
+ghost use Rattle.std.specs.Prelude.{◌≡◌, ◌++◌, map, option_map, IfOk, OnOk};
 ghost use Rattle.proto_ast.specs.Options.{is_one_of, is_word_of};
+ghost use Rattle.proto_ast.specs.Parts.{FieldOf};
 ghost use Rattle.proto_ast.specs.Scenes.{text};
 ghost use Rattle.proto_ast.specs.Views.{enum_of, field_of, option_of};
 ghost use Rattle.proto_desc_checks.specs.FieldFlaws.{type_token, enum_of_type, lacks_label, required_flaws, map_key_flaws, starts_wrong, has_closed_enum, is_unpackable, is_packable_type, may_be_packed, is_packed_misfit, other_js_types, asks_js_type, long_types, is_long_type, may_have_js_type, is_js_type_misfit, lazy_options, asks_lazy, is_message_type, may_be_lazy, is_lazy_misfit, is_misfit, default_flaws, misfit_flaws, option_flaws, proto3_defaults, type_flaws, field_flaws};
@@ -16,6 +17,45 @@ use proto_base::{FaultKind, NoMemory};
 use proto_desc_numbers::{Flaw, add_if};
 use proto_tree::FieldType;
 use std::alloc::Global;
+use std::marker::Model;
+
+/// A field, with the options that are written at it.
+#[derive(Drop)]
+pub(crate) struct FieldWithOptions<'a> {
+    at: FieldAt<'a>,
+    options: Vec<OptionAt<'a>>,
+}
+
+impl<'a> Model for FieldWithOptions<'a> {
+    ghost Value = { FieldOf };
+
+    ghost view = { λ f. field_of f.at };
+
+    ghost invariant = { λ f. map option_of f.options.items ≡ (field_of f.at).options };
+}
+
+impl<'a> FieldWithOptions<'a> {
+    fn new(alloc: Global, at: FieldAt<'a>) -> Result<FieldWithOptions<'a>, NoMemory>
+        ensures { IfOk result (λ f. f ≡ field_of at.entry) }
+    {
+        let options = options_between(alloc, at.settings)?;
+        Ok(FieldWithOptions { at, options })
+    }
+
+    /// The field alone.
+    pub(crate) fn at(&self) -> FieldAt<'a>
+        ensures { field_of result ≡ self.now }
+    {
+        self.at
+    }
+
+    /// Its options.
+    pub(crate) fn options(&self) -> &[OptionAt<'a>]
+        ensures { map option_of result.now ≡ self.now.options }
+    {
+        &self.options
+    }
+}
 
 // ---- labels
 
@@ -239,15 +279,12 @@ fn is_misfit(scene: &Scene, field: FieldAt, option: OptionAt) -> bool
 fn add_misfits(
     found: &mut Vec<Flaw>,
     scene: &Scene,
-    field: FieldAt,
-    options: &[OptionAt],
+    field: &FieldWithOptions,
 ) -> Result<(), NoMemory>
-    requires { map option_of options.now ≡ (field_of field).options }
-    ensures { OnOk result (found.new.items ≡ found.old.items
-        ++ misfit_flaws scene.now (field_of field.entry)) }
+    ensures { OnOk result (found.new.items ≡ found.old.items ++ misfit_flaws scene.now field.now) }
 {
-    for option in options {
-        let is_wrong = is_misfit(scene, field, *option);
+    for option in field.options() {
+        let is_wrong = is_misfit(scene, field.at(), *option);
         add_if(found, is_wrong, FaultKind::BadOption, option.name)?;
     }
     Ok(())
@@ -261,20 +298,17 @@ fn add_flaws_of_options(
     found: &mut Vec<Flaw>,
     scene: &Scene,
     element: Element,
-    field: FieldAt,
-    options: &[OptionAt],
+    field: &FieldWithOptions,
 ) -> Result<(), NoMemory>
-    requires { map option_of options.now ≡ (field_of field).options }
     ensures { OnOk result (found.new.items ≡ found.old.items
-        ++ (option_flaws scene.now element (field_of field.entry).options
-        ++ (misfit_flaws scene.now (field_of field.entry)
-        ++ (default_flaws scene.now (field_of field.entry)
-        ++ proto3_defaults scene.now (field_of field.entry))))) }
+        ++ (option_flaws scene.now element field.now.options
+        ++ (misfit_flaws scene.now field.now
+        ++ (default_flaws scene.now field.now ++ proto3_defaults scene.now field.now)))) }
 {
-    add_option_flaws(alloc, found, scene, element, options)?;
-    add_misfits(found, scene, field, options)?;
-    add_default_flaws(found, scene, field, options)?;
-    add_proto3_defaults(found, scene, field, options)
+    add_option_flaws(alloc, found, scene, element, field.options())?;
+    add_misfits(found, scene, field)?;
+    add_default_flaws(found, scene, field)?;
+    add_proto3_defaults(found, scene, field)
 }
 
 /// Adds what is wrong with a field, or with an extension, which may have other options.
@@ -289,6 +323,6 @@ pub(crate) fn add_field_flaws(
         ++ field_flaws scene.now element (field_of field.entry)) }
 {
     add_type_flaws(found, scene, field)?;
-    let options = options_between(alloc, field.settings)?;
-    add_flaws_of_options(alloc, found, scene, element, field, &options)
+    let field = FieldWithOptions::new(alloc, field)?;
+    add_flaws_of_options(alloc, found, scene, element, &field)
 }

@@ -11,12 +11,12 @@ ghost use Rattle.proto_journal_records.specs.Records.{done, opened};
 ghost use Rattle.proto_store.specs.Stores.{HoldsFiles};
 
 use crate::reading::ready_text;
-use crate::writing::{ask_store, write_through};
+use crate::writing::{ChangedFiles, ask_store, write_through};
 use proto_base::MAX_JOURNAL_LEN;
 use proto_edit::laws::accepted_are_notable;
 use proto_edit::{Edit, Entry, Workspace};
 use proto_journal_records::laws::{journals_grow_and_shrink, records_have_one_text};
-use proto_journal_records::{JournalFault, State, Version, with_record};
+use proto_journal_records::{JournalFault, RecordParts, State, Version, with_record};
 use proto_store::{Store, StoreFault};
 use std::alloc::Global;
 use std::mem;
@@ -78,9 +78,17 @@ fn with_entry(
         (done (Some (asked edit.now)) entry.now) made.1.items) }
     ensures err { IfErr result (IsUnwritten journal.now (asked edit.now) entry.now) }
 {
-    let told = Some(edit);
-    let first = with_record(alloc, Version::Second, journal, State::Open, entry, told)?;
-    let last = with_record(alloc, Version::Second, journal, State::Done, entry, told)?;
+    let open = RecordParts {
+        state: State::Open,
+        entry,
+        edit: Some(edit),
+    };
+    let done = RecordParts {
+        state: State::Done,
+        ..open
+    };
+    let first = with_record(alloc, Version::Second, journal, &open)?;
+    let last = with_record(alloc, Version::Second, journal, &done)?;
     if last.len() > MAX_JOURNAL_LEN {
         return Err(JournalFault::JournalFull);
     }
@@ -125,14 +133,12 @@ pub fn commit<S: Store>(
     }
     let first = made.first.as_slice();
     let last = made.last.as_slice();
-    match write_through(
-        store,
-        first,
-        workspace.files(),
-        made.next.files(),
-        made.entry.changes(),
-        last,
-    ) {
+    let files = ChangedFiles {
+        before: workspace.files(),
+        after: made.next.files(),
+        changes: made.entry.changes(),
+    };
+    match write_through(store, first, &files, last) {
         Ok(()) => {
             mem::replace(workspace, made.next).release();
             Ok(made.entry)

@@ -7,12 +7,13 @@ ghost use Rattle.proto_journal.specs.Undoing.{UndoOutcome};
 ghost use Rattle.proto_journal.specs.Written.{LastOutcome, Reopens, Shortens};
 ghost use Rattle.proto_store.specs.Stores.{HoldsFiles};
 
-use crate::writing::{ask_store, write_through};
+use crate::writing::{ChangedFiles, ask_store, write_through};
 use proto_base::NoMemory;
 use proto_edit::{Entry, Workspace};
 use proto_journal_records::laws::{journals_grow_and_shrink, records_have_one_text};
 use proto_journal_records::{
-    JournalFault, Record, State, Version, last_is_open, read_journal, with_record, without_last,
+    JournalFault, Record, RecordParts, State, Version, last_is_open, read_journal, with_record,
+    without_last,
 };
 use proto_store::{Store, StoreFault};
 use std::alloc::Global;
@@ -56,14 +57,12 @@ fn reopened_journal(
     // It is a journal: the text of an entry is as long while it is open.
     records_have_one_text();
     journals_grow_and_shrink();
-    with_record(
-        alloc,
-        version,
-        before,
-        State::Open,
-        last.entry(),
-        last.edit(),
-    )
+    let parts = RecordParts {
+        state: State::Open,
+        entry: last.entry(),
+        edit: last.edit(),
+    };
+    with_record(alloc, version, before, &parts)
 }
 
 /// Undoes the last entry: marks it in the journal as open, puts its files back to before it, in the
@@ -104,14 +103,12 @@ pub fn undo_last<S: Store>(
             return Err(fault);
         }
     }
-    match write_through(
-        store,
-        first.as_slice(),
-        workspace.files(),
-        next.files(),
-        undone.entry().changes(),
-        last,
-    ) {
+    let files = ChangedFiles {
+        before: workspace.files(),
+        after: next.files(),
+        changes: undone.entry().changes(),
+    };
+    match write_through(store, first.as_slice(), &files, last) {
         Ok(()) => {
             mem::replace(workspace, next).release();
             Ok(undone.into_entry())

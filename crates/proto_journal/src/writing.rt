@@ -15,6 +15,15 @@ use proto_journal_records::JournalFault;
 use proto_store::{Store, StoreFault};
 use std::alloc::Global;
 
+/// The files before and after changes, which are all that differs.
+#[derive(Clone, Copy)]
+pub(crate) struct ChangedFiles<'a> {
+    pub(crate) before: &'a Files,
+    pub(crate) after: &'a Files,
+    pub(crate) changes: &'a [Change],
+    ghost differ: { DifferBy (map change_of changes.now) before.now after.now },
+}
+
 // The paths of changes.
 fn paths_in<'a>(alloc: Global, changes: &'a [Change]) -> Result<Vec<&'a str>, NoMemory>
     ensures { IfOk result (λ paths. map (λ p. p.now) paths.items
@@ -91,22 +100,17 @@ fn replace_file<'a, S: Store>(
 
 // Replaces each file of which there is a change, in the order of the paths. No bytes are compared:
 // the changes say which files differ.
-fn replace_files<S: Store>(
-    store: &mut S,
-    before: &Files,
-    after: &Files,
-    changes: &[Change],
-) -> Result<(), StoreFault>
+fn replace_files<S: Store>(store: &mut S, files: &ChangedFiles) -> Result<(), StoreFault>
     requires room { S.failure_count store.old < 2 ^ 64 - 1 }
-    requires differ { DifferBy (map change_of changes.now) before.now after.now }
-    requires files { HoldsFiles (S.holds store.old) before.now }
+    requires files { HoldsFiles (S.holds store.old) files.now.before.now }
     ensures ok { OnOk result (S.holds store.new
-        ≡ option_map (with_these_files after.now) (S.holds store.old)) }
-    ensures err { OnErr result (AreBetween before.now after.now
+        ≡ option_map (with_these_files files.now.after.now) (S.holds store.old)) }
+    ensures err { OnErr result (AreBetween files.now.before.now files.now.after.now
         (S.holds store.old) (S.holds store.new)) }
     ensures count { Counts (S.failure_count store.old) (S.failure_count store.new) result }
 {
-    let mut left = changes;
+    let ChangedFiles { before, after, .. } = *files;
+    let mut left = files.changes;
     for place in 0..after.len() as u32 {
         left = replace_file(store, before, after, place, left)?;
     }
@@ -119,21 +123,18 @@ fn replace_files<S: Store>(
 pub(crate) fn write_through<S: Store>(
     store: &mut S,
     first: &[u8],
-    before: &Files,
-    after: &Files,
-    changes: &[Change],
+    files: &ChangedFiles,
     last: &[u8],
 ) -> Result<(), StoreFault>
     requires room { S.failure_count store.old < 2 ^ 64 - 1 }
-    requires differ { DifferBy (map change_of changes.now) before.now after.now }
-    requires files { HoldsFiles (S.holds store.old) before.now }
+    requires files { HoldsFiles (S.holds store.old) files.now.before.now }
     ensures ok { OnOk result (S.holds store.new
-        ≡ option_map (λ h. held after.now last.now) (S.holds store.old)) }
-    ensures err { OnErr result (Passes before.now after.now first.now last.now
+        ≡ option_map (λ h. held files.now.after.now last.now) (S.holds store.old)) }
+    ensures err { OnErr result (Passes files.now.before.now files.now.after.now first.now last.now
         (S.holds store.old) (S.holds store.new)) }
     ensures count { Counts (S.failure_count store.old) (S.failure_count store.new) result }
 {
     store.replace_journal(first)?;
-    replace_files(store, before, after, changes)?;
+    replace_files(store, files)?;
     store.replace_journal(last)
 }

@@ -319,7 +319,7 @@ one_edit (Some (add_import f p)) None e = cc
 one_edit (Some (drop_import f p)) None e = cc
 one_edit (Some a) (Some b) e = ap Some (one_asked a b e)
 
-pub same_record : (r s : RecordOf) → r.state ≡ s.state → r.entry ≡ s.entry → r.edit ≡ s.edit → r ≡ s
+same_record : (r s : RecordOf) → r.state ≡ s.state → r.entry ≡ s.entry → r.edit ≡ s.edit → r ≡ s
 same_record r s p q t = λ i. record { state = p i; entry = q i; edit = t i }
 
 one_record : (v : Version) (r s : RecordOf) → IsRecord v r → IsRecord v s → record_data v r ≡ record_data v s → r ≡ s
@@ -333,11 +333,6 @@ one_record Second r s h k e =
     let state : state_name r.state ≡ state_name s.state = cc in
     let edit : edit_data r.edit ≡ edit_data s.edit = cc in
     same_record r s (one_state r.state s.state state) (one_list change_data one_change r.entry s.entry files) (one_edit r.edit s.edit edit)
-
--- a record is that of its parts
-pub of_parts : (v : Version) (r : RecordOf) (s : State) (e : List ChangeOf) (o : Option Asked) → s ≡ r.state → e ≡ r.entry → o ≡ r.edit
-    → IsRecord v (let x : RecordOf = record { state = s; entry = e; edit = o } in x) → IsRecord v r
-of_parts v r s e o p q t h = subst (IsRecord v) (same_record (let x : RecordOf = record { state = s; entry = e; edit = o } in x) r p q t) h
 
 -- a text is that of one record in a version
 pub text_of_one : (v : Version) (r s : RecordOf) → IsRecord v r → IsRecord v s → record_text v r ≡ record_text v s → r ≡ s

@@ -7,7 +7,7 @@ pub use Rattle.proto_journal_records.specs.Migration.{IsMigrant, IsMigrated, IsO
 pub use Rattle.proto_journal_records.specs.ReadJournals.{IsReady, IsReadyWith, IsUnreadable}
 pub use Rattle.proto_journal_records.specs.RecordText.{state_name}
 unfoldable pub use Rattle.proto_journal_records.specs.RecordText.{asked_data, change_data, edit_data, record_data, record_text, splice_data}
-pub use Rattle.proto_journal_records.specs.Records.{IsNoted, RecordOf, done, opened}
+pub use Rattle.proto_journal_records.specs.Records.{IsNoted, RecordOf, done, opened, record_of}
 pub use Rattle.proto_journal_records.specs.Recovery.{ArePartlyBack, ArePutBack, HasStaleFile, IsPutBack, IsRecovered, IsRecovering, IsRestored, IsUnnamed, RecoverOutcome}
 pub use Rattle.proto_journal_records.specs.RecoveryLaws.{CutStaysTorn, IsLateAnswer, RecoveriesAreOne, RecoveryGoesOn, TornBetweenIsTorn, TornComesBack}
 pub use Rattle.proto_journal_records.specs.Restoring.{AddsOldFiles, AreListedInStore, AreOldFiles, ArePartlyIn, GoesBackTo, IsAskedFor, IsNeither, IsOldFile, IsStaleOnly, OpenOutcome, StaysAt, with_all, with_files}

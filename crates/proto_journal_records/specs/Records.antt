@@ -1,7 +1,8 @@
 -- Records: an entry, how far it has come, and the edit that made it.
-use Rattle.std.specs.Prelude.{List, Option, Some, None}
-use Rattle.proto_edit_entries.specs.EditsAsked.{Asked, IsNotable}
+use Rattle.std.specs.Prelude.{List, Option, Some, None, option_map}
+use Rattle.proto_edit_entries.specs.EditsAsked.{Asked, IsNotable, asked}
 use Rattle.proto_edit_entries.specs.Entries.{ChangeOf}
+use Rattle.proto_journal_records.specs.declared.record.RecordParts.{RecordParts}
 use Rattle.proto_journal_records.specs.declared.record.State.{State}
 use Rattle.proto_journal_records.specs.declared.record.State.TheVariants.{Open, Done}
 
@@ -10,6 +11,14 @@ pub record RecordOf : Type 0 where
   pub state : State
   pub entry : List ChangeOf
   pub edit : Option Asked
+
+-- the record of these parts
+abbrev pub record_of : RecordParts → RecordOf
+record_of p = record {
+  state = p.state;
+  entry = p.entry.now;
+  edit = option_map (λ e. asked e.now) p.edit;
+}
 
 -- what a record may tell of the edit: nothing, or an edit that can be written down
 abbrev pub IsNoted : Option Asked → Type 0

@@ -1,22 +1,20 @@
 //! Journals: records, a line each.
 
-ghost use Rattle.std.specs.Prelude.{◌≡◌, ◌⊎◌, ℕ, List, [], ◌∷◌, ◌++◌, IfOk, IfErr, OnOk, Err, option_map, slice_index_or};
-ghost use Rattle.proto_edit_entries.specs.EditsAsked.{asked};
+ghost use Rattle.std.specs.Prelude.{◌≡◌, ◌⊎◌, ℕ, List, [], ◌∷◌, ◌++◌, IfOk, IfErr, OnOk, Err, slice_index_or};
 ghost use Rattle.proto_journal_records.specs.RecordText.{record_text};
 ghost use Rattle.proto_journal_records.specs.Journals.{IsRecord, IsTold, is_last_open, journal_text, IsJournal, IsJournalIn, IsFirstLine};
 ghost use Rattle.proto_journal_records.specs.declared.record.Version.{Version as VersionOf};
 ghost use Rattle.proto_journal_records.specs.declared.record.Version.TheVariants.{Second as second};
-ghost use Rattle.proto_journal_records.specs.Records.{RecordOf};
+ghost use Rattle.proto_journal_records.specs.Records.{RecordOf, record_of};
 ghost use Rattle.proto_journal_records.specs.declared.fault.JournalFault.TheVariants as JournalFault;
 
 use crate::fault::JournalFault;
 use crate::reading::read_line;
-use crate::record::{Record, State, Version};
+use crate::record::{Record, RecordParts, State, Version};
 use crate::writing::{entry_text, line_of};
 use json::Scratch;
 use memchr::memchr;
 use proto_base::{MAX_JOURNAL_LEN, NoMemory};
-use proto_edit_entries::{Edit, Entry};
 use std::alloc::Global;
 
 /// Whether the last record is open.
@@ -136,17 +134,14 @@ pub fn with_record(
     alloc: Global,
     version: Version,
     journal: &[u8],
-    state: State,
-    entry: &Entry,
-    edit: Option<&Edit>,
+    parts: &RecordParts,
 ) -> Result<Vec<u8>, NoMemory>
-    requires { IsTold version (option_map (λ e. asked e.now) edit) }
-    ensures text { IfOk result (λ bytes. bytes.items ≡ journal.now ++ record_text version (record
-        { state = state; entry = entry.now; edit = option_map (λ e. asked e.now) edit.entry })) }
-    ensures is { OnOk result (IsRecord version (record
-        { state = state; entry = entry.now; edit = option_map (λ e. asked e.now) edit.entry })) }
+    requires { IsTold version (record_of parts.now).edit }
+    ensures text { IfOk result
+        (λ bytes. bytes.items ≡ journal.now ++ record_text version (record_of parts.now)) }
+    ensures is { OnOk result (IsRecord version (record_of parts.now)) }
 {
-    let line = line_of(alloc, version, state, entry, edit)?;
+    let line = line_of(alloc, version, parts)?;
     let mut bytes = Vec::with_capacity(alloc, journal.len() + line.len())?;
     bytes.extend_from_slice(journal)?;
     bytes.extend_from_slice(line.as_bytes())?;

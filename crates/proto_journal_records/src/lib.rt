@@ -20,6 +20,6 @@ pub use journal::{
 };
 pub use migrating::migrate;
 pub use reading::read_entry;
-pub use record::{Record, State, Version};
+pub use record::{Record, RecordParts, State, Version};
 pub use recovering::recover;
 pub use writing::{entry_text, state_text};

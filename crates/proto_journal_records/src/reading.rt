@@ -400,7 +400,7 @@ fn is_text_of(
     ensures same { IfOk result (λ b. IsTrue b ↔ (record_text version noted.now ≡ bytes.now)) }
     ensures is { OnOk result (IsRecord version noted.now) }
 {
-    let text = line_of(alloc, version, noted.state(), noted.entry(), noted.edit())?;
+    let text = line_of(alloc, version, &noted.parts())?;
     Ok(text.as_bytes() == bytes)
 }
 

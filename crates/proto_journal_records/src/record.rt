@@ -33,6 +33,14 @@ pub struct Record {
     edit: Option<Edit>,
 }
 
+/// A record by its parts, of which its text is made.
+#[derive(Clone, Copy)]
+pub struct RecordParts<'a> {
+    pub state: State,
+    pub entry: &'a Entry,
+    pub edit: Option<&'a Edit>,
+}
+
 impl Model for Record {
     ghost use Rattle.std.specs.Prelude.{option_map};
     ghost use Rattle.proto_edit_entries.specs.EditsAsked.{asked};
@@ -59,7 +67,7 @@ fn is_noted(edit: Option<&Edit>) -> bool
 impl Record {
     ghost use Rattle.std.specs.Prelude.{◌≡◌, MatchOption, option_map};
     ghost use Rattle.proto_edit_entries.specs.EditsAsked.{asked};
-    ghost use Rattle.proto_journal_records.specs.Records.{IsNoted};
+    ghost use Rattle.proto_journal_records.specs.Records.{IsNoted, record_of};
 
     /// The record of these, exactly where the edit can be written down, or none is given.
     pub fn new(state: State, entry: Entry, edit: Option<Edit>) -> Option<Record>
@@ -94,6 +102,18 @@ impl Record {
         ensures noted { IsNoted self.now.edit }
     {
         self.edit.as_ref()
+    }
+
+    /// All of these.
+    pub(crate) fn parts(&self) -> RecordParts<'_>
+        ensures parts { record_of result ≡ self.now }
+        ensures noted { IsNoted self.now.edit }
+    {
+        RecordParts {
+            state: self.state,
+            entry: &self.entry,
+            edit: self.edit.as_ref(),
+        }
     }
 
     /// The entry alone.

@@ -5,7 +5,7 @@ ghost use Rattle.std.specs.List.{Contains, list_any};
 ghost use Rattle.std.specs.Str.{bytes_eq};
 ghost use Rattle.std.specs.String.{string_bytes};
 ghost use Rattle.proto_files.specs.GivenFiles.{file_of, files_of};
-ghost use Rattle.proto_edit_entries.specs.Entries.{ChangeOf, IsChange, change_of, inverted, turned_round};
+ghost use Rattle.proto_edit_entries.specs.Entries.{ChangeOf, IsChange, change_of, turned_round};
 ghost use Rattle.proto_edit_entries.specs.Putting.{IsChangedText};
 ghost use Rattle.proto_journal_records.specs.Known.{CountsJournal, Over};
 ghost use Rattle.proto_journal_records.specs.Restoring.{AddsOldFiles, AreOldFiles, IsAskedFor, IsNeither, IsOldFile, IsOldText, IsStaleOnly};
@@ -87,20 +87,18 @@ fn old_file<S: Store>(
     }
 }
 
-// Adds what is put in place of each file of an entry; the known paths are those of the store,
-// and the other changes lead back. The list is the caller's, so no exit drops a file.
+// Adds what is put in place of each file of an entry; the known paths are those of the store. The
+// list is the caller's, so no exit drops a file.
 fn add_each<S: Store>(
     alloc: Global,
     store: &mut S,
     known: &IndexSet<&str>,
     entry: &Entry,
-    back: &[Change],
     files: &mut Vec<(String, Vec<u8>)>,
 ) -> Result<(), JournalFault>
     requires room { S.failure_count store.old < 2 ^ 64 - 1 }
     requires known { Over (S.holds store.old)
         (λ held. IsAskedFor (map (λ k. k.now) known.now.keys) held.files) }
-    requires back { map change_of back.now ≡ inverted entry.now }
     ensures ok { OnOk result (AddsOldFiles entry.now (S.holds store.old)
         (files_of files.old.items) (files_of files.new.items)) }
     ensures err { IfErr result (IsStaleOnly (Over (S.holds store.old) (λ held.
@@ -109,6 +107,7 @@ fn add_each<S: Store>(
     ensures count { CountsJournal (S.failure_count store.old) (S.failure_count store.new) result }
 {
     let changes = entry.changes();
+    let back = all_turned_round(alloc, changes)?;
     for place in 0..changes.len() {
         if let Some(file) = old_file(alloc, store, known, &changes[place], &back[place])? {
             files.push(file)?;
@@ -137,8 +136,7 @@ fn add_old_files<S: Store>(
         Err(StoreFault::Failed) => return Err(JournalFault::Store),
     };
     let known = asked_for(alloc, paths.as_slice())?;
-    let back = all_turned_round(alloc, entry.changes())?;
-    add_each(alloc, store, &known, entry, back.as_slice(), files)
+    add_each(alloc, store, &known, entry, files)
 }
 
 // What is put in place of the files of an entry.

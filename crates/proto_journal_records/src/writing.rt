@@ -12,8 +12,9 @@ ghost use Rattle.proto_journal_records.specs.declared.record.Version.TheVariants
 ghost use Rattle.proto_journal_records.specs.RecordText.{asked_data, splice_data, change_data, edit_data, record_data, record_text, state_name};
 ghost use Rattle.proto_journal_records.specs.DataTokens.{AddsTokens, data_tokens};
 ghost use Rattle.proto_journal_records.specs.Journals.{IsTextual, IsTold, AreTextual, IsRecord};
+ghost use Rattle.proto_journal_records.specs.Records.{record_of};
 
-use crate::record::{Record, State, Version};
+use crate::record::{Record, RecordParts, State, Version};
 use json::Writer;
 use proto_base::NoMemory;
 use proto_edit_entries::{Change, Edit, Entry};
@@ -227,67 +228,45 @@ fn write_first(writer: &mut Writer, state: State, entry: &Entry) -> Result<(), A
 }
 
 #[tactic(auto, unfolding(crate::specs::RecordText::record_data))]
-fn write_second(
-    writer: &mut Writer,
-    state: State,
-    entry: &Entry,
-    edit: Option<&Edit>,
-) -> Result<(), AllocError>
+fn write_second(writer: &mut Writer, parts: &RecordParts) -> Result<(), AllocError>
     ensures written { OnOk result (AddsTokens writer.old writer.new
-        (data_tokens (record_data second (record {
-          state = state;
-          entry = entry.now;
-          edit = option_map (λ e. asked e.now) edit.entry;
-        })))) }
-    ensures texts { OnOk result (AreTextual entry.now) }
-    ensures entry { OnOk result (IsEntry entry.now) }
+        (data_tokens (record_data second (record_of parts.now)))) }
+    ensures texts { OnOk result (AreTextual (record_of parts.now).entry) }
+    ensures entry { OnOk result (IsEntry (record_of parts.now).entry) }
 {
     writer.begin_object()?;
     writer.key("edit")?;
-    write_edit(writer, edit)?;
-    write_rest(writer, state, entry, 2)
+    write_edit(writer, parts.edit)?;
+    write_rest(writer, parts.state, parts.entry, 2)
 }
 
 fn write_record(
     writer: &mut Writer,
     version: Version,
-    state: State,
-    entry: &Entry,
-    edit: Option<&Edit>,
+    parts: &RecordParts,
 ) -> Result<(), AllocError>
     ensures written { OnOk result (AddsTokens writer.old writer.new
-        (data_tokens (record_data version (record {
-          state = state;
-          entry = entry.now;
-          edit = option_map (λ e. asked e.now) edit.entry;
-        })))) }
-    ensures texts { OnOk result (AreTextual entry.now) }
-    ensures entry { OnOk result (IsEntry entry.now) }
+        (data_tokens (record_data version (record_of parts.now)))) }
+    ensures texts { OnOk result (AreTextual (record_of parts.now).entry) }
+    ensures entry { OnOk result (IsEntry (record_of parts.now).entry) }
 {
     match version {
-        Version::First => write_first(writer, state, entry),
-        Version::Second => write_second(writer, state, entry, edit),
+        Version::First => write_first(writer, parts.state, parts.entry),
+        Version::Second => write_second(writer, parts),
     }
 }
 
-/// The text of the record of an entry in this state and of the edit that made it, with its line
-/// feed. The first version does not tell the edit, so none is given there.
-pub fn line_of(
-    alloc: Global,
-    version: Version,
-    state: State,
-    entry: &Entry,
-    edit: Option<&Edit>,
-) -> Result<String, NoMemory>
-    requires { IsTold version (option_map (λ e. asked e.now) edit) }
-    ensures text { IfOk result (λ s. string_bytes s ≡ record_text version (record
-        { state = state; entry = entry.now; edit = option_map (λ e. asked e.now) edit.entry })) }
-    ensures is { OnOk result (IsRecord version (record
-        { state = state; entry = entry.now; edit = option_map (λ e. asked e.now) edit.entry })) }
+/// The text of the record of these parts, with its line feed. The first version does not tell the
+/// edit, so none is given there.
+pub fn line_of(alloc: Global, version: Version, parts: &RecordParts) -> Result<String, NoMemory>
+    requires { IsTold version (record_of parts.now).edit }
+    ensures text { IfOk result
+        (λ s. string_bytes s ≡ record_text version (record_of parts.now)) }
+    ensures is { OnOk result (IsRecord version (record_of parts.now)) }
 {
     let bytes = Vec::with_capacity(alloc, LINE_ROOM)?;
     let mut writer = Writer::new(bytes);
-    write_record(&mut writer, version, state, entry, edit)?;
+    write_record(&mut writer, version, parts)?;
     let mut text = String::from_utf8(writer.into_inner()).unwrap();
     text.push('\n')?;
     Ok(text)
@@ -298,11 +277,5 @@ pub fn entry_text(alloc: Global, noted: &Record) -> Result<String, NoMemory>
     ensures text { IfOk result (λ s. string_bytes s ≡ record_text second noted.now) }
     ensures is { OnOk result (IsRecord second noted.now) }
 {
-    line_of(
-        alloc,
-        Version::Second,
-        noted.state(),
-        noted.entry(),
-        noted.edit(),
-    )
+    line_of(alloc, Version::Second, &noted.parts())
 }

@@ -10,6 +10,7 @@ use Rattle.proto_tree.specs.Tree.{Tree}
 use Rattle.proto_names_rules.specs.Faults.{file_with_path}
 use Rattle.proto_names_rules.specs.Names.{Workspace, meaning, reaches, same_name}
 use Rattle.proto_ast.specs.Parts.{statements}
+use Rattle.proto_files.specs.GivenFiles.{FileOf}
 use Rattle.proto_lint_rules.specs.declared.rule.Rule.TheVariants as rule
 use Rattle.proto_lint_names.specs.Placed.{Found, NamedToken, found_by, unless}
 use Rattle.proto_lint_names.specs.Readings.{LintFile, word_in}
@@ -58,6 +59,14 @@ import_used w paths r file i =
     || (is_used w file (file_with_path paths (import_path r i)) || r.has_custom)) i
 
 -- ---- what they find
+
+-- what the rules of imports know of a file: the chosen rules, all files, and this one as it is
+-- read, with its number
+pub record ImportsOf : Type 0 where
+  pub rules : List Bool
+  pub files : List FileOf
+  pub read : LintFile
+  pub file : ℕ
 
 -- what the rules find at an import of a file, by its number, in a workspace with these paths
 abbrev pub import_finds : List Bool → Workspace → List Path → LintFile → ℕ → Import → List Found

@@ -17,9 +17,8 @@ ghost use Rattle.proto_names.specs.LinkOfFiles.{IsLinkOf};
 ghost use Rattle.proto_lint_names.specs.Readings.{read_of_file, reading_of, word_in};
 ghost use Rattle.proto_lint_names.specs.Placed.{found_by};
 ghost use Rattle.proto_lint_rules.specs.Rules.{is_chosen};
-ghost use Rattle.proto_lint_names.specs.Views.{found_of};
 ghost use Rattle.proto_lint_rules.specs.declared.rule.Rule.TheVariants as rule;
-ghost use Rattle.proto_lint.specs.Imports.{import_finds, import_no_public, import_used, imports_finds, import_statements_in};
+ghost use Rattle.proto_lint.specs.Imports.{ImportsOf, import_finds, import_no_public, import_used, imports_finds, import_statements_in};
 ghost use Rattle.proto_lint.specs.ImportTables.{AreImportTablesOf, LeadsToMarked, MarksUsed, public_target, public_targets};
 
 use crate::linting::Linter;
@@ -27,7 +26,7 @@ use crate::uses::{share_a_mark, used_files};
 use indexmap::IndexMap;
 use proto_base::NoMemory;
 use proto_files::{Files, Words, all_paths};
-use proto_lint_names::{Found, LintFile, Rule, RuleSet, add_unless};
+use proto_lint_names::{FileFindings, LintFile, Rule, RuleSet, Verdict};
 use proto_names::{Link, are_read};
 use proto_names_imports::first_places::{first_places, place_of};
 use proto_names_imports::walk::reached_files;
@@ -36,6 +35,7 @@ use proto_names_outline::wanted::Wanted;
 use proto_text::string_value;
 use proto_tree::{File, Import, Item};
 use std::alloc::Global;
+use std::marker::Model;
 
 /// The files of a workspace by their paths, and for each file those that it imports publicly.
 #[derive(Drop)]
@@ -182,28 +182,20 @@ impl Imports {
 
 fn add_import_no_public(
     alloc: Global,
-    found: &mut Vec<Found>,
+    found: &mut FileFindings,
     rules: &RuleSet,
     reading: &LintFile,
     import: &Import,
 ) -> Result<(), NoMemory>
     requires { IsString (word_in (reading_of reading.now) import.now.path) }
-    ensures { OnOk result (map found_of found.new.items ≡ map found_of found.old.items
+    ensures { OnOk result (found.new ≡ found.old
         ++ found_by rules.now.chosen (reading_of reading.now) rule.ImportNoPublic
         (import_no_public (reading_of reading.now) import.now)) }
 {
     let rule = Rule::ImportNoPublic;
     if rules.has(rule) && import.public.is_some() {
         let path = string_value(alloc, reading.text(import.path))?;
-        add_unless(
-            alloc,
-            found,
-            reading,
-            rule,
-            false,
-            import.keyword,
-            path.as_str(),
-        )?;
+        found.add(rule, reading.offset(import.keyword), path.as_str())?;
     }
     Ok(())
 }
@@ -213,66 +205,6 @@ fn passes(reading: &LintFile, is_used: bool) -> bool
     ensures { result ≡ (is_used || (reading_of reading.now).has_custom) }
 {
     is_used || reading.has_custom()
-}
-
-fn add_import_used(
-    alloc: Global,
-    found: &mut Vec<Found>,
-    linter: &Linter,
-    reading: &LintFile,
-    marks: &[bool],
-    import: &Import,
-) -> Result<(), NoMemory>
-    requires string { IsString (word_in (reading_of reading.now) import.now.path) }
-    requires imports { AreImportTablesOf linter.now.files.now linter.now.imports }
-    requires marks { is_chosen linter.now.rules.now.chosen rule.ImportUsed
-        ≡ true → MarksUsed linter.now.files.now reading.now.file marks.now }
-    ensures { OnOk result ((reads : List ReadOf) → AreRead linter.now.files.now reads
-        → map found_of found.new.items ≡ map found_of found.old.items
-        ++ found_by linter.now.rules.now.chosen (reading_of reading.now) rule.ImportUsed
-        (import_used (names_of_files linter.now.files.now reads) (paths_of linter.now.files.now)
-        (reading_of reading.now) reading.now.file import.now)) }
-{
-    let rule = Rule::ImportUsed;
-    if linter.rules.has(rule) && import.public.is_none() {
-        let path = string_value(alloc, reading.text(import.path))?;
-        let is_used = linter
-            .imports
-            .leads(alloc, linter.files, path.as_str(), marks)?;
-        let passes = passes(reading, is_used);
-        add_unless(
-            alloc,
-            found,
-            reading,
-            rule,
-            passes,
-            import.keyword,
-            path.as_str(),
-        )?;
-    }
-    Ok(())
-}
-
-fn add_import(
-    alloc: Global,
-    found: &mut Vec<Found>,
-    linter: &Linter,
-    reading: &LintFile,
-    marks: &[bool],
-    import: &Import,
-) -> Result<(), NoMemory>
-    requires string { IsString (word_in (reading_of reading.now) import.now.path) }
-    requires imports { AreImportTablesOf linter.now.files.now linter.now.imports }
-    requires marks { is_chosen linter.now.rules.now.chosen rule.ImportUsed
-        ≡ true → MarksUsed linter.now.files.now reading.now.file marks.now }
-    ensures { OnOk result ((reads : List ReadOf) → AreRead linter.now.files.now reads
-        → map found_of found.new.items ≡ map found_of found.old.items
-        ++ import_finds linter.now.rules.now.chosen (names_of_files linter.now.files.now reads)
-        (paths_of linter.now.files.now) (reading_of reading.now) reading.now.file import.now) }
-{
-    add_import_no_public(alloc, found, linter.rules, reading, import)?;
-    add_import_used(alloc, found, linter, reading, marks, import)?;
-    Ok(())
 }
 
 fn import(item: &Item) -> Option<&Import>
@@ -321,36 +253,133 @@ fn marks_for(
     }
 }
 
-fn add_statements(
-    alloc: Global,
-    found: &mut Vec<Found>,
-    linter: &Linter,
-    reading: &LintFile,
-    marks: &[bool],
-    statements: &[&Import],
-) -> Result<(), NoMemory>
-    requires strings { All
-        (λ i. IsString (word_in (reading_of reading.now) i.now.path)) statements.now }
-    requires imports { AreImportTablesOf linter.now.files.now linter.now.imports }
-    requires marks { is_chosen linter.now.rules.now.chosen rule.ImportUsed
-        ≡ true → MarksUsed linter.now.files.now reading.now.file marks.now }
-    ensures { OnOk result ((reads : List ReadOf) → AreRead linter.now.files.now reads
-        → map found_of found.new.items ≡ map found_of found.old.items
-        ++ flat_map (import_finds linter.now.rules.now.chosen
-        (names_of_files linter.now.files.now reads)
-        (paths_of linter.now.files.now) (reading_of reading.now) reading.now.file)
-        (map (λ i. i.now) statements.now)) }
-{
-    for import in statements {
-        add_import(alloc, found, linter, reading, marks, import)?;
+/// What the rules of imports know of a file: the workspace, the file as they read it, and marks of
+/// the files that its imports are used for, if the rules ask for them.
+#[derive(Drop)]
+struct FileImports<'a> {
+    linter: &'a Linter<'a>,
+    reading: &'a LintFile<'a>,
+    marks: Vec<bool>,
+}
+
+impl<'a> Model for FileImports<'a> {
+    ghost Value = { ImportsOf };
+
+    ghost view = { λ i. record {
+      rules = i.linter.now.rules.now.chosen;
+      files = i.linter.now.files.now;
+      read = reading_of i.reading.now;
+      file = i.reading.now.file;
+    } };
+
+    ghost invariant = { λ i. AreImportTablesOf i.linter.now.files.now i.linter.now.imports
+        × (is_chosen i.linter.now.rules.now.chosen rule.ImportUsed ≡ true
+        → MarksUsed i.linter.now.files.now i.reading.now.file i.marks.items) };
+}
+
+impl<'a> FileImports<'a> {
+    fn new(
+        alloc: Global,
+        linter: &'a Linter<'a>,
+        reading: &'a LintFile<'a>,
+    ) -> Result<FileImports<'a>, NoMemory>
+        requires file { reading.now.file < length linter.now.files.now }
+        requires imports { AreImportTablesOf linter.now.files.now linter.now.imports }
+        requires link { IsLinkOf linter.now.files.now linter.now.link.now }
+        ensures { IfOk result (λ i. i ≡ record {
+          rules = linter.entry.now.rules.now.chosen;
+          files = linter.entry.now.files.now;
+          read = reading_of reading.entry.now;
+          file = reading.entry.now.file;
+        }) }
+    {
+        let Linter {
+            files,
+            link,
+            rules,
+            ..
+        } = linter;
+        let marks = marks_for(alloc, rules, files, link, reading.file)?;
+        Ok(FileImports {
+            linter,
+            reading,
+            marks,
+        })
     }
-    Ok(())
+
+    fn add_used(
+        &self,
+        alloc: Global,
+        found: &mut FileFindings,
+        import: &Import,
+    ) -> Result<(), NoMemory>
+        requires { IsString (word_in self.now.read import.now.path) }
+        ensures { OnOk result ((reads : List ReadOf) → AreRead self.now.files reads
+            → found.new ≡ found.old ++ found_by self.now.rules self.now.read rule.ImportUsed
+            (import_used (names_of_files self.now.files reads) (paths_of self.now.files)
+            self.now.read self.now.file import.now)) }
+    {
+        let FileImports {
+            linter,
+            reading,
+            marks,
+        } = self;
+        let rule = Rule::ImportUsed;
+        if linter.rules.has(rule) && import.public.is_none() {
+            let path = string_value(alloc, reading.text(import.path))?;
+            let is_used = linter
+                .imports
+                .leads(alloc, linter.files, path.as_str(), marks)?;
+            let passes = passes(reading, is_used);
+            found.add_unless(
+                reading,
+                Verdict { rule, passes },
+                import.keyword,
+                path.as_str(),
+            )?;
+        }
+        Ok(())
+    }
+
+    fn add_import(
+        &self,
+        alloc: Global,
+        found: &mut FileFindings,
+        import: &Import,
+    ) -> Result<(), NoMemory>
+        requires { IsString (word_in self.now.read import.now.path) }
+        ensures { OnOk result ((reads : List ReadOf) → AreRead self.now.files reads
+            → found.new ≡ found.old ++ import_finds self.now.rules
+            (names_of_files self.now.files reads) (paths_of self.now.files)
+            self.now.read self.now.file import.now) }
+    {
+        add_import_no_public(alloc, found, self.linter.rules, self.reading, import)?;
+        self.add_used(alloc, found, import)
+    }
+
+    fn add_statements(
+        &self,
+        alloc: Global,
+        found: &mut FileFindings,
+        statements: &[&Import],
+    ) -> Result<(), NoMemory>
+        requires { All (λ i. IsString (word_in self.now.read i.now.path)) statements.now }
+        ensures { OnOk result ((reads : List ReadOf) → AreRead self.now.files reads
+            → found.new ≡ found.old ++ flat_map (import_finds self.now.rules
+            (names_of_files self.now.files reads) (paths_of self.now.files)
+            self.now.read self.now.file) (map (λ i. i.now) statements.now)) }
+    {
+        for import in statements {
+            self.add_import(alloc, found, import)?;
+        }
+        Ok(())
+    }
 }
 
 /// Adds what the rules of imports find in the file that is read so. Fails only when out of memory.
 pub fn add_imports(
     alloc: Global,
-    found: &mut Vec<Found>,
+    found: &mut FileFindings,
     linter: &Linter,
     reading: &LintFile,
 ) -> Result<(), NoMemory>
@@ -360,20 +389,14 @@ pub fn add_imports(
     requires imports { AreImportTablesOf linter.now.files.now linter.now.imports }
     requires link { IsLinkOf linter.now.files.now linter.now.link.now }
     ensures { OnOk result ((reads : List ReadOf) → AreRead linter.now.files.now reads
-        → map found_of found.new.items ≡ map found_of found.old.items
+        → found.new ≡ found.old
         ++ imports_finds linter.now.rules.now.chosen (names_of_files linter.now.files.now reads)
         (paths_of linter.now.files.now) (reading_of reading.now) reading.now.file
         (read_at reads reading.now.file).tree) }
 {
-    let Linter {
-        files,
-        link,
-        rules,
-        ..
-    } = linter;
     // Each file has tokens and a tree.
-    are_read(files);
-    let marks = marks_for(alloc, rules, files, link, reading.file)?;
-    let statements = import_statements(alloc, files.tree(reading.file))?;
-    add_statements(alloc, found, linter, reading, &marks, &statements)
+    are_read(linter.files);
+    let statements = import_statements(alloc, linter.files.tree(reading.file))?;
+    let imports = FileImports::new(alloc, linter, reading)?;
+    imports.add_statements(alloc, found, &statements)
 }

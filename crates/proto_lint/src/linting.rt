@@ -4,7 +4,7 @@ ghost use Rattle.std.specs.Prelude.{◌≡◌, ◌<◌, List, length, map, IfOk}
 ghost use Rattle.proto_files.specs.FilesRead.{ReadOf, AreRead};
 ghost use Rattle.proto_names.specs.LinkOfFiles.{IsLinkOf};
 ghost use Rattle.proto_lint_names.specs.Listings.{IsListingOf};
-ghost use Rattle.proto_lint_names.specs.Views.{finding_of, found_of};
+ghost use Rattle.proto_lint_names.specs.Views.{finding_of};
 ghost use Rattle.proto_lint.specs.Findings.{file_finds, findings};
 ghost use Rattle.proto_lint.specs.Linters.{IsLinter};
 
@@ -14,8 +14,8 @@ use crate::packages::add_head;
 use proto_base::NoMemory;
 use proto_files::Files;
 use proto_lint_names::{
-    Finding, Found, LintFile, Messages, RuleSet, Walk, add_blocks, add_findings, messages_of,
-    sorted_findings,
+    FileFindings, Finding, LintFile, Messages, RuleSet, Walk, add_blocks, add_findings,
+    messages_of, sorted_findings,
 };
 use proto_names::{Link, are_read};
 use std::alloc::Global;
@@ -60,12 +60,11 @@ impl<'a> Linter<'a> {
     }
 
     /// What the rules find in a file.
-    fn finds_in(&self, alloc: Global, file: u32) -> Result<Vec<Found>, NoMemory>
+    fn finds_in(&self, alloc: Global, file: u32) -> Result<FileFindings, NoMemory>
         requires linter { IsLinter self.now }
         requires file { file < length self.now.files.now }
         ensures { IfOk result (λ found. (reads : List ReadOf) → AreRead self.now.files.now reads
-            → map found_of found.items
-            ≡ file_finds self.now.rules.now.chosen self.now.files.now reads file) }
+            → found ≡ file_finds self.now.rules.now.chosen self.now.files.now reads file) }
     {
         let Linter {
             files,
@@ -76,8 +75,8 @@ impl<'a> Linter<'a> {
             ..
         } = self;
         let reading = LintFile::of(files, link, file);
-        let mut found = Vec::new(alloc);
-        add_head(alloc, &mut found, rules, heads, file)?;
+        let mut found = FileFindings::new(alloc);
+        add_head(&mut found, rules, heads, file)?;
         add_imports(alloc, &mut found, self, &reading)?;
         let walk = Walk {
             rules,

@@ -1,19 +1,17 @@
 //! The rules of packages, paths and syntax.
 
-ghost use Rattle.std.specs.Prelude.{◌≡◌, ◌==◌, if◌then◌else◌, ◌<◌, ◌∷◌, [], ◌++◌, length, get_or, map, OnOk};
+ghost use Rattle.std.specs.Prelude.{◌≡◌, ◌==◌, if◌then◌else◌, ◌<◌, ◌++◌, length, get_or, map, OnOk};
 ghost use Rattle.std.specs.List.{list_all};
 ghost use Rattle.std.specs.Str.{bytes_eq};
 ghost use Rattle.proto_base.specs.Ascii as ascii;
 ghost use Rattle.proto_case.specs.Cases.{is_lower_snake};
-ghost use Rattle.proto_lint_names.specs.Views.{found_of};
 ghost use Rattle.proto_lint_rules.specs.declared.rule.Rule.TheVariants as rule;
 ghost use Rattle.proto_lint.specs.Packages.{Head, file_name, found_unless, has_directory_like_package, has_directory_of_package, has_lower_snake_file, has_lower_snake_package, has_package, has_package_of_directory, has_version, head_finds, package_or_dash, package_unless, passes, slashed};
 
 use crate::heads::{FileHead, Heads};
 use proto_base::NoMemory;
 use proto_case::{is_lower_snake, is_version};
-use proto_lint_names::{Found, Rule, RuleSet, last_part};
-use std::alloc::Global;
+use proto_lint_names::{FileFindings, Rule, RuleSet, last_part};
 
 // ---- each rule, as what passes
 
@@ -119,21 +117,6 @@ fn package_or_dash<'a>(head: &'a FileHead) -> &'a str
     }
 }
 
-fn add(
-    alloc: Global,
-    found: &mut Vec<Found>,
-    rule: Rule,
-    offset: u32,
-    name: &str,
-) -> Result<(), NoMemory>
-    ensures { OnOk result (map found_of found.new.items ≡ map found_of found.old.items
-        ++ (record { offset = offset; rule = rule; name = name.now }) ∷ []) }
-{
-    let name = String::from_str(alloc, name)?;
-    found.push(Found { offset, rule, name })?;
-    Ok(())
-}
-
 /// Whether a file passes a rule of packages. It passes each rule that is none.
 fn passes(rule: Rule, heads: &Heads, head: &FileHead) -> bool
     ensures { result ≡ passes rule heads.now head.now }
@@ -152,51 +135,48 @@ fn passes(rule: Rule, heads: &Heads, head: &FileHead) -> bool
 /// Adds what a rule of packages finds: the package, at its name. A rule that is not chosen costs
 /// nothing, since it is asked for before the file is looked at.
 fn add_package(
-    alloc: Global,
-    found: &mut Vec<Found>,
+    found: &mut FileFindings,
     rules: &RuleSet,
     rule: Rule,
     heads: &Heads,
     head: &FileHead,
 ) -> Result<(), NoMemory>
-    ensures { OnOk result (map found_of found.new.items ≡ map found_of found.old.items
+    ensures { OnOk result (found.new ≡ found.old
         ++ package_unless rules.now.chosen rule (passes rule heads.now head.now) head.now) }
 {
     if rules.has(rule) && !passes(rule, heads, head) {
-        add(alloc, found, rule, head.offset(), package_or_dash(head))?;
+        found.add(rule, head.offset(), package_or_dash(head))?;
     }
     Ok(())
 }
 
 fn add_file_lower_snake_case(
-    alloc: Global,
-    found: &mut Vec<Found>,
+    found: &mut FileFindings,
     rules: &RuleSet,
     head: &FileHead,
 ) -> Result<(), NoMemory>
-    ensures { OnOk result (map found_of found.new.items ≡ map found_of found.old.items
+    ensures { OnOk result (found.new ≡ found.old
         ++ found_unless rules.now.chosen rule.FileLowerSnakeCase
         (has_lower_snake_file head.now) 0 (file_name head.now)) }
 {
     let rule = Rule::FileLowerSnakeCase;
     if rules.has(rule) && !has_lower_snake_file(head) {
-        add(alloc, found, rule, 0, head.file_name())?;
+        found.add(rule, 0, head.file_name())?;
     }
     Ok(())
 }
 
 fn add_syntax_specified(
-    alloc: Global,
-    found: &mut Vec<Found>,
+    found: &mut FileFindings,
     rules: &RuleSet,
     head: &FileHead,
 ) -> Result<(), NoMemory>
-    ensures { OnOk result (map found_of found.new.items ≡ map found_of found.old.items
+    ensures { OnOk result (found.new ≡ found.old
         ++ found_unless rules.now.chosen rule.SyntaxSpecified head.now.has_syntax 0 head.now.path) }
 {
     let rule = Rule::SyntaxSpecified;
     if rules.has(rule) && !head.has_syntax() {
-        add(alloc, found, rule, 0, head.path())?;
+        found.add(rule, 0, head.path())?;
     }
     Ok(())
 }
@@ -204,38 +184,23 @@ fn add_syntax_specified(
 /// Adds what the rules of packages, paths and syntax find in a file, by its number. Fails only when
 /// out of memory.
 pub fn add_head(
-    alloc: Global,
-    found: &mut Vec<Found>,
+    found: &mut FileFindings,
     rules: &RuleSet,
     heads: &Heads,
     file: u32,
 ) -> Result<(), NoMemory>
     requires { file < length heads.now }
-    ensures { OnOk result ((d : Head) → map found_of found.new.items ≡ map found_of found.old.items
+    ensures { OnOk result ((d : Head) → found.new ≡ found.old
         ++ head_finds rules.now.chosen heads.now (get_or heads.now file d)) }
 {
     let head = heads.get(file);
-    add_package(alloc, found, rules, Rule::DirectorySamePackage, heads, head)?;
-    add_file_lower_snake_case(alloc, found, rules, head)?;
-    add_package(alloc, found, rules, Rule::PackageDefined, heads, head)?;
-    add_package(
-        alloc,
-        found,
-        rules,
-        Rule::PackageDirectoryMatch,
-        heads,
-        head,
-    )?;
-    add_package(
-        alloc,
-        found,
-        rules,
-        Rule::PackageLowerSnakeCase,
-        heads,
-        head,
-    )?;
-    add_package(alloc, found, rules, Rule::PackageSameDirectory, heads, head)?;
-    add_package(alloc, found, rules, Rule::PackageVersionSuffix, heads, head)?;
-    add_syntax_specified(alloc, found, rules, head)?;
+    add_package(found, rules, Rule::DirectorySamePackage, heads, head)?;
+    add_file_lower_snake_case(found, rules, head)?;
+    add_package(found, rules, Rule::PackageDefined, heads, head)?;
+    add_package(found, rules, Rule::PackageDirectoryMatch, heads, head)?;
+    add_package(found, rules, Rule::PackageLowerSnakeCase, heads, head)?;
+    add_package(found, rules, Rule::PackageSameDirectory, heads, head)?;
+    add_package(found, rules, Rule::PackageVersionSuffix, heads, head)?;
+    add_syntax_specified(found, rules, head)?;
     Ok(())
 }

@@ -10,11 +10,10 @@ ghost use Rattle.proto_case.specs.Cases.{is_upper_snake};
 ghost use Rattle.proto_lint_rules.specs.declared.rule.Rule.TheVariants as rule;
 ghost use Rattle.proto_lint_names.specs.Placed.{found_at, found_by, unless_word};
 ghost use Rattle.proto_lint_names.specs.Readings.{reading_of, word_in};
-ghost use Rattle.proto_lint_names.specs.Views.{found_of};
 ghost use Rattle.proto_lint_names.specs.NameRules.{allowed_alias, allows_alias, enum_finds, enum_first_value_zero, enum_no_allow_alias, enum_value_prefix, enum_value_upper_snake_case, enum_zero_value_suffix, is_zero, value_prefix};
 
-use crate::found::{Found, add_below_unless, add_unless, under};
-use crate::names::{ScopedName, add_name};
+use crate::found::{FileFindings, Verdict, under};
+use crate::names::add_name;
 use crate::reading::LintFile;
 use crate::walk::Walk;
 use crate::{Rule, RuleSet};
@@ -36,14 +35,13 @@ fn is_zero(reading: &LintFile, value: &Value) -> bool
 }
 
 fn add_first_value(
-    alloc: Global,
-    found: &mut Vec<Found>,
+    found: &mut FileFindings,
     rules: &RuleSet,
     reading: &LintFile,
     scope: &str,
     items: &[EnumItem],
 ) -> Result<(), NoMemory>
-    ensures { OnOk result (map found_of found.new.items ≡ map found_of found.old.items
+    ensures { OnOk result (found.new ≡ found.old
         ++ found_by rules.now.chosen (reading_of reading.now) rule.EnumFirstValueZero
         (enum_first_value_zero (reading_of reading.now) scope.now
         (trees enum_item_tree items.now))) }
@@ -55,7 +53,7 @@ fn add_first_value(
         if let EnumItem::Value(value) = item {
             let passes = is_zero(reading, value);
             let rule = Rule::EnumFirstValueZero;
-            return add_below_unless(alloc, found, reading, rule, passes, scope, value.name);
+            return found.add_below_unless(reading, Verdict { rule, passes }, scope, value.name);
         }
     }
     Ok(())
@@ -68,13 +66,12 @@ fn has_zero_suffix(word: &str) -> bool
 }
 
 fn add_zero_suffix(
-    alloc: Global,
-    found: &mut Vec<Found>,
+    found: &mut FileFindings,
     reading: &LintFile,
     scope: &str,
     item: &EnumItem,
 ) -> Result<(), NoMemory>
-    ensures { OnOk result (map found_of found.new.items ≡ map found_of found.old.items ++ map
+    ensures { OnOk result (found.new ≡ found.old ++ map
         (found_at (reading_of reading.now) rule.EnumZeroValueSuffix)
         (flat_map (λ v. unless_word (reading_of reading.now)
         (λ w. not (is_zero (reading_of reading.now) v) || ends_with nat_eq w (codes "_UNSPECIFIED"))
@@ -84,21 +81,20 @@ fn add_zero_suffix(
         EnumItem::Value(value) => {
             let rule = Rule::EnumZeroValueSuffix;
             let passes = !is_zero(reading, value) || has_zero_suffix(reading.text(value.name));
-            add_below_unless(alloc, found, reading, rule, passes, scope, value.name)
+            found.add_below_unless(reading, Verdict { rule, passes }, scope, value.name)
         }
         _ => Ok(()),
     }
 }
 
 fn add_zero_suffixes(
-    alloc: Global,
-    found: &mut Vec<Found>,
+    found: &mut FileFindings,
     rules: &RuleSet,
     reading: &LintFile,
     scope: &str,
     items: &[EnumItem],
 ) -> Result<(), NoMemory>
-    ensures { OnOk result (map found_of found.new.items ≡ map found_of found.old.items
+    ensures { OnOk result (found.new ≡ found.old
         ++ found_by rules.now.chosen (reading_of reading.now) rule.EnumZeroValueSuffix
         (enum_zero_value_suffix (reading_of reading.now) scope.now
         (trees enum_item_tree items.now))) }
@@ -107,7 +103,7 @@ fn add_zero_suffixes(
         return Ok(());
     }
     for item in items {
-        add_zero_suffix(alloc, found, reading, scope, item)?;
+        add_zero_suffix(found, reading, scope, item)?;
     }
     Ok(())
 }
@@ -115,13 +111,12 @@ fn add_zero_suffixes(
 // ---- names
 
 fn add_value_name(
-    alloc: Global,
-    found: &mut Vec<Found>,
+    found: &mut FileFindings,
     reading: &LintFile,
     scope: &str,
     item: &EnumItem,
 ) -> Result<(), NoMemory>
-    ensures { OnOk result (map found_of found.new.items ≡ map found_of found.old.items ++ map
+    ensures { OnOk result (found.new ≡ found.old ++ map
         (found_at (reading_of reading.now) rule.EnumValueUpperSnakeCase)
         (flat_map (λ v. unless_word (reading_of reading.now) is_upper_snake scope.now v.name)
         (values_in (enum_item_tree item.now)))) }
@@ -130,21 +125,20 @@ fn add_value_name(
         EnumItem::Value(value) => {
             let rule = Rule::EnumValueUpperSnakeCase;
             let passes = is_upper_snake(reading.text(value.name));
-            add_below_unless(alloc, found, reading, rule, passes, scope, value.name)
+            found.add_below_unless(reading, Verdict { rule, passes }, scope, value.name)
         }
         _ => Ok(()),
     }
 }
 
 fn add_value_names(
-    alloc: Global,
-    found: &mut Vec<Found>,
+    found: &mut FileFindings,
     rules: &RuleSet,
     reading: &LintFile,
     scope: &str,
     items: &[EnumItem],
 ) -> Result<(), NoMemory>
-    ensures { OnOk result (map found_of found.new.items ≡ map found_of found.old.items
+    ensures { OnOk result (found.new ≡ found.old
         ++ found_by rules.now.chosen (reading_of reading.now) rule.EnumValueUpperSnakeCase
         (enum_value_upper_snake_case (reading_of reading.now) scope.now
         (trees enum_item_tree items.now))) }
@@ -153,7 +147,7 @@ fn add_value_names(
         return Ok(());
     }
     for item in items {
-        add_value_name(alloc, found, reading, scope, item)?;
+        add_value_name(found, reading, scope, item)?;
     }
     Ok(())
 }
@@ -174,14 +168,13 @@ fn has_prefix(word: &str, prefix: &str) -> bool
 }
 
 fn add_unprefixed(
-    alloc: Global,
-    found: &mut Vec<Found>,
+    found: &mut FileFindings,
     reading: &LintFile,
     scope: &str,
     prefix: &str,
     item: &EnumItem,
 ) -> Result<(), NoMemory>
-    ensures { OnOk result (map found_of found.new.items ≡ map found_of found.old.items ++ map
+    ensures { OnOk result (found.new ≡ found.old ++ map
         (found_at (reading_of reading.now) rule.EnumValuePrefix)
         (flat_map (λ v. unless_word (reading_of reading.now)
         (λ w. starts_with nat_eq w prefix.now) scope.now v.name)
@@ -191,50 +184,49 @@ fn add_unprefixed(
         EnumItem::Value(value) => {
             let rule = Rule::EnumValuePrefix;
             let passes = has_prefix(reading.text(value.name), prefix);
-            add_below_unless(alloc, found, reading, rule, passes, scope, value.name)
+            found.add_below_unless(reading, Verdict { rule, passes }, scope, value.name)
         }
         _ => Ok(()),
     }
 }
 
 fn add_each_unprefixed(
-    alloc: Global,
-    found: &mut Vec<Found>,
+    found: &mut FileFindings,
     reading: &LintFile,
     scope: &str,
     prefix: &str,
     items: &[EnumItem],
 ) -> Result<(), NoMemory>
-    ensures { OnOk result (map found_of found.new.items ≡ map found_of found.old.items ++ map
+    ensures { OnOk result (found.new ≡ found.old ++ map
         (found_at (reading_of reading.now) rule.EnumValuePrefix)
         (flat_map (λ v. unless_word (reading_of reading.now)
         (λ w. starts_with nat_eq w prefix.now) scope.now v.name)
         (values_in (trees enum_item_tree items.now)))) }
 {
     for item in items {
-        add_unprefixed(alloc, found, reading, scope, prefix, item)?;
+        add_unprefixed(found, reading, scope, prefix, item)?;
     }
     Ok(())
 }
 
 fn add_prefixes(
     alloc: Global,
-    found: &mut Vec<Found>,
-    rules: &RuleSet,
-    reading: &LintFile,
+    found: &mut FileFindings,
+    walk: &Walk,
     scope: &str,
     names: &Enum,
 ) -> Result<(), NoMemory>
-    ensures { OnOk result (map found_of found.new.items ≡ map found_of found.old.items
-        ++ found_by rules.now.chosen (reading_of reading.now) rule.EnumValuePrefix
-        (enum_value_prefix (reading_of reading.now) scope.now names.now.name
-        (trees enum_item_tree names.now.members.items))) }
+    ensures { OnOk result (found.new ≡ found.old
+        ++ found_by walk.now.rules.now.chosen (reading_of walk.now.reading.now)
+        rule.EnumValuePrefix (enum_value_prefix (reading_of walk.now.reading.now)
+        scope.now names.now.name (trees enum_item_tree names.now.members.items))) }
 {
+    let Walk { rules, reading, .. } = *walk;
     if !rules.has(Rule::EnumValuePrefix) {
         return Ok(());
     }
     let prefix = value_prefix(alloc, reading.text(names.name))?;
-    add_each_unprefixed(alloc, found, reading, scope, &prefix, &names.members)
+    add_each_unprefixed(found, reading, scope, &prefix, &names.members)
 }
 
 // ---- aliases
@@ -264,13 +256,12 @@ fn allows_alias(reading: &LintFile, setting: &Setting) -> bool
 
 // What an item of an enum with this full name allows of aliases.
 fn add_alias(
-    alloc: Global,
-    found: &mut Vec<Found>,
+    found: &mut FileFindings,
     reading: &LintFile,
     full_name: &str,
     item: &EnumItem,
 ) -> Result<(), NoMemory>
-    ensures { OnOk result (map found_of found.new.items ≡ map found_of found.old.items ++ map
+    ensures { OnOk result (found.new ≡ found.old ++ map
         (found_at (reading_of reading.now) rule.EnumNoAllowAlias)
         (flat_map (allowed_alias (reading_of reading.now) full_name.now)
         (statements (enum_item_tree item.now)))) }
@@ -279,56 +270,47 @@ fn add_alias(
         EnumItem::Option(option) => {
             let rule = Rule::EnumNoAllowAlias;
             let passes = !allows_alias(reading, &option.setting);
-            add_unless(
-                alloc,
-                found,
-                reading,
-                rule,
-                passes,
-                option.keyword,
-                full_name,
-            )
+            found.add_unless(reading, Verdict { rule, passes }, option.keyword, full_name)
         }
         _ => Ok(()),
     }
 }
 
 fn add_each_alias(
-    alloc: Global,
-    found: &mut Vec<Found>,
+    found: &mut FileFindings,
     reading: &LintFile,
     full_name: &str,
     items: &[EnumItem],
 ) -> Result<(), NoMemory>
-    ensures { OnOk result (map found_of found.new.items ≡ map found_of found.old.items ++ map
+    ensures { OnOk result (found.new ≡ found.old ++ map
         (found_at (reading_of reading.now) rule.EnumNoAllowAlias)
         (flat_map (allowed_alias (reading_of reading.now) full_name.now)
         (statements (trees enum_item_tree items.now)))) }
 {
     for item in items {
-        add_alias(alloc, found, reading, full_name, item)?;
+        add_alias(found, reading, full_name, item)?;
     }
     Ok(())
 }
 
 fn add_aliases(
     alloc: Global,
-    found: &mut Vec<Found>,
-    rules: &RuleSet,
-    reading: &LintFile,
+    found: &mut FileFindings,
+    walk: &Walk,
     scope: &str,
     names: &Enum,
 ) -> Result<(), NoMemory>
-    ensures { OnOk result (map found_of found.new.items ≡ map found_of found.old.items
-        ++ found_by rules.now.chosen (reading_of reading.now) rule.EnumNoAllowAlias
-        (enum_no_allow_alias (reading_of reading.now) scope.now names.now.name
-        (trees enum_item_tree names.now.members.items))) }
+    ensures { OnOk result (found.new ≡ found.old
+        ++ found_by walk.now.rules.now.chosen (reading_of walk.now.reading.now)
+        rule.EnumNoAllowAlias (enum_no_allow_alias (reading_of walk.now.reading.now)
+        scope.now names.now.name (trees enum_item_tree names.now.members.items))) }
 {
+    let Walk { rules, reading, .. } = *walk;
     if !rules.has(Rule::EnumNoAllowAlias) {
         return Ok(());
     }
     let full_name = under(alloc, scope, reading.text(names.name))?;
-    add_each_alias(alloc, found, reading, &full_name, &names.members)
+    add_each_alias(found, reading, &full_name, &names.members)
 }
 
 // ---- all of them
@@ -336,25 +318,24 @@ fn add_aliases(
 /// Adds what the rules find at an enum in a scope: its name, its options and its values.
 pub(crate) fn add_enum(
     alloc: Global,
-    found: &mut Vec<Found>,
+    found: &mut FileFindings,
     walk: &Walk,
     scope: &str,
     names: &Enum,
 ) -> Result<(), NoMemory>
-    ensures { OnOk result (map found_of found.new.items ≡ map found_of found.old.items
+    ensures { OnOk result (found.new ≡ found.old
         ++ enum_finds walk.now.rules.now.chosen (reading_of walk.now.reading.now)
         scope.now names.now.name (trees enum_item_tree names.now.members.items)) }
 {
     let Walk { rules, reading, .. } = *walk;
     let items = names.members.as_slice();
-    add_first_value(alloc, found, rules, reading, scope, items)?;
-    add_aliases(alloc, found, rules, reading, scope, names)?;
+    add_first_value(found, rules, reading, scope, items)?;
+    add_aliases(alloc, found, walk, scope, names)?;
     let token = names.name;
-    let name = ScopedName { scope, token };
     let rule = Rule::EnumPascalCase;
     let passes = is_pascal(reading.text(token));
-    add_name(alloc, found, walk, rule, passes, &name)?;
-    add_prefixes(alloc, found, rules, reading, scope, names)?;
-    add_value_names(alloc, found, rules, reading, scope, items)?;
-    add_zero_suffixes(alloc, found, rules, reading, scope, items)
+    add_name(found, walk, Verdict { rule, passes }, scope, token)?;
+    add_prefixes(alloc, found, walk, scope, names)?;
+    add_value_names(found, rules, reading, scope, items)?;
+    add_zero_suffixes(found, rules, reading, scope, items)
 }

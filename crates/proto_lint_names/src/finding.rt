@@ -2,9 +2,9 @@
 
 ghost use Rattle.std.specs.Prelude.{◌≡◌, ◌++◌, map, OnOk};
 ghost use Rattle.proto_lint_names.specs.Listings.{IsListingOf, found_in};
-ghost use Rattle.proto_lint_names.specs.Views.{finding_of, found_of};
+ghost use Rattle.proto_lint_names.specs.Views.{finding_of};
 
-use crate::found::Found;
+use crate::found::{FileFindings, Found};
 use proto_base::NoMemory;
 use proto_lint_rules::Rule;
 use std::alloc::Global;
@@ -44,12 +44,12 @@ pub fn add_findings(
     alloc: Global,
     all: &mut Vec<Finding>,
     path: &str,
-    found: Vec<Found>,
+    found: FileFindings,
 ) -> Result<(), NoMemory>
     ensures { OnOk result (map finding_of all.new.items
-        ≡ map finding_of all.old.items ++ map (found_in path.now) (map found_of found.items)) }
+        ≡ map finding_of all.old.items ++ map (found_in path.now) found) }
 {
-    for Found { offset, rule, name } in found {
+    for Found { offset, rule, name } in found.into_vec() {
         let path = String::from_str(alloc, path)?;
         all.push(Finding {
             path,

@@ -16,7 +16,7 @@ mod shared;
 mod walk;
 
 pub use finding::{Finding, add_findings, sorted_findings};
-pub use found::{Found, add_below_unless, add_unless, under};
+pub use found::{FileFindings, Verdict, under};
 pub use method_types::messages_of;
 pub use parts::{directory_of, file_name_of, last_part};
 pub use proto_lint_rules::{Rule, RuleSet, laws};

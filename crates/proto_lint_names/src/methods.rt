@@ -1,14 +1,13 @@
 //! The rules of methods.
 
-ghost use Rattle.std.specs.Prelude.{◌≡◌, ◌++◌, ◌||◌, codes, map, OnOk};
+ghost use Rattle.std.specs.Prelude.{◌≡◌, ◌++◌, ◌||◌, codes, OnOk};
 ghost use Rattle.std.specs.Str.{bytes_eq};
 ghost use Rattle.proto_lint_names.specs.Readings.{reading_of, word_in};
-ghost use Rattle.proto_lint_names.specs.Views.{found_of};
 ghost use Rattle.proto_lint_names.specs.Methods.{is_shared, is_standard, method_finds, type_meant};
 
 use crate::Rule;
-use crate::found::Found;
-use crate::names::{ScopedName, add_name};
+use crate::found::{FileFindings, Verdict};
+use crate::names::add_name;
 use crate::parts::last_part;
 use crate::reading::LintFile;
 use crate::shared::Messages;
@@ -16,7 +15,6 @@ use crate::walk::Walk;
 use proto_base::NoMemory;
 use proto_case::is_pascal;
 use proto_tree::{MethodType, Signature};
-use std::alloc::Global;
 
 /// A service as the rules of its methods name it: its full name, and the token of its own.
 #[derive(Clone, Copy)]
@@ -109,37 +107,34 @@ fn has_shared(reading: &LintFile, messages: &Messages, method: &Signature) -> bo
 
 /// Adds what the rules find at a method of a service.
 pub(crate) fn add_method(
-    alloc: Global,
-    found: &mut Vec<Found>,
+    found: &mut FileFindings,
     walk: &Walk,
     service: &ServiceName,
     method: &Signature,
 ) -> Result<(), NoMemory>
-    ensures { OnOk result (map found_of found.new.items ≡ map found_of found.old.items
+    ensures { OnOk result (found.new ≡ found.old
         ++ method_finds walk.now.rules.now.chosen (reading_of walk.now.reading.now)
         walk.now.messages.now service.now.full.now service.now.token method.now) }
 {
     let reading = walk.reading;
-    let name = ScopedName {
-        scope: service.full,
-        token: method.name,
-    };
+    let scope = service.full;
+    let token = method.name;
     let rule = Rule::RpcNoClientStreaming;
     let passes = method.input.stream.is_none();
-    add_name(alloc, found, walk, rule, passes, &name)?;
+    add_name(found, walk, Verdict { rule, passes }, scope, token)?;
     let rule = Rule::RpcNoServerStreaming;
     let passes = method.output.stream.is_none();
-    add_name(alloc, found, walk, rule, passes, &name)?;
+    add_name(found, walk, Verdict { rule, passes }, scope, token)?;
     let rule = Rule::RpcPascalCase;
-    let passes = is_pascal(reading.text(method.name));
-    add_name(alloc, found, walk, rule, passes, &name)?;
+    let passes = is_pascal(reading.text(token));
+    add_name(found, walk, Verdict { rule, passes }, scope, token)?;
     let rule = Rule::RpcRequestResponseUnique;
     let passes = !has_shared(reading, walk.messages, method);
-    add_name(alloc, found, walk, rule, passes, &name)?;
+    add_name(found, walk, Verdict { rule, passes }, scope, token)?;
     let rule = Rule::RpcRequestStandardName;
     let passes = is_request_standard(reading, service.token, method);
-    add_name(alloc, found, walk, rule, passes, &name)?;
+    add_name(found, walk, Verdict { rule, passes }, scope, token)?;
     let rule = Rule::RpcResponseStandardName;
     let passes = is_response_standard(reading, service.token, method);
-    add_name(alloc, found, walk, rule, passes, &name)
+    add_name(found, walk, Verdict { rule, passes }, scope, token)
 }

@@ -1,17 +1,16 @@
 //! The rules of services, and those of their methods.
 
-ghost use Rattle.std.specs.Prelude.{◌≡◌, ◌++◌, nat_eq, codes, flat_map, map, OnOk};
+ghost use Rattle.std.specs.Prelude.{◌≡◌, ◌++◌, nat_eq, codes, flat_map, OnOk};
 ghost use Rattle.std.specs.List.{ends_with};
 ghost use Rattle.proto_tree.specs.File.{service_item_tree, trees};
 ghost use Rattle.proto_lint_names.specs.Readings.{reading_of};
-ghost use Rattle.proto_lint_names.specs.Views.{found_of};
 ghost use Rattle.proto_lint_names.specs.Methods.{method_finds, methods_finds, signatures_in};
 ghost use Rattle.proto_lint_names.specs.NameRules.{service_finds};
 
 use crate::Rule;
-use crate::found::{Found, under};
+use crate::found::{FileFindings, Verdict, under};
 use crate::methods::{ServiceName, add_method};
-use crate::names::{ScopedName, add_name};
+use crate::names::add_name;
 use crate::walk::Walk;
 use proto_base::NoMemory;
 use proto_case::is_pascal;
@@ -26,49 +25,47 @@ fn has_service_suffix(word: &str) -> bool
 
 // What the rules of methods find at an item of a service.
 fn add_item(
-    alloc: Global,
-    found: &mut Vec<Found>,
+    found: &mut FileFindings,
     walk: &Walk,
     service: &ServiceName,
     item: &ServiceItem,
 ) -> Result<(), NoMemory>
-    ensures { OnOk result (map found_of found.new.items ≡ map found_of found.old.items ++ flat_map
+    ensures { OnOk result (found.new ≡ found.old ++ flat_map
         (method_finds walk.now.rules.now.chosen (reading_of walk.now.reading.now)
         walk.now.messages.now service.now.full.now service.now.token)
         (signatures_in (service_item_tree item.now))) }
 {
     match item {
-        ServiceItem::Method(method) => add_method(alloc, found, walk, service, &method.signature),
+        ServiceItem::Method(method) => add_method(found, walk, service, &method.signature),
         _ => Ok(()),
     }
 }
 
 fn add_items(
-    alloc: Global,
-    found: &mut Vec<Found>,
+    found: &mut FileFindings,
     walk: &Walk,
     service: &ServiceName,
     items: &[ServiceItem],
 ) -> Result<(), NoMemory>
-    ensures { OnOk result (map found_of found.new.items ≡ map found_of found.old.items ++ flat_map
+    ensures { OnOk result (found.new ≡ found.old ++ flat_map
         (method_finds walk.now.rules.now.chosen (reading_of walk.now.reading.now)
         walk.now.messages.now service.now.full.now service.now.token)
         (signatures_in (trees service_item_tree items.now))) }
 {
     for item in items {
-        add_item(alloc, found, walk, service, item)?;
+        add_item(found, walk, service, item)?;
     }
     Ok(())
 }
 
 fn add_methods(
     alloc: Global,
-    found: &mut Vec<Found>,
+    found: &mut FileFindings,
     walk: &Walk,
     scope: &str,
     service: &Service,
 ) -> Result<(), NoMemory>
-    ensures { OnOk result (map found_of found.new.items ≡ map found_of found.old.items
+    ensures { OnOk result (found.new ≡ found.old
         ++ methods_finds walk.now.rules.now.chosen (reading_of walk.now.reading.now)
         walk.now.messages.now scope.now service.now.name
         (trees service_item_tree service.now.members.items)) }
@@ -78,18 +75,18 @@ fn add_methods(
         full: &full,
         token: service.name,
     };
-    add_items(alloc, found, walk, &name, &service.members)
+    add_items(found, walk, &name, &service.members)
 }
 
 /// Adds what the rules find at a service in a scope: its name, and its methods.
 pub(crate) fn add_service(
     alloc: Global,
-    found: &mut Vec<Found>,
+    found: &mut FileFindings,
     walk: &Walk,
     scope: &str,
     service: &Service,
 ) -> Result<(), NoMemory>
-    ensures { OnOk result (map found_of found.new.items ≡ map found_of found.old.items ++
+    ensures { OnOk result (found.new ≡ found.old ++
         (service_finds walk.now.rules.now.chosen (reading_of walk.now.reading.now)
         scope.now service.now.name
         ++ methods_finds walk.now.rules.now.chosen (reading_of walk.now.reading.now)
@@ -98,12 +95,11 @@ pub(crate) fn add_service(
 {
     let reading = walk.reading;
     let token = service.name;
-    let name = ScopedName { scope, token };
     let rule = Rule::ServicePascalCase;
     let passes = is_pascal(reading.text(token));
-    add_name(alloc, found, walk, rule, passes, &name)?;
+    add_name(found, walk, Verdict { rule, passes }, scope, token)?;
     let rule = Rule::ServiceSuffix;
     let passes = has_service_suffix(reading.text(token));
-    add_name(alloc, found, walk, rule, passes, &name)?;
+    add_name(found, walk, Verdict { rule, passes }, scope, token)?;
     add_methods(alloc, found, walk, scope, service)
 }

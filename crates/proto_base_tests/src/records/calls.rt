@@ -3,7 +3,8 @@
 use proto_base::NoMemory;
 use proto_edit_entries::{Change, Edit, Entry, one_splice};
 use proto_journal_records::{
-    JournalFault, Record, State, Version, entry_text, read_entry, read_records, with_record,
+    JournalFault, Record, RecordParts, State, Version, entry_text, read_entry, read_records,
+    with_record,
 };
 use std::process::Abort;
 
@@ -61,7 +62,12 @@ pub(crate) fn expect_longer<R: AllocGlobal + Abort>(
 ) -> Result<(), NoMemory> {
     let entry = entry_of(rt, "d_e", 48)?;
     let bytes = journal.as_bytes();
-    let longer = with_record(rt.alloc(), Version::First, bytes, state, &entry, None)?;
+    let parts = RecordParts {
+        state,
+        entry: &entry,
+        edit: None,
+    };
+    let longer = with_record(rt.alloc(), Version::First, bytes, &parts)?;
     assert!(rt; longer.as_slice() == wanted.as_bytes());
     Ok(())
 }
@@ -88,14 +94,12 @@ fn longer_second<R: AllocGlobal + Abort>(
     let edit = edit_of(rt)?;
     assert!(rt; edit.is_notable());
     let bytes = journal.as_bytes();
-    with_record(
-        rt.alloc(),
-        Version::Second,
-        bytes,
+    let parts = RecordParts {
         state,
-        &entry,
-        Some(&edit),
-    )
+        entry: &entry,
+        edit: Some(&edit),
+    };
+    with_record(rt.alloc(), Version::Second, bytes, &parts)
 }
 
 /// Ends the test with the row unless the answer is yes.
@@ -147,8 +151,12 @@ pub(crate) fn expect_first_texts<R: AllocGlobal + Abort>(
     let mut texts = Vec::new(rt.alloc());
     for noted in records {
         assert!(rt; noted.edit().is_none());
-        let state = noted.state();
-        let line = with_record(rt.alloc(), Version::First, &[], state, noted.entry(), None)?;
+        let parts = RecordParts {
+            state: noted.state(),
+            entry: noted.entry(),
+            edit: None,
+        };
+        let line = with_record(rt.alloc(), Version::First, &[], &parts)?;
         texts.extend_from_slice(line.as_slice())?;
     }
     assert!(rt; texts.as_slice() == bytes);

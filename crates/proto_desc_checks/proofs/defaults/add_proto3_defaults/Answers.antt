@@ -14,11 +14,11 @@ loop-option-preserved c =
       | then-is_proto3 w ↦ and_then c.if-is_proto3.is_wrong (c.args.scene.now.is_proto3) (is_named (text c.args.scene.now) (codes "default") (option_of option)) (search rules) (search rules)
       | else-is_proto3 w ↦ and_else c.if-is_proto3.is_wrong (c.args.scene.now.is_proto3) (is_named (text c.args.scene.now) (codes "default") (option_of option)) (search rules) (w.is_wrong-is ∙ w.if-is_proto3.false)
     ] in
-    seen_more (λ o. flaw_if (wrong o) kind.NotInProto3 o.name) option_of c.args.options.now c.loop-option.option-index option option c.args.found.now.items c.loop-option.found.items _ c.loop-option-test.true c.option-item.is
+    seen_more (λ o. flaw_if (wrong o) kind.NotInProto3 o.name) option_of c.options-option-items.result.now c.loop-option.option-index option option c.args.found.now.items c.loop-option.found.items _ c.loop-option-test.true c.option-item.is
     (c.in_ok-add_if.ensures ∙ ap (λ (b : Bool). c.loop-option.found.items ++ flaw_if b kind.NotInProto3 option.name) is)
     c.loop-option.invariant
 
 pub returns : goal.returns
 returns c =
-    seen_all (λ o. flaw_if (c.args.scene.now.is_proto3 && is_named (text c.args.scene.now) (codes "default") o) kind.NotInProto3 o.name) option_of c.args.options.now c.loop-option.option-index c.args.found.now.items c.loop-option.found.items c.loop-option-test.false c.loop-option.invariant
-    ∙ ap (λ (os : List OptionOf). c.args.found.now.items ++ flat_map (λ o. flaw_if (c.args.scene.now.is_proto3 && is_named (text c.args.scene.now) (codes "default") o) kind.NotInProto3 o.name) os) c.requires
+    seen_all (λ o. flaw_if (c.args.scene.now.is_proto3 && is_named (text c.args.scene.now) (codes "default") o) kind.NotInProto3 o.name) option_of c.options-option-items.result.now c.loop-option.option-index c.args.found.now.items c.loop-option.found.items c.loop-option-test.false c.loop-option.invariant
+    ∙ ap (λ (os : List OptionOf). c.args.found.now.items ++ flat_map (λ o. flaw_if (c.args.scene.now.is_proto3 && is_named (text c.args.scene.now) (codes "default") o) kind.NotInProto3 o.name) os) c.options-option-items.ensures

@@ -2,7 +2,7 @@ use Rattle.std.proofs.Common.{arith, List, ℕ, ◌+◌, ◌≤◌, ◌<◌, ◌
 use Rattle.proto_base.proofs.Common.{Vec, err_from_is_err_and}
 use Rattle.proto_files.specs.GivenFiles.{FileOf, file_of, files_of}
 use Rattle.proto_edit_entries.specs.declared.entry.Change.{Change}
-use Rattle.proto_edit_entries.specs.Entries.{ChangeOf, change_of, inverted}
+use Rattle.proto_edit_entries.specs.Entries.{ChangeOf, change_of}
 use Rattle.proto_store.specs.Stores.{Held}
 use Rattle.proto_journal_records.specs.Common.{Over, AddsOldFiles, IsAskedFor}
 use Rattle.proto_journal_records.proofs.OldTexts.{among, back_at, change_at, counts_from, next_added, none_added, stale_in, with_none, with_some}
@@ -24,8 +24,8 @@ old_file-requires-clause-change g c =
 
 pub old_file-requires-clause-back : goal.old_file-requires-clause-back
 old_file-requires-clause-back g c =
-    back_at c.changes-changes.result.now c.args.back.now c.loop-place.place c.index-changes-place.result c.index-back-place.result
-    (c.requires.back ∙ ap inverted (sym c.changes-changes.ensures.items)) c.loop-place-test.true c.index-changes-place.is c.index-back-place.is
+    back_at c.changes-changes.result.now c.in_ok-back.back.items c.loop-place.place c.index-changes-place.result c.index-back-place.result
+    c.in_ok-back.ensures c.loop-place-test.true c.index-changes-place.is c.index-back-place.is
 
 pub returns-in_err-file-clause-err : goal.returns-in_err-file-clause-err
 returns-in_err-file-clause-err g c =

@@ -1,7 +1,7 @@
 use Rattle.std.proofs.Common.{List, ℕ, map, sym, ap, ◌∙◌, subst, IfErr, OnOk, Option, String, Global, Contains, bytes_eq, string_bytes}
 use Rattle.std.specs.List.{list_any}
 use Rattle.proto_files.specs.GivenFiles.{files_of}
-use Rattle.proto_edit_entries.specs.Entries.{ChangeOf, change_of, inverted}
+use Rattle.proto_edit_entries.specs.Entries.{ChangeOf}
 use Rattle.proto_store.specs.Stores.{Held}
 use Rattle.proto_journal_records.specs.Common.{CountsJournal, Over, AddsOldFiles, IsAskedFor, IsStaleOnly, IsEitherWay}
 use Rattle.proto_journal_records.proofs.OldTexts.{asked_for}
@@ -29,6 +29,3 @@ returns-clause-same g c = c.add_each.ensures.same ∙ c.in-Ok.ensures.same
 pub returns-clause-count : goal.returns-clause-count
 returns-clause-count g c =
     subst (λ n. CountsJournal n (g.S.Store.failure_count c.add_each.new.store) c.add_each.result) c.in-Ok.ensures.count c.add_each.ensures.count
-
-pub add_each-requires-clause-back : goal.add_each-requires-clause-back
-add_each-requires-clause-back g c = ap (map change_of) c.as_slice-2.ensures.value ∙ c.in_ok-back.ensures ∙ ap inverted c.changes.ensures.items

@@ -1,11 +1,13 @@
-use Rattle.std.proofs.Common.{subst}
-use Rattle.std.specs.Prelude.{OnOk, option_map}
-use Rattle.proto_edit_entries.specs.EditsAsked.{asked}
-use Rattle.proto_journal_records.specs.Common.{Second, RecordOf, IsRecord}
-use Rattle.proto_journal_records.proofs.RecordTexts.{same_record}
+use Rattle.std.proofs.Common.{◌≡◌, subst, sym}
+use Rattle.std.specs.Prelude.{IfOk, OnOk, string_bytes}
+use Rattle.proto_journal_records.specs.Common.{Second, RecordOf, IsNoted, IsRecord, record_text}
 use Rattle.proto_journal_records.proofs.writing.entry_text.Goals as goal
 
+pub line_of-requires : goal.line_of-requires
+line_of-requires c = subst (λ (r : RecordOf). IsNoted r.edit) (sym c.parts.ensures.parts) c.parts.ensures.noted
+
+pub returns-clause-text : goal.returns-clause-text
+returns-clause-text c = subst (λ (r : RecordOf). IfOk c.line_of.result (λ s. string_bytes s ≡ record_text Second r)) c.parts.ensures.parts c.line_of.ensures.text
+
 pub returns-clause-is : goal.returns-clause-is
-returns-clause-is c =
-    let made : RecordOf = record { state = c.state.result; entry = c.entry.result.now; edit = option_map (λ e. asked e.now) c.edit.result } in
-    subst (λ (r : RecordOf). OnOk c.line_of.result (IsRecord Second r)) (same_record made c.args.noted.now c.state.ensures c.entry.ensures c.edit.ensures.edit) c.line_of.ensures.is
+returns-clause-is c = subst (λ (r : RecordOf). OnOk c.line_of.result (IsRecord Second r)) c.parts.ensures.parts c.line_of.ensures.is

@@ -1,19 +1,17 @@
 use lib.Utf8.{encode}
-use Rattle.std.proofs.Common.{rules, ◌≡◌, ◌++◌, [], ◌∷◌, ap, ◌∙◌, option_map}
+use Rattle.std.proofs.Common.{rules, ◌≡◌, ◌++◌, [], ◌∷◌, ap, ◌∙◌}
 use Rattle.std.specs.String.{string_bytes}
 use Rattle.json.specs.Print.{print}
 use Rattle.serde_json.specs.Written.{compact_text}
 use Rattle.serde_json.proofs.Texts.{print-outline}
-use Rattle.proto_edit_entries.specs.EditsAsked.{asked}
-use Rattle.proto_journal_records.specs.Common.{record_data, record_text, RecordOf}
+use Rattle.proto_journal_records.specs.Common.{record_data, record_of, record_text}
 use Rattle.proto_journal_records.specs.DataTokens.{data_tokens}
 use Rattle.proto_journal_records.proofs.writing.line_of.Goals as goal
 
 pub returns-clause-text : goal.returns-clause-text
 unfolding encode record_text
 returns-clause-text c =
-    let r : RecordOf = record { state = c.args.state; entry = c.args.entry.now; edit = option_map (λ e. asked e.now) c.args.edit } in
-    let d = record_data c.args.version r in
+    let d = record_data c.args.version (record_of c.args.parts.now) in
     let written = c.write_record.new.writer in
     let added = c.in_ok-write_record.ensures.written in
     let tokens : written.tokens ≡ data_tokens d = added.tokens ∙ ap (λ t. t ++ data_tokens d) c.new-writer.ensures.tokens in

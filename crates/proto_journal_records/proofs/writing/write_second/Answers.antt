@@ -11,4 +11,4 @@ pub returns-clause-written : goal.returns-clause-written
 unfolding record_data
 returns-clause-written c =
     let front = adds_both (adds_one c.begin_object.ensures c.in_ok-begin_object.was) (adds_both (adds_one c.key.ensures c.in_ok-key.was) c.in_ok-write_edit.ensures) in
-    adds_then c.write_rest.result c.write_rest.new.writer (key (codes "files") ∷ (data_tokens (array (items_of (map change_data c.args.entry.now))) ++ key (codes "state") ∷ string (state_name c.args.state) ∷ key (codes "version") ∷ number (decimal 2) ∷ end_object ∷ [])) front c.write_rest.ensures.written
+    adds_then c.write_rest.result c.write_rest.new.writer (key (codes "files") ∷ (data_tokens (array (items_of (map change_data c.args.parts.now.entry.now))) ++ key (codes "state") ∷ string (state_name c.args.parts.now.state) ∷ key (codes "version") ∷ number (decimal 2) ∷ end_object ∷ [])) front c.write_rest.ensures.written

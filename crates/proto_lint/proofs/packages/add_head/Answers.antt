@@ -1,5 +1,5 @@
-use Rattle.std.proofs.Common.{◌≡◌, ◌++◌, List, map, subst}
-use Rattle.proto_lint_names.proofs.Common.{Found, found_of}
+use Rattle.std.proofs.Common.{◌≡◌, ◌++◌, List, subst}
+use Rattle.proto_lint_names.proofs.Common.{Found}
 use Rattle.proto_lint_rules.specs.declared.rule.Rule.TheVariants as rule
 use Rattle.proto_base.proofs.Turns.{then_added}
 use Rattle.proto_lint.specs.Packages.{Head, file_name, found_unless, has_directory_like_package, has_directory_of_package, has_lower_snake_file, has_lower_snake_package, has_package, has_package_of_directory, has_version, head_finds, package_unless}
@@ -10,15 +10,15 @@ returns c = λ (d : Head).
     (let rules = c.args.rules.now.chosen in
     let heads = c.args.heads.now in
     let h : Head = c.get-head.result.now in
-    let f0 : List Found = map found_of c.args.found.now.items in
-    let f1 : List Found = map found_of c.add_package.new.found.items in
-    let f2 : List Found = map found_of c.add_file_lower_snake_case.new.found.items in
-    let f3 : List Found = map found_of c.add_package-2.new.found.items in
-    let f4 : List Found = map found_of c.add_package-3.new.found.items in
-    let f5 : List Found = map found_of c.add_package-4.new.found.items in
-    let f6 : List Found = map found_of c.add_package-5.new.found.items in
-    let f7 : List Found = map found_of c.add_package-6.new.found.items in
-    let f8 : List Found = map found_of c.add_syntax_specified.new.found.items in
+    let f0 : List Found = c.args.found.now in
+    let f1 : List Found = c.add_package.new.found in
+    let f2 : List Found = c.add_file_lower_snake_case.new.found in
+    let f3 : List Found = c.add_package-2.new.found in
+    let f4 : List Found = c.add_package-3.new.found in
+    let f5 : List Found = c.add_package-4.new.found in
+    let f6 : List Found = c.add_package-5.new.found in
+    let f7 : List Found = c.add_package-6.new.found in
+    let f8 : List Found = c.add_syntax_specified.new.found in
     let x1 = package_unless rules rule.DirectorySamePackage (has_package_of_directory heads h) h in
     let x2 = found_unless rules rule.FileLowerSnakeCase (has_lower_snake_file h) 0 (file_name h) in
     let x3 = package_unless rules rule.PackageDefined (has_package h) h in

@@ -1,11 +1,11 @@
-use Rattle.std.proofs.Common.{Bool, List, map, ap, ◌∙◌}
+use Rattle.std.proofs.Common.{Bool, List, ap, ◌∙◌}
 use Rattle.std.proofs.lemmas.Result.{on_ok_weaker}
 use Rattle.proto_tree.specs.declared.tree.EnumItem.{EnumItem}
 use Rattle.proto_tree.specs.File.{enum_item_tree, trees}
 use Rattle.proto_case.specs.Cases.{is_pascal}
 use Rattle.proto_lint_rules.specs.declared.rule.Rule.TheVariants as rule
 use Rattle.proto_names_rules.specs.Forest.{under}
-use Rattle.proto_lint_names.proofs.Common.{Found, found_by, unless, reading_of, word_in, found_of}
+use Rattle.proto_lint_names.proofs.Common.{Found, found_by, unless, reading_of, word_in}
 use Rattle.proto_lint_names.specs.NameRules.{enum_first_value_zero, enum_no_allow_alias, enum_value_prefix, enum_value_upper_snake_case, enum_zero_value_suffix}
 use Rattle.proto_lint_names.proofs.Steps.{by_equal, six}
 use Rattle.proto_lint_names.proofs.enums.add_enum.Goals as goal
@@ -25,13 +25,13 @@ returns c =
     let prefixes = found_by chosen r rule.EnumValuePrefix (enum_value_prefix r scope name (trees enum_item_tree members)) in
     let values : List EnumItem → List Found = λ is. found_by chosen r rule.EnumValueUpperSnakeCase (enum_value_upper_snake_case r scope (trees enum_item_tree is)) in
     let suffixes : List EnumItem → List Found = λ is. found_by chosen r rule.EnumZeroValueSuffix (enum_zero_value_suffix r scope (trees enum_item_tree is)) in
-    let f0 = map found_of c.args.found.now.items in
-    let f1 = map found_of c.add_first_value.new.found.items in
-    let f2 = map found_of c.add_aliases.new.found.items in
-    let f3 = map found_of c.add_name.new.found.items in
-    let f4 = map found_of c.add_prefixes.new.found.items in
-    let f5 = map found_of c.add_value_names.new.found.items in
-    let f6 = map found_of c.add_zero_suffixes.new.found.items in
+    let f0 = c.args.found.now in
+    let f1 = c.add_first_value.new.found in
+    let f2 = c.add_aliases.new.found in
+    let f3 = c.add_name.new.found in
+    let f4 = c.add_prefixes.new.found in
+    let f5 = c.add_value_names.new.found in
+    let f6 = c.add_zero_suffixes.new.found in
     let pascal = c.is_pascal-passes.ensures ∙ ap is_pascal c.text.ensures in
     six c.add_zero_suffixes.result f0 f1 f2 f3 f4 f5 f6 (first members) aliases (named (is_pascal (word_in r name))) prefixes (values members) (suffixes members)
     (by_equal first items members f0 f1 same c.in_ok-add_first_value.ensures)

@@ -1,9 +1,8 @@
 use Rattle.std.proofs.Common.{◌≡◌, Bool, ◌++◌, List, get_or, map, sym, ap, subst, ◌∙◌, OnOk, append-nil}
 use Rattle.proto_tree.specs.declared.tree.EnumItem.{EnumItem}
-use Rattle.proto_lint_names.specs.declared.found.Found.{Found as FoundAt}
 use Rattle.proto_lint_rules.specs.declared.rule.Rule.TheVariants as rule
 use Rattle.proto_names_rules.specs.Forest.{under}
-use Rattle.proto_lint_names.proofs.Common.{Found, found_at, unless, reading_of, word_in, found_of}
+use Rattle.proto_lint_names.proofs.Common.{Found, found_at, unless, reading_of, word_in}
 use Rattle.proto_lint_names.proofs.EnumItems.{first_found, first_there, none_found, none_left}
 use Rattle.proto_lint_names.proofs.enums.add_first_value.Goals as goal
 
@@ -16,13 +15,13 @@ returns-in-Value c =
     let found = first_found c.args.rules.now.chosen r rule.EnumFirstValueZero c.args.scope.now _ _ c.in-Value.value (sym c.has.ensures ∙ c.if-not-has.false) first in
     let v = c.in-Value.value in
     let told : Bool → List Found = λ passes. map (found_at r rule.EnumFirstValueZero) (unless passes v.name (under c.args.scope.now (word_in r v.name))) in
-    let new = map found_of c.add_below_unless.new.found.items in
-    let same = subst (λ (fs : List FoundAt). OnOk c.add_below_unless.result (new ≡ map found_of fs ++ told c.is_zero-passes.result)) c.loop-item.invariant.same c.add_below_unless.ensures.added in
-    subst (λ (fs : List Found). OnOk c.add_below_unless.result (new ≡ map found_of c.args.found.now.items ++ fs)) found
-    (subst (λ (passes : Bool). OnOk c.add_below_unless.result (new ≡ map found_of c.args.found.now.items ++ told passes)) c.is_zero-passes.ensures same)
+    let new = c.add_below_unless.new.self in
+    let same = subst (λ (fs : List Found). OnOk c.add_below_unless.result (new ≡ fs ++ told c.is_zero-passes.result)) c.loop-item.invariant.same c.add_below_unless.ensures.added in
+    subst (λ (fs : List Found). OnOk c.add_below_unless.result (new ≡ c.args.found.now ++ fs)) found
+    (subst (λ (passes : Bool). OnOk c.add_below_unless.result (new ≡ c.args.found.now ++ told passes)) c.is_zero-passes.ensures same)
 
 pub returns : goal.returns
 returns c =
     let r = reading_of c.args.reading.now in
     let none = none_found c.args.rules.now.chosen r rule.EnumFirstValueZero c.args.scope.now _ (sym c.has.ensures ∙ c.if-not-has.false) (none_left c.args.items.now c.loop-item.item-index c.loop-item-test.false c.loop-item.invariant.left) in
-    ap (λ (fs : List FoundAt). map found_of fs) c.loop-item.invariant.same ∙ sym (append-nil (map found_of c.args.found.now.items)) ∙ ap (λ (fs : List Found). map found_of c.args.found.now.items ++ fs) none
+    c.loop-item.invariant.same ∙ sym (append-nil c.args.found.now) ∙ ap (λ (fs : List Found). c.args.found.now ++ fs) none

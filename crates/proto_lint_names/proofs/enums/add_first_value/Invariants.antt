@@ -5,6 +5,6 @@ use Rattle.proto_lint_names.proofs.enums.add_first_value.Given as goal
 
 abbrev pub invariant-loop-item : goal.invariant-loop-item
 invariant-loop-item l = record {
-  same : l.found.items ≡ l.initial.found.items;
+  same : l.found ≡ l.initial.found;
   left : values_in (trees enum_item_tree (drop l.item-index l.items)) ≡ values_in (trees enum_item_tree l.items);
 }

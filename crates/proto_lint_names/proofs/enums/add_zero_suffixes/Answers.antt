@@ -4,7 +4,7 @@ use Rattle.proto_tree.specs.declared.tree.Value.{Value}
 use Rattle.proto_tree.specs.File.{enum_item_tree, trees}
 use Rattle.proto_ast.specs.Parts.{values_in}
 use Rattle.proto_lint_rules.specs.declared.rule.Rule.TheVariants as rule
-use Rattle.proto_lint_names.proofs.Common.{NamedToken, found_at, unless_word, reading_of, found_of}
+use Rattle.proto_lint_names.proofs.Common.{NamedToken, found_at, unless_word, reading_of}
 use Rattle.proto_lint_names.specs.NameRules.{is_zero}
 use Rattle.proto_lint_names.proofs.EnumItems.{values_turn}
 use Rattle.proto_lint_names.proofs.enums.add_zero_suffixes.Goals as goal
@@ -13,5 +13,5 @@ pub loop-item-preserved : goal.loop-item-preserved
 loop-item-preserved c =
     let view = found_at (reading_of c.args.reading.now) rule.EnumZeroValueSuffix in
     let part : Value → List NamedToken = λ v. unless_word (reading_of c.args.reading.now) (λ w. not (is_zero (reading_of c.args.reading.now) v) || ends_with nat_eq w (codes "_UNSPECIFIED")) c.args.scope.now v.name in
-    values_turn view part c.args.items.now c.loop-item.item-index c.item-item.result (map found_of c.loop-item.found.items) (map found_of c.add_zero_suffix.new.found.items)
-    (map found_of c.args.found.now.items ++ map view (flat_map part (values_in (trees enum_item_tree c.args.items.now)))) c.loop-item-test.true c.item-item.is c.in_ok-add_zero_suffix.ensures c.loop-item.invariant
+    values_turn view part c.args.items.now c.loop-item.item-index c.item-item.result c.loop-item.found c.add_zero_suffix.new.found
+    (c.args.found.now ++ map view (flat_map part (values_in (trees enum_item_tree c.args.items.now)))) c.loop-item-test.true c.item-item.is c.in_ok-add_zero_suffix.ensures c.loop-item.invariant

@@ -1,9 +1,9 @@
-use Rattle.std.proofs.Common.{◌≡◌, Bool, true, false, List, map, sym, ap, ◌∙◌, not, ◌||◌, codes, is_some}
+use Rattle.std.proofs.Common.{◌≡◌, Bool, true, false, List, sym, ap, ◌∙◌, not, ◌||◌, codes, is_some}
 use Rattle.std.proofs.lemmas.Result.{on_ok_weaker}
 use Rattle.proto_case.specs.Cases.{is_pascal}
 use Rattle.proto_lint_rules.specs.declared.rule.Rule.{Rule}
 use Rattle.proto_lint_rules.specs.declared.rule.Rule.TheVariants as rule
-use Rattle.proto_lint_names.proofs.Common.{Found, found_by, reading_of, word_in, found_of}
+use Rattle.proto_lint_names.proofs.Common.{Found, found_by, reading_of, word_in}
 use Rattle.proto_lint_names.specs.Methods.{is_shared, is_standard, method_unless, type_meant}
 use Rattle.proto_lint_names.proofs.Steps.{by_equal, six}
 use Rattle.proto_lint_names.proofs.methods.add_method.Goals as goal
@@ -17,13 +17,13 @@ returns c =
     let r = reading_of c.args.walk.now.reading.now in
     let s = c.args.method.now in
     let told : Rule → Bool → List Found = λ rule passes. found_by c.args.walk.now.rules.now.chosen r rule (method_unless r c.args.service.now.full.now passes s) in
-    let f0 = map found_of c.args.found.now.items in
-    let f1 = map found_of c.add_name.new.found.items in
-    let f2 = map found_of c.add_name-2.new.found.items in
-    let f3 = map found_of c.add_name-3.new.found.items in
-    let f4 = map found_of c.add_name-4.new.found.items in
-    let f5 = map found_of c.add_name-5.new.found.items in
-    let f6 = map found_of c.add_name-6.new.found.items in
+    let f0 = c.args.found.now in
+    let f1 = c.add_name.new.found in
+    let f2 = c.add_name-2.new.found in
+    let f3 = c.add_name-3.new.found in
+    let f4 = c.add_name-4.new.found in
+    let f5 = c.add_name-5.new.found in
+    let f6 = c.add_name-6.new.found in
     let all = c.args.walk.now.messages.now in
     let input = flipped (is_some s.input.stream) c.is_none-passes.result c.is_none-passes.ensures in
     let output = flipped (is_some s.output.stream) c.is_none-passes-2.result c.is_none-passes-2.ensures in

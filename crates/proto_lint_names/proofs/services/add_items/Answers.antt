@@ -1,8 +1,8 @@
-use Rattle.std.proofs.Common.{List, ◌++◌, map, flat_map, refl}
+use Rattle.std.proofs.Common.{List, ◌++◌, flat_map, refl}
 use Rattle.proto_tree.specs.declared.tree.ServiceItem.{ServiceItem}
 use Rattle.proto_tree.specs.declared.tree.Signature.{Signature}
 use Rattle.proto_tree.specs.File.{service_item_tree, trees}
-use Rattle.proto_lint_names.proofs.Common.{Found, reading_of, found_of}
+use Rattle.proto_lint_names.proofs.Common.{Found, reading_of}
 use Rattle.proto_lint_names.specs.Methods.{method_finds, signatures_in}
 use Rattle.proto_base.proofs.Turns.{all_listed, listed_turn}
 use Rattle.proto_lint_names.proofs.JoinedTrees.{of_signatures}
@@ -17,7 +17,7 @@ loop-item-preserved c =
     let items = c.args.items.now in
     let part : Signature → List Found = method_finds c.args.walk.now.rules.now.chosen (reading_of c.args.walk.now.reading.now) c.args.walk.now.messages.now service.full.now service.token in
     listed_turn (told part) (λ x. flat_map part (signatures_in (service_item_tree x))) (of_signatures service_item_tree part) items c.loop-item.item-index c.item-item.result _
-    (map found_of c.loop-item.found.items) (map found_of c.add_item.new.found.items) (map found_of c.args.found.now.items ++ told part items)
+    c.loop-item.found c.add_item.new.found (c.args.found.now ++ told part items)
     c.loop-item-test.true c.item-item.is c.in_ok-add_item.ensures c.loop-item.invariant
 
 pub returns : goal.returns
@@ -25,4 +25,4 @@ returns c =
     let service = c.args.service.now in
     let items = c.args.items.now in
     let part : Signature → List Found = method_finds c.args.walk.now.rules.now.chosen (reading_of c.args.walk.now.reading.now) c.args.walk.now.messages.now service.full.now service.token in
-    all_listed (told part) refl items c.loop-item.item-index (map found_of c.loop-item.found.items) (map found_of c.args.found.now.items ++ told part items) c.loop-item-test.false c.loop-item.invariant
+    all_listed (told part) refl items c.loop-item.item-index c.loop-item.found (c.args.found.now ++ told part items) c.loop-item-test.false c.loop-item.invariant

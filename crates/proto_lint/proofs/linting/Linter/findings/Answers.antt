@@ -1,6 +1,6 @@
 use Rattle.std.proofs.Common.{ℕ, ◌++◌, List, map, ap, ◌∙◌, arith}
 use Rattle.proto_files.specs.GivenFiles.{file_at}
-use Rattle.proto_lint_names.proofs.Common.{found_in, Found, finding_of, found_of}
+use Rattle.proto_lint_names.proofs.Common.{found_in, Found, finding_of}
 use Rattle.proto_lint.specs.Findings.{findings}
 use Rattle.proto_lint.proofs.FileFindings.{findings_more}
 use Rattle.proto_lint.proofs.linting.Linter.findings.Goals as goal
@@ -11,6 +11,6 @@ loop-file-preserved c = λ reads are.
     let files = l.files.now in
     let before = map finding_of c.loop-file.all.items in
     let added = c.in_ok-add_findings.ensures
-    ∙ ap (λ (path : List ℕ). before ++ map (found_in path) (map found_of c.in_ok-found.found.items)) c.path.ensures
+    ∙ ap (λ (path : List ℕ). before ++ map (found_in path) c.in_ok-found.found) c.path.ensures
     ∙ ap (λ (fs : List Found). before ++ map (found_in (file_at files c.loop-file.file).path) fs) (c.in_ok-found.ensures reads are) in
     findings_more files reads are l.rules.now.chosen c.loop-file.file (omega arith) before _ (findings l.rules.now.chosen files reads) added (c.loop-file.invariant reads are))

@@ -1,8 +1,8 @@
-use Rattle.std.proofs.Common.{ℕ, ap, map}
+use Rattle.std.proofs.Common.{ℕ}
 use Rattle.proto_tree.specs.File.{tree_of_file}
 use Rattle.proto_files.proofs.Common.{paths_of, read_at}
 use Rattle.proto_names_imports.specs.Links.{names_of_files}
-use Rattle.proto_lint_names.proofs.Common.{reading_of, found_of}
+use Rattle.proto_lint_names.proofs.Common.{reading_of}
 use Rattle.proto_lint.specs.Imports.{imports_finds}
 use Rattle.proto_lint.proofs.Linters.{finds_are, is_headed, moved, scope_is}
 use Rattle.proto_lint.proofs.linting.Linter.finds_in.Goals as goal
@@ -25,4 +25,4 @@ pub returns : goal.returns
 returns c = λ reads are.
     (let l = c.args.self.now in
     finds_are l.files.now reads are c.args.file c.requires.file (reading_of c.of-reading.result) (c.of-reading.ensures.read reads are) (tree_of_file c.tree.result.now) c.tree.ensures
-    l.heads (c.requires.linter.heads_are reads are) l.rules.now.chosen l.messages (c.requires.linter.messages_are reads are) _ _ _ _ (ap (map found_of) c.new-found.ensures.items) c.in_ok-add_head.ensures (moved _ _ (λ (n : ℕ). imports_finds l.rules.now.chosen (names_of_files l.files.now reads) (paths_of l.files.now) (reading_of c.of-reading.result) n (read_at reads n).tree) _ _ c.of-reading.ensures.file (c.in_ok-add_imports.ensures reads are)) c.in_ok-add_blocks.ensures)
+    l.heads (c.requires.linter.heads_are reads are) l.rules.now.chosen l.messages (c.requires.linter.messages_are reads are) _ _ _ _ c.new-found.ensures c.in_ok-add_head.ensures (moved _ _ (λ (n : ℕ). imports_finds l.rules.now.chosen (names_of_files l.files.now reads) (paths_of l.files.now) (reading_of c.of-reading.result) n (read_at reads n).tree) _ _ c.of-reading.ensures.file (c.in_ok-add_imports.ensures reads are)) c.in_ok-add_blocks.ensures)
