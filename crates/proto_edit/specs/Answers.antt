@@ -32,14 +32,8 @@ IsUndoAllRefusal w ss _ = ⊥
 abbrev pub LeadsBack : List FileOf → List (List ChangeOf) → Result (List FileOf) Refusal → Type 0
 LeadsBack w entries (Ok to) =
     (first : List FileOf) (es : List Asked) (given : List (Result (List ChangeOf) Refusal))
-    → AreCompiled first
-    → Run first es given w
-    → accepted given ≡ entries
-    → to ≡ first
+    → AreCompiled first → Run first es given w → accepted given ≡ entries → to ≡ first
 LeadsBack w entries (Err refusal.NoMemory) = Unit {0}
 LeadsBack w entries (Err r) =
     (first : List FileOf) (es : List Asked) (given : List (Result (List ChangeOf) Refusal))
-    → AreCompiled first
-    → Run first es given w
-    → accepted given ≡ entries
-    → ⊥
+    → AreCompiled first → Run first es given w → accepted given ≡ entries → ⊥

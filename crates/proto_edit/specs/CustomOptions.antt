@@ -23,8 +23,7 @@ HasCustom reads = (file : ℕ) × (token : ℕ) × IsFirstCustom reads file toke
 abbrev pub IsCustomAt : List FileOf → Path → ℕ → Type 0
 IsCustomAt w path offset = (reads : List ReadOf) × AreRead w reads
     × (file : ℕ) × (token : ℕ) × IsFirstCustom reads file token
-    × (path ≡ (file_at w file).path)
-    × (offset ≡ offset_at (read_at reads file).tokens token)
+    × (path ≡ (file_at w file).path) × (offset ≡ offset_at (read_at reads file).tokens token)
 
 -- the refusal has the place of the first custom option; or memory ran out
 abbrev pub IsCustomRefusal : List FileOf → Refusal → Type 0

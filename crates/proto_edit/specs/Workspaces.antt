@@ -52,8 +52,7 @@ IsAdmissible w e = (n : ℕ) → IsCase w e n → ⊥
 -- the path and offset that are answered with the case: of the least reference that is captured, by
 -- a rename or by an added import, or that needs a dropped one
 abbrev pub PlaceOf : List FileOf → List ReadOf → Asked → Path → ℕ → Type 0
-PlaceOf files reads (rename name to) path offset = (t : Target)
-    × IsNamed files reads name t
+PlaceOf files reads (rename name to) path offset = (t : Target) × IsNamed files reads name t
     × IsFirstPlace files reads (Captures files reads t to) path offset
 PlaceOf files reads (delete_field name) path offset = ⊥
 PlaceOf files reads (add_import file imported) path offset =
@@ -68,30 +67,26 @@ IsCaseAt w e path offset = (reads : List ReadOf) × AreRead w reads × PlaceOf w
 -- The least case, with its place where one is answered; out of memory may be answered instead.
 abbrev pub IsRefusal : List FileOf → Asked → Refusal → Type 0
 IsRefusal w e refusal.NoMemory = Unit {0}
-IsRefusal w e (refusal.Captured path offset) = IsLeastCase w e 7
-    × IsCaseAt w e (string_bytes path) offset
-IsRefusal w e (refusal.Needed path offset) = IsLeastCase w e 15
-    × IsCaseAt w e (string_bytes path) offset
-IsRefusal w e (refusal.OptionValue path offset) = IsLeastCase w e 19
-    × IsCustomAt w (string_bytes path) offset
+IsRefusal w e (refusal.Captured path offset) =
+    IsLeastCase w e 7 × IsCaseAt w e (string_bytes path) offset
+IsRefusal w e (refusal.Needed path offset) =
+    IsLeastCase w e 15 × IsCaseAt w e (string_bytes path) offset
+IsRefusal w e (refusal.OptionValue path offset) =
+    IsLeastCase w e 19 × IsCustomAt w (string_bytes path) offset
 IsRefusal w e r = IsLeastCase w e (refusal_number r)
 
 -- ---- what an edit changes
 
 -- the changes of an edit: of a rename, those of its new words; of another edit, its one splice
 abbrev pub ChangesOf : List FileOf → List ReadOf → Asked → List ChangeOf → Type 0
-ChangesOf files reads (rename name to) cs = (t : Target)
-    × IsNamed files reads name t
+ChangesOf files reads (rename name to) cs = (t : Target) × IsNamed files reads name t
     × (cs ≡ changes_of_words (renamed_words files reads t to) files reads)
-ChangesOf files reads (delete_field name) cs = (f : FieldAt)
-    × IsFieldNamed files reads name f
+ChangesOf files reads (delete_field name) cs = (f : FieldAt) × IsFieldNamed files reads name f
     × (cs ≡ changes_of_deletion files reads f)
-ChangesOf files reads (add_import file path) cs = (k : ℕ)
-    × IsFileAt files file k
+ChangesOf files reads (add_import file path) cs = (k : ℕ) × IsFileAt files file k
     × (cs ≡ changes_of_addition files reads k path)
 ChangesOf files reads (drop_import file path) cs = (k : ℕ) × (i : Import)
-    × IsFileAt files file k
-    × IsImportOf files reads k path i
+    × IsFileAt files file k × IsImportOf files reads k path i
     × (cs ≡ changes_of_drop files reads k i)
 
 -- these are the changes of the edit
@@ -103,17 +98,13 @@ AreChanges w e cs = (reads : List ReadOf) × AreRead w reads × ChangesOf w read
 -- the descriptors under the edit's map: of a rename, its name map; of another edit, the old ones
 -- with that of the one file changed
 abbrev pub Maps : List FileOf → List ReadOf → Asked → List FileDesc → List FileDesc → Type 0
-Maps files reads (rename name to) ds new = (t : Target)
-    × IsNamed files reads name t
+Maps files reads (rename name to) ds new = (t : Target) × IsNamed files reads name t
     × AreRenamed files reads t to ds new
-Maps files reads (delete_field name) ds new = (f : FieldAt)
-    × IsFieldNamed files reads name f
+Maps files reads (delete_field name) ds new = (f : FieldAt) × IsFieldNamed files reads name f
     × (new ≡ changed_at f.file (mapped_deletion f.name (tree_at reads f.file)) ds)
-Maps files reads (add_import file path) ds new = (k : ℕ)
-    × IsFileAt files file k
+Maps files reads (add_import file path) ds new = (k : ℕ) × IsFileAt files file k
     × (new ≡ changed_at k (with_dependency path) ds)
-Maps files reads (drop_import file path) ds new = (k : ℕ)
-    × IsFileAt files file k
+Maps files reads (drop_import file path) ds new = (k : ℕ) × IsFileAt files file k
     × (new ≡ changed_at k (without_dependency path) ds)
 
 -- the second descriptors are the first under the edit's map
@@ -134,9 +125,7 @@ pub record IsMappedStep
     (w : List FileOf) (e : Asked) (cs : List ChangeOf) (after : List FileOf) : Type 0 where
   pub step : IsStep w e cs after
   pub compiled : AreCompiled after
-  pub described : (ds new : List FileDesc)
-      → AreDescribed w ds
-      → AreDescribed after new
+  pub described : (ds new : List FileDesc) → AreDescribed w ds → AreDescribed after new
       → AreMapped w e ds new
 
 -- ---- runs
@@ -148,9 +137,8 @@ Run w [] [] to = w ≡ to
 Run w [] (a ∷ more) to = ⊥
 Run w (e ∷ es) [] to = ⊥
 Run w (e ∷ es) (Err r ∷ more) to = IsRefusal w e r × (r ≢ refusal.NoMemory) × Run w es more to
-Run w (e ∷ es) (Ok cs ∷ more) to = (middle : List FileOf)
-    × IsMappedStep w e cs middle
-    × Run middle es more to
+Run w (e ∷ es) (Ok cs ∷ more) to =
+    (middle : List FileOf) × IsMappedStep w e cs middle × Run middle es more to
 
 -- the entries of the accepted edits, in order
 abbrev pub accepted : List (Result (List ChangeOf) Refusal) → List (List ChangeOf)

@@ -6,3 +6,4 @@ mod EntrySums
 mod EntryTests
 pub mod TextPlaces
 pub mod Common
+mod Unchanged

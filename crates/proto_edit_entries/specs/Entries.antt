@@ -25,12 +25,8 @@ change_of c = record {
 
 -- the change that leads back
 abbrev pub turned_round : ChangeOf → ChangeOf
-turned_round c = record {
-  path = c.path;
-  before = c.after;
-  after = c.before;
-  splices = inverse_from 0 0 c.splices;
-}
+turned_round c =
+    record c { before = c.after; after = c.before; splices = inverse_from 0 0 c.splices }
 
 -- the changes that lead back
 abbrev pub inverted : List ChangeOf → List ChangeOf

@@ -14,3 +14,4 @@ pub mod OtherTokens
 pub mod ScenesTurn
 mod TreeTurns
 pub mod WrittenJson
+mod Unchanged

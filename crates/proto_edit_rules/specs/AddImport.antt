@@ -23,7 +23,7 @@ use Rattle.proto_tree.specs.Tree.{Tree}
 use Rattle.proto_tree.specs.declared.piece.Statement.{Statement}
 use Rattle.proto_tree.specs.declared.piece.Statement.TheVariants as statement
 use Rattle.proto_edit_rules.specs.Rename.{IsFirstPlace}
-use Rattle.proto_edit_rules.specs.Statements.{splice, one_change, IsPlaceOf, IsNoFile, IsTooLong}
+use Rattle.proto_edit_rules.specs.Statements.{splice, change_by, IsPlaceOf, IsNoFile, IsTooLong}
 
 -- ---- the splice
 
@@ -77,7 +77,7 @@ splice_of_addition files reads file path =
 -- what the addition of an import of the path to a file changes
 abbrev pub changes_of_addition : List FileOf → List ReadOf → ℕ → Path → List ChangeOf
 changes_of_addition files reads file path =
-    one_change (file_at files file) (splice_of_addition files reads file path)
+    change_by (file_at files file) (splice_of_addition files reads file path ∷ [])
 
 -- ---- the cases that refuse it
 
@@ -91,10 +91,8 @@ asked_in files reads = all_wanted (text_of files reads) 0 reads
 
 -- the file imports the path, however its string is spelled
 abbrev pub IsImported : List FileOf → List ReadOf → ℕ → Path → Type 0
-IsImported files reads k path = (a : AskedImport)
-    × Contains (asked_in files reads) a
-    × (a.place.file ≡ k)
-    × (a.path ≡ path)
+IsImported files reads k path = (a : AskedImport) × Contains (asked_in files reads) a
+    × (a.place.file ≡ k) × (a.path ≡ path)
 
 -- the names, where the file at k imports the one at the other place as well
 abbrev pub with_added : List FileOf → List ReadOf → ℕ → ℕ → Workspace
@@ -112,37 +110,27 @@ pub record IsOvertakenIn
 -- Case n refuses to add the import of the path to the file; of several the least is answered.
 pub data AdditionCase
     (files : List FileOf) (reads : List ReadOf) (file path : Path) : ℕ → Type 0 where
-  captured : (k to : ℕ) (u : Used At)
-      → IsPlaceOf files file k
-      → IsPlaceOf files path to
-      → IsOvertakenIn files reads k to u
-      → AdditionCase files reads file path 7
+  captured : (k to : ℕ) (u : Used At) → IsPlaceOf files file k → IsPlaceOf files path to
+      → IsOvertakenIn files reads k to u → AdditionCase files reads file path 7
   unknown_file : IsNoFile files file → AdditionCase files reads file path 11
   unknown_path : IsNoFile files path → AdditionCase files reads file path 11
-  already_imported : (k : ℕ)
-      → IsPlaceOf files file k
-      → IsImported files reads k path
-      → AdditionCase files reads file path 12
+  already_imported : (k : ℕ) → IsPlaceOf files file k
+      → IsImported files reads k path → AdditionCase files reads file path 12
   -- the path is the file's, or leads to it by imports
-  cycle : (k to : ℕ)
-      → IsPlaceOf files file k
-      → IsPlaceOf files path to
-      → Leads (link_imports files reads) to k
-      → AdditionCase files reads file path 14
+  cycle : (k to : ℕ) → IsPlaceOf files file k → IsPlaceOf files path to
+      → Leads (link_imports files reads) to k → AdditionCase files reads file path 14
 
 -- the place that is answered with case 7: that of the least such reference
 abbrev pub IsOvertakenAt : List FileOf → List ReadOf → Path → Path → Path → ℕ → Type 0
 IsOvertakenAt files reads file path place offset = (k to : ℕ)
-    × IsPlaceOf files file k
-    × IsPlaceOf files path to
+    × IsPlaceOf files file k × IsPlaceOf files path to
     × IsFirstPlace files reads (IsOvertakenIn files reads k to) place offset
 
 -- Case n refuses the import; of several the least is answered.
 pub data RefusesAddition
     (files : List FileOf) (reads : List ReadOf) (file path : Path) : ℕ → Type 0 where
   by_name : (n : ℕ) → AdditionCase files reads file path n → RefusesAddition files reads file path n
-  too_large : (k : ℕ)
-      → IsPlaceOf files file k
+  too_large : (k : ℕ) → IsPlaceOf files file k
       → IsTooLong (file_at files k) (splice_of_addition files reads k path)
       → RefusesAddition files reads file path 16
 
@@ -150,19 +138,9 @@ pub data RefusesAddition
 
 -- with other imports
 abbrev pub with_dependencies : List Path → List ℕ → FileDesc → FileDesc
-with_dependencies dependency public d = record {
-  name = d.name;
-  «package» = d.«package»;
-  dependency = dependency;
-  public_dependency = public;
-  message_type = d.message_type;
-  enum_type = d.enum_type;
-  service = d.service;
-  extension = d.extension;
-  options = d.options;
-  syntax = d.syntax;
-}
+with_dependencies dependency public d =
+    record d { dependency = dependency; public_dependency = public }
 
 -- the path comes in last, and is no public import
 abbrev pub with_dependency : Path → FileDesc → FileDesc
-with_dependency path d = with_dependencies (d.dependency ++ path ∷ []) d.public_dependency d
+with_dependency path d = record d { dependency = d.dependency ++ path ∷ [] }

@@ -10,7 +10,7 @@ use Rattle.proto_descriptors.specs.declared.message.NumberRange.{NumberRange}
 use Rattle.proto_edit_entries.specs.Entries.{ChangeOf}
 use Rattle.proto_files.specs.FilesRead.{ReadOf, read_at}
 use Rattle.proto_files.specs.GivenFiles.{FileOf, file_at}
-use Rattle.proto_names_imports.specs.Links.{names_of_files}
+use Rattle.proto_names_imports.specs.Links.{names_of_files, text_of}
 use Rattle.proto_names_rules.specs.Grown.{At, at}
 use Rattle.proto_names_rules.specs.Joined.{joined}
 use Rattle.proto_names_rules.specs.Names.{Symbol}
@@ -25,7 +25,7 @@ use Rattle.proto_tree.specs.declared.piece.Heading.{Heading}
 use Rattle.proto_tree.specs.declared.piece.Statement.{Statement}
 use Rattle.proto_tree.specs.declared.piece.Statement.TheVariants as statement
 use Rattle.proto_edit_rules.specs.Rename.{IsNamed, Target, IsUnknown}
-use Rattle.proto_edit_rules.specs.Statements.{StandsIn, begins, ends, splice, word_of_token, one_change, IsTooLong, places_before, at_place, with_more, without_place}
+use Rattle.proto_edit_rules.specs.Statements.{StandsIn, begins, ends, splice, change_by, IsTooLong, places_before, at_place, with_more, without_place}
 
 -- ---- the field
 
@@ -39,20 +39,15 @@ IsFieldOf _ name number = ⊥
 -- given token; at any depth of messages.
 pub data StandsAt (s : Statement) : Option ℕ → Tree → Type 0 where
   InMessage : (h : Heading) (i : ℕ) (within : Tree) (j : ℕ) (rest : Tree)
-      → StandsIn s within
-      → StandsAt s None (Block (header.Message h) i within j rest)
+      → StandsIn s within → StandsAt s None (Block (header.Message h) i within j rest)
   InOneof : (h : Heading) (i : ℕ) (within : Tree) (j : ℕ) (rest : Tree)
-      → StandsIn s within
-      → StandsAt s (Some j) (Block (header.Oneof h) i within j rest)
+      → StandsIn s within → StandsAt s (Some j) (Block (header.Oneof h) i within j rest)
   Deeper : (o : Option ℕ) (h : Heading) (i : ℕ) (within : Tree) (j : ℕ) (rest : Tree)
-      → StandsAt s o within
-      → StandsAt s o (Block (header.Message h) i within j rest)
+      → StandsAt s o within → StandsAt s o (Block (header.Message h) i within j rest)
   PastLeaf : (o : Option ℕ) (x : Statement) (rest : Tree)
-      → StandsAt s o rest
-      → StandsAt s o (Leaf x rest)
+      → StandsAt s o rest → StandsAt s o (Leaf x rest)
   PastBlock : (o : Option ℕ) (h : Header) (i : ℕ) (within : Tree) (j : ℕ) (rest : Tree)
-      → StandsAt s o rest
-      → StandsAt s o (Block h i within j rest)
+      → StandsAt s o rest → StandsAt s o (Block h i within j rest)
 
 -- ---- the splice
 
@@ -91,11 +86,11 @@ pub record IsFieldAt (files : List FileOf) (reads : List ReadOf) (f : FieldAt) :
 
 -- the number of a field, by its value
 abbrev pub field_number_value : List FileOf → List ReadOf → FieldAt → ℕ
-field_number_value files reads f = number_value (word_of_token files reads f.file f.number)
+field_number_value files reads f = number_value (text_of files reads (at f.file f.number))
 
 -- the name of a field, as it is written
 abbrev pub name_of_field : List FileOf → List ReadOf → FieldAt → Text
-name_of_field files reads f = word_of_token files reads f.file f.name
+name_of_field files reads f = text_of files reads (at f.file f.name)
 
 -- the splice of the field's file that deletes the field
 abbrev pub splice_of_deletion : List FileOf → List ReadOf → FieldAt → Edit
@@ -106,7 +101,7 @@ splice_of_deletion files reads f =
 -- what the deletion of a field changes
 abbrev pub changes_of_deletion : List FileOf → List ReadOf → FieldAt → List ChangeOf
 changes_of_deletion files reads f =
-    one_change (file_at files f.file) (splice_of_deletion files reads f)
+    change_by (file_at files f.file) (splice_of_deletion files reads f ∷ [])
 
 -- ---- the cases that refuse it
 
@@ -127,15 +122,10 @@ pub record IsAlone (reads : List ReadOf) (a : At) : Type 0 where
 -- Case n refuses the deletion; of several the least is answered.
 pub data DeletionCase (files : List FileOf) (reads : List ReadOf) (name : Text) : ℕ → Type 0 where
   unknown_target : IsUnknown files reads name → DeletionCase files reads name 1
-  kind_not_allowed : (s : Symbol)
-      → Contains (names_of_files files reads).symbols s
-      → joined s.name ≡ name
-      → s.kind ≢ Field
-      → DeletionCase files reads name 2
-  last_of_oneof : (t : Target)
-      → IsField files reads name t
-      → IsAlone reads t.token
-      → DeletionCase files reads name 10
+  kind_not_allowed : (s : Symbol) → Contains (names_of_files files reads).symbols s
+      → joined s.name ≡ name → s.kind ≢ Field → DeletionCase files reads name 2
+  last_of_oneof : (t : Target) → IsField files reads name t
+      → IsAlone reads t.token → DeletionCase files reads name 10
 
 -- the statement of the field of this full name
 pub record IsFieldNamed
@@ -149,8 +139,7 @@ pub record IsFieldNamed
 pub data RefusesDeletion
     (files : List FileOf) (reads : List ReadOf) (name : Text) : ℕ → Type 0 where
   by_name : (n : ℕ) → DeletionCase files reads name n → RefusesDeletion files reads name n
-  too_large : (f : FieldAt)
-      → IsFieldNamed files reads name f
+  too_large : (f : FieldAt) → IsFieldNamed files reads name f
       → IsTooLong (file_at files f.file) (splice_of_deletion files reads f)
       → RefusesDeletion files reads name 16
 
@@ -184,18 +173,12 @@ field_place token within = places_before (is_named_at token) (fields_in within)
 -- The field is taken out. Its range and its name come behind those that stand
 -- before the field, or before its oneof.
 abbrev pub without_field : ℕ → Tree → MessageDesc → MessageDesc
-without_field token within m = record {
-  name = m.name;
+without_field token within m = record m {
   field = without_place (field_place token within) m.field;
-  extension = m.extension;
-  enum_type = m.enum_type;
-  extension_range = m.extension_range;
-  oneof_decl = m.oneof_decl;
   reserved_range = with_more (length (flat_map reserved_ranges (statements_before token within)))
       (map range_of_field (at_place (field_place token within) m.field)) m.reserved_range;
   reserved_name = with_more (length (flat_map reserved_names (statements_before token within)))
       (map (λ f. f.name) (at_place (field_place token within) m.field)) m.reserved_name;
-  options = m.options;
 }
 
 -- the messages right in the message, without the entry of the field, if it is a map's
@@ -235,15 +218,5 @@ messages_with_deletion token (Block h opens within closes rest) ms =
 
 -- a file, all else of which stays
 abbrev pub mapped_deletion : ℕ → Tree → FileDesc → FileDesc
-mapped_deletion token tree d = record {
-  name = d.name;
-  «package» = d.«package»;
-  dependency = d.dependency;
-  public_dependency = d.public_dependency;
-  message_type = messages_with_deletion token tree d.message_type;
-  enum_type = d.enum_type;
-  service = d.service;
-  extension = d.extension;
-  options = d.options;
-  syntax = d.syntax;
-}
+mapped_deletion token tree d =
+    record d { message_type = messages_with_deletion token tree d.message_type }

@@ -11,7 +11,7 @@ use Rattle.proto_files.specs.GivenFiles.{FileOf, file_at, paths_of}
 use Rattle.proto_names_imports.specs.Links.{names_of_files, link_skeleton, text_of}
 use Rattle.proto_names_rules.specs.Edits.{with_imports, IsNeeded}
 use Rattle.proto_names_rules.specs.Faults.{imports_of}
-use Rattle.proto_names_rules.specs.Grown.{At}
+use Rattle.proto_names_rules.specs.Grown.{At, at}
 use Rattle.proto_names_rules.specs.Names.{Workspace}
 use Rattle.proto_names_rules.specs.Skeleton.{Used, reference_of}
 use Rattle.proto_text.specs.Edits.{Edit}
@@ -19,9 +19,9 @@ use Rattle.proto_text.specs.Values.{StandsFor}
 use Rattle.proto_text.specs.declared.lexer.Token.{Token}
 use Rattle.proto_tree.specs.declared.piece.Statement.TheVariants as statement
 use Rattle.proto_tree.specs.declared.tree.Import.{Import}
-use Rattle.proto_edit_rules.specs.AddImport.{is_import_of, asked_in, IsImported, with_dependencies}
+use Rattle.proto_edit_rules.specs.AddImport.{is_import_of, asked_in, IsImported}
 use Rattle.proto_edit_rules.specs.Rename.{IsFirstPlace}
-use Rattle.proto_edit_rules.specs.Statements.{begins, ends, splice, StandsIn, word_of_token, one_change, IsPlaceOf, IsNoFile, places_before, without_place}
+use Rattle.proto_edit_rules.specs.Statements.{begins, ends, splice, StandsIn, change_by, IsPlaceOf, IsNoFile, places_before, without_place}
 
 -- ---- the splice
 
@@ -39,7 +39,7 @@ pub record IsImportOf
     : Type 0 where
   pub within : file < length files
   pub stands : StandsIn (statement.Import i) (read_at reads file).tree
-  pub value : StandsFor (word_of_token files reads file i.path) path
+  pub value : StandsFor (text_of files reads (at file i.path)) path
 
 -- the splice of the file that takes an import out of it
 abbrev pub splice_of_drop : List FileOf → List ReadOf → ℕ → Import → Edit
@@ -48,7 +48,7 @@ splice_of_drop files reads file i = drop_of (file_at files file).bytes (read_at 
 -- what the drop of an import changes
 abbrev pub changes_of_drop : List FileOf → List ReadOf → ℕ → Import → List ChangeOf
 changes_of_drop files reads file i =
-    one_change (file_at files file) (splice_of_drop files reads file i)
+    change_by (file_at files file) (splice_of_drop files reads file i ∷ [])
 
 -- ---- the cases that refuse it
 
@@ -68,19 +68,14 @@ pub record IsNeededIn
 pub data DropCase
     (files : List FileOf) (reads : List ReadOf) (file path : Path) : ℕ → Type 0 where
   no_such_file : IsNoFile files file → DropCase files reads file path 11
-  not_imported : (k : ℕ)
-      → IsPlaceOf files file k
-      → (IsImported files reads k path → ⊥)
-      → DropCase files reads file path 13
-  needed : (k : ℕ) (u : Used At)
-      → IsPlaceOf files file k
-      → IsNeededIn files reads k path u
-      → DropCase files reads file path 15
+  not_imported : (k : ℕ) → IsPlaceOf files file k
+      → (IsImported files reads k path → ⊥) → DropCase files reads file path 13
+  needed : (k : ℕ) (u : Used At) → IsPlaceOf files file k
+      → IsNeededIn files reads k path u → DropCase files reads file path 15
 
 -- the place that is answered with case 15
 abbrev pub IsNeededAt : List FileOf → List ReadOf → Path → Path → Path → ℕ → Type 0
-IsNeededAt files reads file path place offset = (k : ℕ)
-    × IsPlaceOf files file k
+IsNeededAt files reads file path place offset = (k : ℕ) × IsPlaceOf files file k
     × IsFirstPlace files reads (IsNeededIn files reads k path) place offset
 
 -- ---- the descriptors
@@ -92,6 +87,7 @@ lowered n places =
 
 -- the path goes, and its place from the public ones
 abbrev pub without_dependency : Path → FileDesc → FileDesc
-without_dependency path d =
-    with_dependencies (without_place (places_before (bytes_eq path) d.dependency) d.dependency)
-    (lowered (places_before (bytes_eq path) d.dependency) d.public_dependency) d
+without_dependency path d = record d {
+  dependency = without_place (places_before (bytes_eq path) d.dependency) d.dependency;
+  public_dependency = lowered (places_before (bytes_eq path) d.dependency) d.public_dependency;
+}

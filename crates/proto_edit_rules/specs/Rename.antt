@@ -40,6 +40,7 @@ use Rattle.proto_tree.specs.declared.piece.Header.{Header}
 use Rattle.proto_tree.specs.declared.piece.Header.TheVariants as header
 use Rattle.proto_tree.specs.declared.tree.FieldType.{FieldType}
 use Rattle.proto_tree.specs.declared.tree.FieldType.TheVariants as field_type
+pub use Rattle.proto_edit_rules.specs.Statements.{change_by}
 
 -- ---- new words of tokens
 
@@ -224,16 +225,6 @@ IsRewordedTooLong c files reads k = text_limit + old_len (splices_in c files rea
 abbrev pub spliced_length : ℕ → List Edit → ℕ
 spliced_length before es = (before + new_len es) - old_len es
 
--- the change of a file; none where there are no splices
-abbrev pub change_by : FileOf → List Edit → List ChangeOf
-change_by f [] = []
-change_by f (s ∷ es) = record {
-  path = f.path;
-  before = length f.bytes;
-  after = spliced_length (length f.bytes) (s ∷ es);
-  splices = s ∷ es;
-} ∷ []
-
 -- of the files from this number on
 abbrev pub changes_from : NewWords → ℕ → List FileOf → List ReadOf → List ChangeOf
 changes_from c file [] rs = []
@@ -248,16 +239,12 @@ changes_of_words c files reads = changes_from c 0 files reads
 
 -- ---- the cases that refuse it
 
--- a word that may not name a value (`option` and `reserved`)
-abbrev pub is_value_keyword : Text → Bool
-is_value_keyword word = not (fits want.ValueName (class_by Word word))
-
--- a word that a symbol of this kind may not be named
+-- a word that a symbol of this kind may not be named (of a value: `option` and `reserved`)
 abbrev pub is_keyword_of : Kind → Text → Bool
 is_keyword_of Message word = is_listed word
 is_keyword_of Enum word = is_listed word
 is_keyword_of Service word = is_listed word
-is_keyword_of Value word = is_value_keyword word
+is_keyword_of Value word = not (fits want.ValueName (class_by Word word))
 is_keyword_of Package word = false
 is_keyword_of Entry word = false
 is_keyword_of Field word = false
@@ -265,6 +252,10 @@ is_keyword_of EntryField word = false
 is_keyword_of Oneof word = false
 is_keyword_of Method word = false
 is_keyword_of Extension word = false
+
+-- a word that may not name a value
+abbrev pub is_value_keyword : Text → Bool
+is_value_keyword word = is_keyword_of Value word
 
 -- what is read of the file of a token
 abbrev pub scene_of_token : List FileOf → List ReadOf → At → Scene
@@ -340,48 +331,30 @@ pub record IsFirstPlace
 
 -- no symbol has this full name
 abbrev pub IsUnknown : List FileOf → List ReadOf → Text → Type 0
-IsUnknown files reads name = (s : Symbol)
-    → Contains (names_of_files files reads).symbols s
-    → joined s.name ≡ name
-    → ⊥
+IsUnknown files reads name =
+    (s : Symbol) → Contains (names_of_files files reads).symbols s → joined s.name ≡ name → ⊥
 
 -- Case n refuses the rename; of several the least is answered.
 pub data RenameCase
     (files : List FileOf) (reads : List ReadOf) (name to : Text) : ℕ → Type 0 where
   unknown_target : IsUnknown files reads name → RenameCase files reads name to 1
-  kind_not_allowed : (s : Symbol)
-      → Contains (names_of_files files reads).symbols s
-      → joined s.name ≡ name
-      → may_rename s.kind ≡ false
-      → RenameCase files reads name to 2
+  kind_not_allowed : (s : Symbol) → Contains (names_of_files files reads).symbols s
+      → joined s.name ≡ name → may_rename s.kind ≡ false → RenameCase files reads name to 2
   not_an_identifier : is_run to ≡ false → RenameCase files reads name to 3
-  keyword_name : (t : Target)
-      → IsNamed files reads name t
-      → is_keyword_of t.aim.kind to ≡ true
-      → RenameCase files reads name to 4
-  same_name : (t : Target)
-      → IsNamed files reads name t
-      → text_of files reads t.token ≡ to
-      → RenameCase files reads name to 5
-  collision : (t : Target)
-      → IsNamed files reads name t
+  keyword_name : (t : Target) → IsNamed files reads name t
+      → is_keyword_of t.aim.kind to ≡ true → RenameCase files reads name to 4
+  same_name : (t : Target) → IsNamed files reads name t
+      → text_of files reads t.token ≡ to → RenameCase files reads name to 5
+  collision : (t : Target) → IsNamed files reads name t
       → Collides (name_map files reads t to) (names_of_files files reads)
       → RenameCase files reads name to 6
-  captured : (t : Target) (u : Used At)
-      → IsNamed files reads name t
-      → Captures files reads t to u
-      → RenameCase files reads name to 7
-  name_reserved : (t : Target)
-      → IsNamed files reads name t
-      → ReservesWord files reads t.token to
-      → RenameCase files reads name to 8
-  json_clash : (t : Target)
-      → IsNamed files reads name t
-      → JsonNameClashes files reads t.token to
-      → RenameCase files reads name to 9
-  too_large : (t : Target) (k : ℕ)
-      → IsNamed files reads name t
-      → k < length files
+  captured : (t : Target) (u : Used At) → IsNamed files reads name t
+      → Captures files reads t to u → RenameCase files reads name to 7
+  name_reserved : (t : Target) → IsNamed files reads name t
+      → ReservesWord files reads t.token to → RenameCase files reads name to 8
+  json_clash : (t : Target) → IsNamed files reads name t
+      → JsonNameClashes files reads t.token to → RenameCase files reads name to 9
+  too_large : (t : Target) (k : ℕ) → IsNamed files reads name t → k < length files
       → IsRewordedTooLong (renamed_words files reads t to) files reads k
       → RenameCase files reads name to 16
 
@@ -445,51 +418,32 @@ mapped_json e taken above name json =
 -- A field right in a message of this full name, or an extension right in it or in a package of this
 -- name. An extension has no JSON name, and gets none.
 abbrev pub mapped_field : Renaming → Taken → List Text → FieldDesc → FieldDesc
-mapped_field e taken above f = record {
+mapped_field e taken above f = record f {
   name = word_under e above f.name;
-  number = f.number;
-  label = f.label;
-  field_type = f.field_type;
   type_name = option_map (mapped_name e) f.type_name;
   extendee = option_map (mapped_name e) f.extendee;
   default_value = option_map (mapped_default e taken f.type_name) f.default_value;
-  oneof_index = f.oneof_index;
   json_name = option_map (mapped_json e taken above f.name) f.json_name;
-  proto3_optional = f.proto3_optional;
-  options = f.options;
 }
 
 -- a value of an enum right below this name
 abbrev pub mapped_value : Renaming → List Text → EnumValueDesc → EnumValueDesc
-mapped_value e above v = record {
-  name = word_under e above v.name;
-  number = v.number;
-  options = v.options;
-}
+mapped_value e above v = record v { name = word_under e above v.name }
 
 -- an enum right below this name; its values stand beside it
 abbrev pub mapped_enum : Renaming → List Text → EnumDesc → EnumDesc
-mapped_enum e above d = record {
-  name = word_under e above d.name;
-  value = map (mapped_value e above) d.value;
-  reserved_range = d.reserved_range;
-  reserved_name = d.reserved_name;
-  options = d.options;
-}
+mapped_enum e above d =
+    record d { name = word_under e above d.name; value = map (mapped_value e above) d.value }
 
 -- a message with this full name
 abbrev pub mapped_message : Renaming → Taken → List Text → List Text → MessageDesc
     → MessageDesc
-mapped_message e taken above full m = record {
+mapped_message e taken above full m = record m {
   name = word_under e above m.name;
   field = map (mapped_field e taken full) m.field;
   extension = map (mapped_field e taken full) m.extension;
   enum_type = map (mapped_enum e full) m.enum_type;
-  extension_range = m.extension_range;
   oneof_decl = map (word_under e full) m.oneof_decl;
-  reserved_range = m.reserved_range;
-  reserved_name = m.reserved_name;
-  options = m.options;
 }
 
 -- messages right below this name, with what is nested in them
@@ -501,46 +455,35 @@ mapped_messages e taken above (OneMessage m nested rest) =
 
 -- a method of a service of this full name
 abbrev pub mapped_method : Renaming → List Text → MethodDesc → MethodDesc
-mapped_method e full m = record {
+mapped_method e full m = record m {
   name = word_under e full m.name;
   input_type = mapped_name e m.input_type;
   output_type = mapped_name e m.output_type;
-  options = m.options;
-  client_streaming = m.client_streaming;
-  server_streaming = m.server_streaming;
 }
 
 -- a service right below this name
 abbrev pub mapped_service : Renaming → List Text → ServiceDesc → ServiceDesc
-mapped_service e above s = record {
+mapped_service e above s = record s {
   name = word_under e above s.name;
   method = map (mapped_method e (above ++ s.name ∷ [])) s.method;
-  options = s.options;
 }
 
 -- a package keeps its name
 abbrev pub mapped_file : Renaming → Taken → FileDesc → FileDesc
-mapped_file e taken f = record {
-  name = f.name;
-  «package» = f.«package»;
-  dependency = f.dependency;
-  public_dependency = f.public_dependency;
+mapped_file e taken f = record f {
   message_type = mapped_messages e taken (words_of (package_prefix f.«package»)) f.message_type;
   enum_type = map (mapped_enum e (words_of (package_prefix f.«package»))) f.enum_type;
   service = map (mapped_service e (words_of (package_prefix f.«package»))) f.service;
   extension = map (mapped_field e taken (words_of (package_prefix f.«package»))) f.extension;
-  options = f.options;
-  syntax = f.syntax;
 }
 
--- the descriptors of the files; written says whether the renamed field has a taken JSON name
+-- the descriptors of the files
 abbrev pub mapped : Renaming → Taken → List FileDesc → List FileDesc
 mapped e taken ds = map (mapped_file e taken) ds
 
 -- whether the renamed field has a written JSON name (false for another kind)
 pub data WritesJson (files : List FileOf) (reads : List ReadOf) (t : Target) : Bool → Type 0 where
-  of_field : (b : BlockOf) (f : FieldOf)
-      → IsFieldIn files reads t.token b f
+  of_field : (b : BlockOf) (f : FieldOf) → IsFieldIn files reads t.token b f
       → WritesJson files reads t (is_some (text_option (text (scene_of_token files reads t.token))
       (value (scene_of_token files reads t.token)) (codes "json_name") f.options))
   of_another : ((b : BlockOf) (f : FieldOf) → IsFieldIn files reads t.token b f → ⊥)
@@ -549,6 +492,6 @@ pub data WritesJson (files : List FileOf) (reads : List ReadOf) (t : Target) : B
 -- the second descriptors are the first under the name map of the rename
 abbrev pub AreRenamed : List FileOf → List ReadOf → Target → Text → List FileDesc → List FileDesc
     → Type 0
-AreRenamed files reads t to ds new = (written : Bool)
-    × WritesJson files reads t written
-    × (new ≡ mapped (name_map files reads t to) (record { written = written; enum = t.enum }) ds)
+AreRenamed files reads t to ds new = (written : Bool) × WritesJson files reads t written
+    × (new ≡ map
+    (mapped_file (name_map files reads t to) (record { written = written; enum = t.enum })) ds)

@@ -6,7 +6,7 @@ use Rattle.proto_edit_entries.specs.Entries.{ChangeOf}
 use Rattle.proto_files.specs.FilesRead.{ReadOf, read_at}
 use Rattle.proto_files.specs.GivenFiles.{FileOf, file_at, paths_of}
 use Rattle.proto_names_rules.specs.Faults.{file_with_path}
-use Rattle.proto_text.specs.Edits.{Edit}
+use Rattle.proto_text.specs.Edits.{Edit, new_len, old_len}
 use Rattle.proto_text.specs.Segments.{end_before, bytes_between}
 use Rattle.proto_text.specs.Texts.{offset_at, words}
 use Rattle.proto_text.specs.declared.lexer.Token.{Token}
@@ -22,8 +22,7 @@ pub data StandsIn (s : Statement) : Tree → Type 0 where
   First : (rest : Tree) → StandsIn s (Leaf s rest)
   AfterLeaf : (x : Statement) (rest : Tree) → StandsIn s rest → StandsIn s (Leaf x rest)
   AfterBlock : (h : Header) (i : ℕ) (within : Tree) (j : ℕ) (rest : Tree)
-      → StandsIn s rest
-      → StandsIn s (Block h i within j rest)
+      → StandsIn s rest → StandsIn s (Block h i within j rest)
 
 -- the index of the first token of some marks; 0 where there are none
 abbrev pub first_index : List Mark → ℕ
@@ -63,18 +62,23 @@ abbrev pub word_of_token : List FileOf → List ReadOf → ℕ → ℕ → Text
 word_of_token files reads file token =
     words (file_at files file).bytes (read_at reads file).tokens token
 
--- the length of a file with a splice
-abbrev pub length_with : FileOf → Edit → ℕ
-length_with f e = (length f.bytes + length e.new) - length e.old
-
--- the change of a file by one splice
-abbrev pub one_change : FileOf → Edit → List ChangeOf
-one_change f e = record {
+-- the change of a file by its splices; none where there are none
+abbrev pub change_by : FileOf → List Edit → List ChangeOf
+change_by f [] = []
+change_by f (s ∷ es) = record {
   path = f.path;
   before = length f.bytes;
-  after = length_with f e;
-  splices = e ∷ [];
+  after = (length f.bytes + new_len (s ∷ es)) - old_len (s ∷ es);
+  splices = s ∷ es;
 } ∷ []
+
+-- its change by one splice
+abbrev pub one_change : FileOf → Edit → List ChangeOf
+one_change f e = change_by f (e ∷ [])
+
+-- the length of a file with a splice
+abbrev pub length_with : FileOf → Edit → ℕ
+length_with f e = (length f.bytes + new_len (e ∷ [])) - old_len (e ∷ [])
 
 -- With the splice the file would be longer than one may be.
 abbrev pub IsTooLong : FileOf → Edit → Type 0

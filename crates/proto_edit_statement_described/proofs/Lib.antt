@@ -44,3 +44,4 @@ mod Spelled
 mod Trees
 mod Workspace
 mod Written
+mod Unchanged

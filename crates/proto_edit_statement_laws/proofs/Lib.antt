@@ -44,3 +44,4 @@ pub mod StandsOnce
 pub mod TakenOut
 pub mod TextLaws
 mod Walks
+mod OneSplice
