@@ -319,7 +319,7 @@ one_edit (Some (add_import f p)) None e = cc
 one_edit (Some (drop_import f p)) None e = cc
 one_edit (Some a) (Some b) e = ap Some (one_asked a b e)
 
-same_record : (r s : RecordOf) → r.state ≡ s.state → r.entry ≡ s.entry → r.edit ≡ s.edit → r ≡ s
+pub same_record : (r s : RecordOf) → r.state ≡ s.state → r.entry ≡ s.entry → r.edit ≡ s.edit → r ≡ s
 same_record r s p q t = λ i. record { state = p i; entry = q i; edit = t i }
 
 one_record : (v : Version) (r s : RecordOf) → IsRecord v r → IsRecord v s → record_data v r ≡ record_data v s → r ≡ s

@@ -24,12 +24,12 @@ old_file-requires-clause-change g c =
 
 pub old_file-requires-clause-back : goal.old_file-requires-clause-back
 old_file-requires-clause-back g c =
-    back_at c.changes-changes.result.now c.in_ok-back.back.items c.loop-place.place c.index-changes-place.result c.index-back-place.result
-    c.in_ok-back.ensures c.loop-place-test.true c.index-changes-place.is c.index-back-place.is
+    back_at c.changes-changes.result.now c.in_ok-back.back.items c.loop-place.place c.index-changes-place.result c.index.result
+    c.in_ok-back.ensures c.loop-place-test.true c.index-changes-place.is c.index.is
 
 pub returns-in_err-file-clause-err : goal.returns-in_err-file-clause-err
 returns-in_err-file-clause-err g c =
-    let p = err_from_is_err_and c.from_residual.result c.from_residual.ensures.1 in
+    let p = err_from_is_err_and c.from_residual-in_err-file.result c.from_residual-in_err-file.ensures.1 in
     rw (p.1, p.2) (stale_in (g.S.Store.holds c.args.store.now) (g.S.Store.holds c.loop-place.store) c.args.entry.now (change_of c.index-changes-place.result) _ c.loop-place.invariant.same
     (among c.args.entry.now c.changes-changes.result.now c.loop-place.place c.index-changes-place.result c.changes-changes.ensures.items c.loop-place-test.true c.index-changes-place.is)
     c.in_err-file.ensures.err)
@@ -44,7 +44,7 @@ loop-place-preserved g c =
     let more = λ (after : List FileOf). next_added held (g.S.Store.holds c.loop-place.store) changes c.loop-place.place c.index-changes-place.result (files_of c.args.files.now.items) (files_of files) after
     (option_map file_of found) c.loop-place.invariant.same c.loop-place-test.true c.index-changes-place.is c.loop-place.invariant.so_far c.in_ok-file.ensures.ok in
     record {
-      so_far = elim c.match-branch-2.branch [
+      so_far = elim c.match-branch-3.branch [
         | in-Some+in_ok-push w ↦ subst (λ (v : Vec (String Global × Vec ℕ)). so_far (files_of v.items)) (sym w.files-is)
             (more _ (with_some files w.push.new.self.items found w.in-Some.file w.in-Some.is w.in_ok-push.ensures.items))
         | in_default w ↦ subst (λ (v : Vec (String Global × Vec ℕ)). so_far (files_of v.items)) (sym w.files-is) (more _ (with_none files files found w.in_default.is refl))
@@ -66,7 +66,7 @@ returns-in_err-file-clause-same g c = c.in_err-file.ensures.same ∙ c.loop-plac
 
 pub returns-in_err-file-clause-count : goal.returns-in_err-file-clause-count
 returns-in_err-file-clause-count g c =
-    let p = err_from_is_err_and c.from_residual.result c.from_residual.ensures.1 in
+    let p = err_from_is_err_and c.from_residual-in_err-file.result c.from_residual-in_err-file.ensures.1 in
     rw (p.1, p.2) (counts_from (g.S.Store.holds c.loop-place.store) (change_of c.index-changes-place.result) (g.S.Store.failure_count c.args.store.now) (g.S.Store.failure_count c.loop-place.store) (g.S.Store.failure_count c.old_file.new.store) _ c.loop-place.invariant.count
     c.in_err-file.ensures.err c.in_err-file.ensures.count)
 
