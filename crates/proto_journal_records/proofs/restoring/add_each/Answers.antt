@@ -25,7 +25,7 @@ old_file-requires-clause-change g c =
 pub old_file-requires-clause-back : goal.old_file-requires-clause-back
 old_file-requires-clause-back g c =
     back_at c.changes-changes.result.now c.in_ok-back.back.items c.loop-place.place c.index-changes-place.result c.index.result.now
-    c.in_ok-back.ensures c.loop-place-test.true c.index-changes-place.is c.index.is
+    c.in_ok-back.ensures c.loop-place-test.true c.index-changes-place.is c.index.ensures
 
 pub returns-in_err-file-clause-err : goal.returns-in_err-file-clause-err
 returns-in_err-file-clause-err g c =
