@@ -1,5 +1,6 @@
 -- Lists of flaws: tokens that are marked, keys that repeat, and the least flaw (for the crates above).
 use Rattle.std.proofs.Common.{◌≡◌, ◌≢◌, ℕ, zero, suc, ◌+◌, ◌<◌, ◌≤◌, Bool, true, false, ◌||◌, ◌&&◌, ◌==◌, List, [], ◌∷◌, ◌++◌, length, get_or, take, drop, map, flat_map, Option, Some, None, refl, sym, ap, subst, ◌∙◌, if◌then◌else◌, append_assoc, inl, inr, ◌⊎◌, arith, nat_lt, not, Contains, eqb-true, eq-eqb, ltb-false, le-ltb, take_all, take-append-drop}
+use Rattle.std.proofs.Math.Bool.{not-not}
 use Rattle.proto_base.proofs.Common.{list_any, cases_Bool, cases_lt, flat_map_more, take_more, Contains-append_left, Contains-append_right, Contains-append_cases, list_any-append, kind_number, contains_cases}
 use Rattle.proto_base.specs.declared.fault.FaultKind.{FaultKind}
 use Rattle.proto_desc_numbers.specs.Common.{Flaw, flaw_if, earlier, after_earlier, marked, comes_before, IsLeastOfFlaws}
@@ -59,12 +60,8 @@ pub repeats_length : {K : Type 0} (eq : K → K → Bool) (front xs : List K) �
 repeats_length eq front [] = refl
 repeats_length eq front (k ∷ xs) = ap suc (repeats_length eq (front ++ k ∷ []) xs)
 
-not_not : (b c : Bool) → c ≡ not b → not c ≡ b
-not_not true c e = ap not e
-not_not false c e = ap not e
-
 pub new_is : (added old front : Bool) → added ≡ not old → old ≡ front → not added ≡ front
-new_is added old front e h = not_not old added e ∙ h
+new_is added old front e h = ap not e ∙ not-not old ∙ h
 
 pub seen_more : {K : Type 0} (eq : K → K → Bool) (front : List K) (key q : K) (now before : Bool) → now ≡ (if eq key q then true else before) → before ≡ list_any (λ p. eq p q) front → now ≡ list_any (λ p. eq p q) (front ++ key ∷ [])
 seen_more eq front key q now before e h = e ∙ by (eq key q) before (list_any (λ p. eq p q) front) h ∙ sym (list_any-append (λ p. eq p q) front (key ∷ []))

@@ -21,7 +21,7 @@ impl<T: Drop> Model for OnHeap<T> {
 }
 
 impl<T: Drop> OnHeap<T> {
-    /// Puts the value on the heap.
+    /// Puts the value on the heap. Fails only when out of memory.
     pub fn new(alloc: Global, value: T) -> Result<Self, NoMemory>
         ensures { IfOk result (λ made. made ≡ value) }
     {

@@ -1,15 +1,12 @@
-use Rattle.std.proofs.Common.{◌≡◌, ◌∙◌, Bool, true, false, not, ap, cond, refl, string_bytes, bytes_eq}
+use Rattle.std.proofs.Common.{◌∙◌, true, not, ap, cond, string_bytes, bytes_eq}
+use Rattle.std.proofs.Math.Bool.{not-not}
 use Rattle.proto_base.proofs.Common.{contains_text, hash_set_updates_text}
 use Rattle.proto_names_faults.proofs.TakenNames.{put_is}
 use Rattle.proto_names_faults.proofs.taken.take_name.Goals as goal
 
-not_new : (b : Bool) → not (not b) ≡ b
-not_new true = refl
-not_new false = refl
-
 pub returns-clause-was : goal.returns-clause-was
 returns-clause-was c =
-    ap not c.in_ok-is_new.ensures.added ∙ not_new (contains_text c.args.taken.now (string_bytes c.in_ok-own.own)) ∙ ap (contains_text c.args.taken.now) c.in_ok-own.ensures.ok
+    ap not c.in_ok-is_new.ensures.added ∙ not-not (contains_text c.args.taken.now (string_bytes c.in_ok-own.own)) ∙ ap (contains_text c.args.taken.now) c.in_ok-own.ensures.ok
 
 pub returns-clause-names : goal.returns-clause-names
 returns-clause-names c = λ other. (
