@@ -8,7 +8,10 @@ returns-in_err-link-clause-fault c =
     rw (p.1, p.2) (linking_error c.args.files.now c.in_err-link.field-0.0 c.requires c.in_err-link.ensures.fault)
 
 pub returns-in-Ok-clause-clean : goal.returns-in-Ok-clause-clean
-returns-in-Ok-clause-clean c = none_of_files c.args.files.now c.requires c.in_ok-link.ensures.clean (rw c.new.ensures.files at c.in-Ok.ensures.clean)
+returns-in-Ok-clause-clean c = none_of_files c.args.files.now c.requires c.in_ok-link.ensures.clean (rw c.new-2.ensures.files at c.in-Ok.ensures.clean)
+
+pub returns-in-Ok-clause-described : goal.returns-in-Ok-clause-described
+returns-in-Ok-clause-described c = rw c.new-2.ensures.files at c.in-Ok.ensures.descriptors
 
 pub returns-in-Err-clause-fault : goal.returns-in-Err-clause-fault
-returns-in-Err-clause-fault c = checking_error c.args.files.now c.in-Err.fault c.requires c.in_ok-link.ensures.clean (rw c.new.ensures.files at c.in-Err.ensures.fault)
+returns-in-Err-clause-fault c = checking_error c.args.files.now c.in-Err.fault c.requires c.in_ok-link.ensures.clean (rw c.new-2.ensures.files at c.in-Err.ensures.fault)

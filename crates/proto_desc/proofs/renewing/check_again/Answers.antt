@@ -5,6 +5,12 @@ use Rattle.proto_desc_build.specs.Described.{file_described}
 use Rattle.proto_desc.proofs.CheckedFiles.{described_of_file, none_of_file}
 use Rattle.proto_desc.proofs.renewing.check_again.Goals as goal
 
+pub tree-tree-requires : goal.tree-tree-requires
+tree-tree-requires c = rw c.files-files.ensures.files c.requires.file
+
+pub path-requires : goal.path-requires
+path-requires c = rw c.files-files.ensures.files c.requires.file
+
 pub returns : goal.returns
 returns c =
     let files = c.args.linked.now.files in
