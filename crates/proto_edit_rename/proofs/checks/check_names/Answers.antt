@@ -13,7 +13,7 @@ captured_refusal-requires c =
     let r = c.files-files.ensures.clean.read in
     let t = c.requires.target reads r in
     let first = subst (IsFirst files c.files-files.ensures.clean.clean c.args.target c.requires.target c.args.to.now) c.in-Some.is c.in_ok-first_captured.ensures in
-    captured_inside files reads r t.0 c.args.to.now c.in-Some.reference (first reads r t.0 t.1)
+    rw c.files-files.ensures.files (captured_inside files reads r t.0 c.args.to.now c.in-Some.reference (first reads r t.0 t.1))
 
 pub returns-in-None-clause-free : goal.returns-in-None-clause-free
 returns-in-None-clause-free c =
@@ -29,4 +29,4 @@ returns-in_ok-captured_refusal-in-Some-clause-err c =
     let t = c.requires.target reads r in
     let first = subst (IsFirst files c.files-files.ensures.clean.clean c.args.target c.requires.target c.args.to.now) c.in-Some.is c.in_ok-first_captured.ensures in
     let free = collision_free files c.files-files.ensures.clean.clean c.args.target c.requires.target c.args.to.now c.in_ok-collides.field-0 c.if-branch.false c.in_ok-collides.ensures c.requires.before in
-    capture_refused files c.files-files.ensures.clean.clean c.args.target c.requires.target c.args.to.now reads r c.in-Some.reference first (captured_inside files reads r t.0 c.args.to.now c.in-Some.reference (first reads r t.0 t.1)) c.in_ok-captured_refusal-in-Some.field-0 c.in_ok-captured_refusal-in-Some.ensures free
+    capture_refused files c.files-files.ensures.clean.clean c.args.target c.requires.target c.args.to.now reads r c.in-Some.reference first (captured_inside files reads r t.0 c.args.to.now c.in-Some.reference (first reads r t.0 t.1)) c.in_ok-captured_refusal-in-Some.field-0 (rw c.files-files.ensures.files at c.in_ok-captured_refusal-in-Some.ensures) free

@@ -3,8 +3,7 @@ use Rattle.std.specs.List.{list_any}
 use Rattle.std.proofs.lemmas.Result.{IfOk-weaker}
 use Rattle.proto_tree.specs.File.{tree_of_file}
 use Rattle.proto_names_rules.specs.Joined.{joined}
-use Rattle.proto_names.specs.Linking.{name_text}
-use Rattle.proto_names.specs.Linking.{Meant}
+use Rattle.proto_names.specs.Linking.{LinkOf, Meant, name_text}
 use Rattle.proto_ast.specs.Scenes.{text}
 use Rattle.proto_edit_rename.specs.Blocks.{block_of, holders_in}
 use Rattle.proto_edit_rename.specs.Defaults.{defaults_in, is_found_name, type_means}
@@ -37,7 +36,8 @@ returns c =
     let tree = tree_of_file c.tree-tree.result.now in
     let blocks = ap (map block_of) c.deref.ensures.value ∙ c.in_ok-blocks.ensures in
     e
+    ∙ ap (λ (l : LinkOf). flat_map (defaults_in (text c.scene-scene.result) (type_means l c.args.file c.args.enum_name.now) c.args.old.now) (map block_of c.deref.result.now)) c.link-link.ensures.link
     ∙ ap (flat_map (defaults_in (text c.scene-scene.result) (type_means c.args.linked.now.link c.args.file c.args.enum_name.now) c.args.old.now)) blocks
     ∙ ap (λ n. flat_map (defaults_in (text c.scene-scene.result) (type_means c.args.linked.now.link c.args.file n) c.args.old.now) (holders_in (tree_of_file c.tree-tree.result.now))) (sym named)
     ∙ defaults_are files reads are link (c.files-files.ensures.clean.link reads are) file c.requires enum plain scene ((rw c.files-files.ensures.files at c.scene-scene.ensures) reads are) tree (rw c.files-files.ensures.files at c.tree-tree.ensures) old)
-    (rw c.link-link.ensures.link at c.defaults.ensures)
+    c.defaults.ensures

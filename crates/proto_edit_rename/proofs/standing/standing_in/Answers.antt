@@ -53,11 +53,13 @@ standing_words-requires c =
     ∙ sym (ap length c.deref.ensures.value)
 
 pub returns : goal.returns
-returns c = if_ok _ _ (λ found h reads are t aimed to i.
+returns c =
+    let made = rw c.link-link.ensures.link at c.standing_words.ensures in
+    if_ok _ _ (λ found h reads are t aimed to i.
     (let files = c.args.linked.now.files in
     let listing = c.in_ok-listing.listing in
     let used = c.in_ok-listing.ensures.used ∙ uses_are files reads are c.args.file c.requires (tree_of_file c.tree.result.now) ((rw c.files-files.ensures.files at c.tree.ensures) (read_at reads c.args.file).tokens (are.tokens c.args.file c.requires)) in
     let is = h ∙ ap (λ (z : List Use). standing_tokens c.args.linked.now.link c.args.target.name.now z c.meant_in-meant.result.now) c.deref.ensures.value ∙ ap (standing_tokens c.args.linked.now.link c.args.target.name.now listing.used.items) (rw c.link-link.ensures.link at c.meant_in-meant.ensures.exact) in
     subst (λ (z : List ℕ). Contains z i ↔ Contains (flat_map (standing (text_of files reads) (link_skeleton files reads) (name_map files reads t to)) (link_skeleton files reads).used) (at c.args.file i)) (sym is)
     (counted_are_standing files reads are c.files-files.ensures.clean.clean c.args.linked.now.link (c.files-files.ensures.clean.link reads are) c.args.target.name.now to t aimed.named c.args.file c.requires (read listing.declared.items) listing.used.items used i)))
-    c.standing_words.result (rw c.link-link.ensures.link at c.standing_words.ensures)
+    c.standing_words.result made

@@ -13,7 +13,7 @@ value_of_enum-requires c =
     let e = (rw c.link.ensures.link at c.in-Some.ensures.some) in
     let reads = c.link.ensures.clean.reads in
     let are = c.link.ensures.clean.read in
-    inside c.args.linked.now.files reads are c.link.ensures.clean.clean c.args.linked.now.link (c.link.ensures.clean.link reads are) c.args.id.row e.0 e.1 (at_place c.in-Some.place) e.3
+    rw c.files.ensures.files (inside c.args.linked.now.files reads are c.link.ensures.clean.clean c.args.linked.now.link (c.link.ensures.clean.link reads are) c.args.id.row e.0 e.1 (at_place c.in-Some.place) e.3)
 
 pub returns-in-Some-2 : goal.returns-in-Some-2
 returns-in-Some-2 c =

@@ -22,7 +22,9 @@ word_meant-requires c =
     ap length (rw c.link-link.ensures.link at c.meant_in-meant.ensures.exact) ∙ as_many files reads c.args.linked.now.link (c.files-files.ensures.clean.link reads are) file c.requires (read listing.declared.items) listing.used.items uses ∙ sym (ap length c.deref.ensures.value)
 
 pub returns-in-Some : goal.returns-in-Some
-returns-in-Some c = IfOk-weaker c.front_of.result _ _ (λ found h. λ reads are n.
+returns-in-Some c =
+    let made = rw c.link-link.ensures.link at c.front_of.ensures in
+    IfOk-weaker c.front_of.result _ _ (λ found h. λ reads are n.
     (let files = c.args.linked.now.files in
     let l = c.args.linked.now.link in
     let file = c.args.place.file in
@@ -37,7 +39,7 @@ returns-in-Some c = IfOk-weaker c.front_of.result _ _ (λ found h. λ reads are 
     let words = (rw c.files-files.ensures.files at c.new-words.ensures.words) (read_at reads file).tokens (are.tokens file c.requires) in
     word_named files reads are c.files-files.ensures.clean.clean l (c.files-files.ensures.clean.link reads are) file c.requires (read listing.declared.items) token listing.used.items uses x e (option_map said found)
     (subst (λ (ls : List Lexeme). (text : List ℕ) → name_text l x.meant.row ≡ Some text → (front : List ℕ) → (option_map said found ≡ Some front) ↔ (text ≡ front ++ dotted_text (map (word_at ls) x.behind))) words h) n))
-    (rw c.link-link.ensures.link at c.front_of.ensures)
+    made
 
 pub returns : goal.returns
 returns c = λ reads are n.
