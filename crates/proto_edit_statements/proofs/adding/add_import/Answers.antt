@@ -22,3 +22,6 @@ check_new-requires-clause-to c = sym c.place_of_path-2.ensures ∙ c.in-Some-pla
 
 pub changes_of_addition-requires-clause-file : goal.changes_of_addition-requires-clause-file
 changes_of_addition-requires-clause-file c = sym c.place_of_path.ensures ∙ c.in-Some.is
+
+pub check_new-requires-clause-before : goal.check_new-requires-clause-before
+check_new-requires-clause-before c = rw c.new-linked.ensures.files at c.in_ok-check_captured.ensures.free

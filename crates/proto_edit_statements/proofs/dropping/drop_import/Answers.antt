@@ -33,3 +33,6 @@ check_needed-requires-clause-before c =
 
 pub changes_of_drop-requires-clause-file : goal.changes_of_drop-requires-clause-file
 changes_of_drop-requires-clause-file c = sym c.place_of_path.ensures ∙ c.in-Some.is
+
+pub changes_of_drop-requires-clause-free : goal.changes_of_drop-requires-clause-free
+changes_of_drop-requires-clause-free c = rw c.new.ensures.files at c.in_ok-check_needed.ensures.free
