@@ -1,8 +1,17 @@
-use Rattle.std.proofs.Common.{◌≡◌, ℕ, ◌<◌, length, subst, inl, inr, arith}
+use Rattle.std.proofs.Common.{◌≡◌, ℕ, ◌<◌, length, sym, subst, inl, inr, arith}
 use Rattle.proto_base.proofs.Common.{cases_lt, err_from_is_err_and}
+use Rattle.proto_resolved.specs.Scenes.{IsSceneOf}
 use Rattle.proto_desc.specs.CheckSteps.{HasNoFlaw}
 use Rattle.proto_desc.proofs.LeastCheckFault.{check_error, no_fault}
 use Rattle.proto_desc.proofs.checking.check_each.Goals as goal
+
+pub check_file-requires-clause-scene : goal.check_file-requires-clause-scene
+check_file-requires-clause-scene c =
+    let files = c.args.linked.now.files in
+    let within : c.loop-file.file < length files = omega (arith, c.loop-file-test.true, c.file_count-file-end.ensures.len) in
+    let scene = c.index-scenes-place.result in
+    rw c.files-files.ensures.files
+    (subst (IsSceneOf files c.loop-file.file) (sym c.index-scenes-place.is) (c.requires.scenes.each c.loop-file.file scene (omega (arith, within, c.requires.scenes.len))))
 
 pub returns-in_err-check_file-clause-fault : goal.returns-in_err-check_file-clause-fault
 returns-in_err-check_file-clause-fault c =

@@ -1,4 +1,4 @@
-use Rattle.std.proofs.Common.{◌≡◌, length, ap, ◌∙◌, sym, rules}
+use Rattle.std.proofs.Common.{◌≡◌, length, ap, ◌∙◌, sym, arith, eqb-true}
 use Rattle.proto_base.proofs.Common.{nil_from_length}
 use Rattle.proto_tree.specs.File.{tree_of_file}
 use Rattle.proto_desc_build.specs.Described.{file_described}
@@ -18,7 +18,8 @@ returns c =
     let scene = c.in_ok-scene.scene in
     let tree = tree_of_file c.tree-tree.result.now in
     let flaws = c.in_ok-flaws.flaws.items in
-    let count : length flaws ≡ 0 = search rules in
+    let none = eqb-true c.in_ok-flaws.flaws.len 0 (sym c.is_empty.ensures ∙ c.if-not-is_empty.false) in
+    let count : length flaws ≡ 0 = omega (arith, c.in_ok-flaws.flaws.ok.0, none) in
     record {
       flawless = λ reads are. none_of_file files file c.requires.file scene c.in_ok-scene.ensures tree (rw c.files-files.ensures.files at c.tree-tree.ensures) reads are (sym c.in_ok-flaws.ensures ∙ nil_from_length flaws count);
       described = λ reads are.
