@@ -24,7 +24,7 @@ returns c =
     let found : HasDefaultsIn files file enum i.old.now defaults = subst (λ (o : Option (List ℕ)). HasDefaultsIn files file o i.old.now defaults) c.as_deref-enum_name.ensures.value c.in_ok-defaults.ensures in
     let items : c.push_all.new.places.items ≡ (places ++ or_own a.file a.token file) ++ defaults =
     c.in_ok-push_all.ensures ∙ ap₂ (λ (x y : List ℕ). x ++ y) c.in_ok-push_own.ensures c.deref-2.ensures.value in
-    rw (← c.scope.view_is) (subst (ArePlacesIn files a file) (sym items)
+    subst (λ (s : RenameScopeOf). ArePlacesIn s.files s.target file c.push_all.new.places.items) c.scope.view_is (subst (ArePlacesIn files a file) (sym items)
     (places_are files a file within enum i.old.now c.scope.invariant.value places defaults c.in_ok-places.ensures found))
 
 pub returns-then-not-is_marked : goal.returns-then-not-is_marked
@@ -35,5 +35,5 @@ returns-then-not-is_marked c =
     let file = c.args.file in
     let within : file < length files = rw (ap (λ (s : RenameScopeOf). s.files) c.scope.view_is) c.requires in
     let unmarked : get_or i.marks.items file false ≡ false = ap (λ (ms : List Bool). get_or ms file false) (sym c.deref.ensures.value) ∙ sym c.is_marked.ensures ∙ c.if-not-is_marked.true in
-    rw (← c.scope.view_is) (subst (ArePlacesIn files i.target file) (sym c.new.ensures.items)
+    subst (λ (s : RenameScopeOf). ArePlacesIn s.files s.target file c.new.result.items) c.scope.view_is (subst (ArePlacesIn files i.target file) (sym c.new.ensures.items)
     (nothing_changes files is.clean.clean i.linked.now.link is.clean.link i.target (option_map string_bytes i.enum_name) i.marks.items is.changed file within unmarked i.old.now is.value))
