@@ -15,13 +15,12 @@ use proto_journal_records::JournalFault;
 use proto_store::{Store, StoreFault};
 use std::alloc::Global;
 
-/// The files before and after changes, which are all that differs.
+/// The files before and after changes.
 #[derive(Clone, Copy)]
 pub(crate) struct ChangedFiles<'a> {
     pub(crate) before: &'a Files,
     pub(crate) after: &'a Files,
     pub(crate) changes: &'a [Change],
-    ghost differ: { DifferBy (map change_of changes.now) before.now after.now },
 }
 
 // The paths of changes.
@@ -102,6 +101,8 @@ fn replace_file<'a, S: Store>(
 // the changes say which files differ.
 fn replace_files<S: Store>(store: &mut S, files: &ChangedFiles) -> Result<(), StoreFault>
     requires room { S.failure_count store.old < 2 ^ 64 - 1 }
+    requires differ { DifferBy (map change_of files.now.changes.now)
+        files.now.before.now files.now.after.now }
     requires files { HoldsFiles (S.holds store.old) files.now.before.now }
     ensures ok { OnOk result (S.holds store.new
         ≡ option_map (with_these_files files.now.after.now) (S.holds store.old)) }
@@ -127,6 +128,8 @@ pub(crate) fn write_through<S: Store>(
     last: &[u8],
 ) -> Result<(), StoreFault>
     requires room { S.failure_count store.old < 2 ^ 64 - 1 }
+    requires differ { DifferBy (map change_of files.now.changes.now)
+        files.now.before.now files.now.after.now }
     requires files { HoldsFiles (S.holds store.old) files.now.before.now }
     ensures ok { OnOk result (S.holds store.new
         ≡ option_map (λ h. held files.now.after.now last.now) (S.holds store.old)) }

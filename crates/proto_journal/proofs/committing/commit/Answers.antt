@@ -25,12 +25,11 @@ returns-in_err-made-clause-outcome g c =
     rw (p.1, p.2) (unprepared (asked c.args.edit) c.args.workspace.now old (g.S.Store.holds c.ready_text.new.store) c.as_slice.result.now _ c.ready_text.ensures.same
     c.in_ok-journal.ensures.outcome there c.in_err-made.ensures.err)
 
-pub invariant_of-files : goal.invariant_of-files
-invariant_of-files g c = record {
-  differ = differ_from c.files.result.now c.args.workspace.now c.files-2.result.now c.in_ok-made.made.next (map change_of c.changes-2.result.now) c.in_ok-made.made.entry c.files.ensures.files c.files-2.ensures.files
-      c.changes-2.ensures.items
-      (step_differs c.args.workspace.now c.in_ok-made.made.next (asked c.args.edit) c.in_ok-made.made.entry c.files.ensures.compiled c.changes-2.ensures.entry c.in_ok-made.ensures.step);
-}
+pub write_through-requires-clause-differ : goal.write_through-requires-clause-differ
+write_through-requires-clause-differ g c =
+    differ_from c.files.result.now c.args.workspace.now c.files-2.result.now c.in_ok-made.made.next (map change_of c.changes-2.result.now) c.in_ok-made.made.entry c.files.ensures.files c.files-2.ensures.files
+    c.changes-2.ensures.items
+    (step_differs c.args.workspace.now c.in_ok-made.made.next (asked c.args.edit) c.in_ok-made.made.entry c.files.ensures.compiled c.changes-2.ensures.entry c.in_ok-made.ensures.step)
 
 pub write_through-requires-clause-files : goal.write_through-requires-clause-files
 write_through-requires-clause-files g c =

@@ -33,16 +33,14 @@ pub reopened_journal-requires : goal.reopened_journal-requires
 reopened_journal-requires g c =
     (last_record c.in_ok-found.found.0 c.in_ok-found.ensures.0 (done c.in_ok-found.found.1.edit c.in_ok-found.found.1.entry) c.in_ok-found.ensures.1.entries).edit
 
-pub invariant_of-files : goal.invariant_of-files
-invariant_of-files g c =
+pub write_through-requires-clause-differ : goal.write_through-requires-clause-differ
+write_through-requires-clause-differ g c =
     let entry : List ChangeOf = c.in_ok-found.found.1.entry in
     let items : map change_of c.changes-2.result.now ≡ entry = c.changes-2.ensures.items ∙ c.entry-3.ensures in
     let is : IsEntry entry = subst IsEntry c.entry-3.ensures c.changes-2.ensures.entry in
-    record {
-      differ = differ_from c.files.result.now c.args.workspace.now c.files-2.result.now c.in_ok-next.next (map change_of c.changes-2.result.now) entry c.files.ensures.files c.files-2.ensures.files items
-          (undo_differs c.args.workspace.now c.in_ok-next.next entry c.files.ensures.compiled is
-          (subst (λ (e : List ChangeOf). IsUndo c.args.workspace.now e c.in_ok-next.next) c.entry.ensures c.in_ok-next.ensures.ok));
-    }
+    differ_from c.files.result.now c.args.workspace.now c.files-2.result.now c.in_ok-next.next (map change_of c.changes-2.result.now) entry c.files.ensures.files c.files-2.ensures.files items
+    (undo_differs c.args.workspace.now c.in_ok-next.next entry c.files.ensures.compiled is
+    (subst (λ (e : List ChangeOf). IsUndo c.args.workspace.now e c.in_ok-next.next) c.entry.ensures c.in_ok-next.ensures.ok))
 
 pub write_through-requires-clause-files : goal.write_through-requires-clause-files
 write_through-requires-clause-files g c =

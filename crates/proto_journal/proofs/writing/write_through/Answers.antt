@@ -23,7 +23,7 @@ returns-in_err-replace_files-clause-err g c =
 pub returns-clause-err : goal.returns-clause-err
 returns-clause-err g c =
     on_err c.replace_journal-2.result _ _ (λ e. cut_last c.args.files.now.before.now c.args.files.now.after.now c.args.first.now c.args.last.now (g.S.Store.holds c.args.store.now)
-    (g.S.Store.holds c.replace_journal.new.self) (g.S.Store.holds c.replace_files.new.store) (g.S.Store.holds c.replace_journal-2.new.self) (same_paths (map change_of c.args.files.now.changes.now) c.args.files.now.before.now c.args.files.now.after.now c.args.files.now.differ) (same_languages (map change_of c.args.files.now.changes.now) c.args.files.now.before.now c.args.files.now.after.now c.args.files.now.differ) c.in_ok-replace_journal.ensures.ok
+    (g.S.Store.holds c.replace_journal.new.self) (g.S.Store.holds c.replace_files.new.store) (g.S.Store.holds c.replace_journal-2.new.self) (same_paths (map change_of c.args.files.now.changes.now) c.args.files.now.before.now c.args.files.now.after.now c.requires.differ) (same_languages (map change_of c.args.files.now.changes.now) c.args.files.now.before.now c.args.files.now.after.now c.requires.differ) c.in_ok-replace_journal.ensures.ok
     c.in_ok-replace_files.ensures.ok e) c.replace_journal-2.ensures.err
 
 pub returns-clause-ok : goal.returns-clause-ok
