@@ -41,7 +41,8 @@ fn value_name<'a>(
     word: &str,
 ) -> Result<Option<&'a str>, NoMemory>
     ensures { IfOk result (λ found. (reads : List ReadOf) → AreRead linked.now.files reads
-        → (enum : List (List ℕ)) → ArePlain enum → name_text link.now id.row ≡ Some (joined enum)
+        → (enum : List (List ℕ)) → ArePlain enum
+        → name_text linked.now.link id.row ≡ Some (joined enum)
         → (n : List ℕ) → (option_map (λ text. text.now) found ≡ Some n)
         ↔ ((t : Target) × IsNamed linked.now.files reads n t × (t.enum ≡ Some enum)
         × (text_of linked.now.files reads t.token ≡ word.now))) }
