@@ -92,14 +92,24 @@ fn longer_second<R: AllocGlobal + Abort>(
 ) -> Result<Vec<u8>, NoMemory> {
     let entry = entry_of(rt, "d_e", 48)?;
     let edit = edit_of(rt)?;
+    with_one_more(rt, journal, state, &entry, &edit)
+}
+
+// The journal with a record of these parts.
+fn with_one_more<'a, R: AllocGlobal + Abort>(
+    rt: &R,
+    journal: &str,
+    state: State,
+    entry: &'a Entry,
+    edit: &'a Edit,
+) -> Result<Vec<u8>, NoMemory> {
     assert!(rt; edit.is_notable());
-    let bytes = journal.as_bytes();
     let parts = RecordParts {
         state,
-        entry: &entry,
-        edit: Some(&edit),
+        entry,
+        edit: Some(edit),
     };
-    with_record(rt.alloc(), Version::Second, bytes, &parts)
+    with_record(rt.alloc(), Version::Second, journal.as_bytes(), &parts)
 }
 
 /// Ends the test with the row unless the answer is yes.
