@@ -33,6 +33,28 @@ fn read<R: AllocGlobal + Abort>(rt: &R, profile: Profile, text: &str) -> Is {
 const TEXTS: &[(&str, Is, Is)] = &[
     ("option (x) = 1;", Is::Fault(8, 0), Is::Tree),
     ("option java_package = \"a\";", Is::Tree, Is::Tree),
+    ("import weak \"a\";", Is::Fault(8, 0), Is::Tree),
+    (
+        "import public weak \"a\";",
+        Is::Fault(8, 0),
+        Is::Fault(8, 0),
+    ),
+    (
+        "import weak public \"a\";",
+        Is::Fault(8, 0),
+        Is::Fault(8, 0),
+    ),
+    ("import weak;", Is::Fault(8, 0), Is::Fault(8, 0)),
+    (
+        "message M { weak \"a\"; }",
+        Is::Fault(8, 12),
+        Is::Fault(8, 12),
+    ),
+    (
+        "package weak; message weak { string weak = 1; }",
+        Is::Tree,
+        Is::Tree,
+    ),
     // Each word may stand in the parentheses and behind them, a listed one too.
     (
         "option (.a.message).b.option = \"q\" 'r';",

@@ -34,7 +34,7 @@ enum Sample {
     /// A message with a field that has a default and an option.
     Default,
     /// A public import.
-    PublicImport,
+    Imports,
     /// A service whose method streams its answers, and options.
     Service,
 }
@@ -77,8 +77,8 @@ const TEXTS: &[(Sample, &str)] = &[
         "{\"file\":[{\"messageType\":[{\"field\":[{\"defaultValue\":\"0\",\"jsonName\":\"a\",\"label\":\"LABEL_OPTIONAL\",\"name\":\"a\",\"number\":1,\"options\":{\"deprecated\":true},\"type\":\"TYPE_INT32\"}],\"name\":\"M\"}],\"name\":\"a.proto\"}]}",
     ),
     (
-        Sample::PublicImport,
-        "{\"file\":[{\"dependency\":[\"c.proto\"],\"name\":\"b.proto\",\"publicDependency\":[0],\"syntax\":\"proto3\"}]}",
+        Sample::Imports,
+        "{\"file\":[{\"dependency\":[\"c.proto\",\"d.proto\"],\"name\":\"b.proto\",\"publicDependency\":[0],\"syntax\":\"proto3\",\"weakDependency\":[1]}]}",
     ),
     (
         Sample::Service,
@@ -110,6 +110,7 @@ fn empty_file(alloc: Global, name: String, syntax: Syntax) -> FileDescriptor {
         package: None,
         dependency: Vec::new(alloc),
         public_dependency: Vec::new(alloc),
+        weak_dependency: Vec::new(alloc),
         message_type: Vec::new(alloc),
         enum_type: Vec::new(alloc),
         service: Vec::new(alloc),
@@ -352,10 +353,12 @@ fn with_enum<R: AllocGlobal + Abort>(rt: &R) -> FileDescriptor {
     file
 }
 
-fn with_import<R: AllocGlobal + Abort>(rt: &R) -> FileDescriptor {
+fn with_imports<R: AllocGlobal + Abort>(rt: &R) -> FileDescriptor {
     let mut file = file_of(rt, "b.proto", Syntax::Proto3);
     push(rt, &mut file.dependency, owned_text(rt, "c.proto"));
     push(rt, &mut file.public_dependency, 0);
+    push(rt, &mut file.dependency, owned_text(rt, "d.proto"));
+    push(rt, &mut file.weak_dependency, 1);
     file
 }
 
@@ -379,7 +382,7 @@ fn put<R: AllocGlobal + Abort>(rt: &R, files: &mut Vec<FileDescriptor>, sample: 
         Sample::NestedExtensions => with_nested_extensions(rt),
         Sample::EnumRanges => with_enum(rt),
         Sample::Default => with_message(rt, Syntax::Proto2, with_default(rt)),
-        Sample::PublicImport => with_import(rt),
+        Sample::Imports => with_imports(rt),
         Sample::Service => with_service(rt),
     };
     push(rt, files, file);

@@ -9,7 +9,7 @@ use crate::described_items::{
     enum_descriptors, extension_descriptors, message_descriptors, prefix, service_descriptors,
 };
 use crate::file_options::{syntax, written_options};
-use crate::head::head;
+use crate::head::{FileHead, head};
 use proto_ast::Scene;
 use proto_base::NoMemory;
 use proto_descriptors::{FileDescriptor, MessageDescriptor};
@@ -42,13 +42,19 @@ pub fn file_descriptor(
         (tree_of_file file.now)) }
 {
     let items = file.items.as_slice();
-    let (package, dependency, public_dependency) = head(alloc, scene, file)?;
+    let FileHead {
+        package,
+        dependency,
+        public_dependency,
+        weak_dependency,
+    } = head(alloc, scene, file)?;
     let message_type = messages_of(alloc, scene, &package, items)?;
     Ok(FileDescriptor {
         name: String::from_str(alloc, path)?,
         package,
         dependency,
         public_dependency,
+        weak_dependency,
         message_type,
         enum_type: enum_descriptors(alloc, scene, items)?,
         service: service_descriptors(alloc, scene, items)?,

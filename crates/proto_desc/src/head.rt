@@ -7,7 +7,7 @@ ghost use Rattle.proto_names_outline.specs.Listing.{wanted_of};
 ghost use Rattle.proto_names_rules.specs.Joined.{joined};
 ghost use Rattle.proto_names_rules.specs.Tree.{package_of};
 ghost use Rattle.proto_ast.specs.Scenes.{text, value};
-ghost use Rattle.proto_desc_build.specs.Described.{package_named, public_places};
+ghost use Rattle.proto_desc_build.specs.Described.{package_named, public_places, weak_places};
 
 use proto_ast::Scene;
 use proto_base::NoMemory;
@@ -59,23 +59,51 @@ fn public_dependencies(alloc: Global, imports: &[Wanted]) -> Result<Vec<usize>, 
     Ok(places)
 }
 
-/// What a file says of others: the full name of its package, the paths of its imports in order, and
-/// the places of the public ones among these, from 0.
-pub(crate) fn head(
-    alloc: Global,
-    scene: &Scene,
-    file: &File,
-) -> Result<(Option<String>, Vec<String>, Vec<usize>), NoMemory>
-    ensures name { IfOk result (λ h. option_map string_bytes h.0
-        ≡ package_named scene.now (package_of (items_in (tree_of_file file.now)))) }
-    ensures paths { IfOk result (λ h. map string_bytes h.1.items
-        ≡ map (λ w. value scene.now w.path) (imports_in (tree_of_file file.now))) }
-    ensures places { IfOk result (λ h. h.2.items
-        ≡ public_places 0 (imports_in (tree_of_file file.now))) }
+fn weak_dependencies(alloc: Global, imports: &[Wanted]) -> Result<Vec<usize>, NoMemory>
+    ensures { IfOk result (λ places. places.items ≡ weak_places 0 (map wanted_of imports.now)) }
 {
-    let name = package_name(alloc, scene, &package(alloc, file)?)?;
+    let mut places = Vec::new(alloc);
+    for place in 0..imports.len() {
+        if imports[place].is_weak {
+            places.push(place)?;
+        }
+    }
+    Ok(places)
+}
+
+/// What a file says of others.
+#[derive(Drop)]
+pub(crate) struct FileHead {
+    /// The full name of its package.
+    pub package: Option<String>,
+    /// The paths of its imports, in order.
+    pub dependency: Vec<String>,
+    /// The places of the public imports among these, from 0.
+    pub public_dependency: Vec<usize>,
+    /// The places of the weak imports among these, from 0.
+    pub weak_dependency: Vec<usize>,
+}
+
+/// What a file says of others.
+pub(crate) fn head(alloc: Global, scene: &Scene, file: &File) -> Result<FileHead, NoMemory>
+    ensures name { IfOk result (λ h. option_map string_bytes h.package
+        ≡ package_named scene.now (package_of (items_in (tree_of_file file.now)))) }
+    ensures paths { IfOk result (λ h. map string_bytes h.dependency.items
+        ≡ map (λ w. value scene.now w.path) (imports_in (tree_of_file file.now))) }
+    ensures places { IfOk result (λ h. h.public_dependency.items
+        ≡ public_places 0 (imports_in (tree_of_file file.now))) }
+    ensures weak { IfOk result (λ h. h.weak_dependency.items
+        ≡ weak_places 0 (imports_in (tree_of_file file.now))) }
+{
+    let package = package_name(alloc, scene, &package(alloc, file)?)?;
     let imports = imports(alloc, file)?;
-    let paths = dependencies(alloc, scene, &imports)?;
-    let places = public_dependencies(alloc, &imports)?;
-    Ok((name, paths, places))
+    let dependency = dependencies(alloc, scene, &imports)?;
+    let public_dependency = public_dependencies(alloc, &imports)?;
+    let weak_dependency = weak_dependencies(alloc, &imports)?;
+    Ok(FileHead {
+        package,
+        dependency,
+        public_dependency,
+        weak_dependency,
+    })
 }

@@ -440,11 +440,19 @@ abbrev pub package_prefix : Option Text → Text
 package_prefix None = []
 package_prefix (Some name) = absolute name
 
+-- the places of such imports among all, of which so many stand before
+abbrev pub places_of : (Wanted → Bool) → ℕ → List Wanted → List ℕ
+places_of is before [] = []
+places_of is before (w ∷ ws) =
+    (if is w then before ∷ [] else []) ++ places_of is (suc before) ws
+
 -- the places of the public imports among all, of which so many stand before
 abbrev pub public_places : ℕ → List Wanted → List ℕ
-public_places before [] = []
-public_places before (w ∷ ws) =
-    (if w.is_public then before ∷ [] else []) ++ public_places (suc before) ws
+public_places before ws = places_of (λ w. w.is_public) before ws
+
+-- those of the weak imports
+abbrev pub weak_places : ℕ → List Wanted → List ℕ
+weak_places before ws = places_of (λ w. w.is_weak) before ws
 
 -- the file at a path
 abbrev pub file_described : Scene → Path → Tree → FileDesc
@@ -453,6 +461,7 @@ file_described scene path tree = record {
   «package» = package_named scene (package_of (items_in tree));
   dependency = map (λ w. value scene w.path) (imports_in tree);
   public_dependency = public_places 0 (imports_in tree);
+  weak_dependency = weak_places 0 (imports_in tree);
   message_type =
       messages_described scene
       (package_prefix (package_named scene (package_of (items_in tree)))) tree;

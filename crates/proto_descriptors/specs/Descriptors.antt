@@ -99,12 +99,13 @@ pub record FileOptionsDesc : Type 0 where
   pub php_class_prefix : Option Text
   pub php_metadata_namespace : Option Text
 
--- a file by its path; `public_dependency` has places in `dependency`, from 0
+-- a file by its path; `public_dependency` and `weak_dependency` have places in `dependency`, from 0
 pub record FileDesc : Type 0 where
   pub name : Path
   pub «package» : Option Text
   pub dependency : List Path
   pub public_dependency : List ℕ
+  pub weak_dependency : List ℕ
   pub message_type : Messages
   pub enum_type : List EnumDesc
   pub service : List ServiceDesc

@@ -147,6 +147,7 @@ file_desc f = record {
   «package» = option_map string_bytes f.package;
   dependency = map string_bytes f.dependency.items;
   public_dependency = f.public_dependency.items;
+  weak_dependency = f.weak_dependency.items;
   message_type = messages_desc f.message_type.items;
   enum_type = map enum_desc f.enum_type.items;
   service = map service_desc f.service.items;

@@ -32,6 +32,8 @@ pub struct FileDescriptor {
     pub dependency: Vec<String>,
     /// The places of the public imports in `dependency`, from 0.
     pub public_dependency: Vec<usize>,
+    /// The places of the weak imports in `dependency`, from 0.
+    pub weak_dependency: Vec<usize>,
     /// The messages right in the file.
     pub message_type: Vec<MessageDescriptor>,
     /// The enums right in the file.
@@ -60,6 +62,7 @@ impl HasCopy for FileDescriptor {
             package: head.package,
             dependency: head.dependency,
             public_dependency: head.public_dependency,
+            weak_dependency: head.weak_dependency,
             message_type: contents.message_type,
             enum_type: contents.enum_type,
             service: contents.service,
@@ -77,6 +80,7 @@ struct Head {
     package: Option<String>,
     dependency: Vec<String>,
     public_dependency: Vec<usize>,
+    weak_dependency: Vec<usize>,
 }
 
 fn copied_head(alloc: Global, file: &FileDescriptor) -> Result<Head, NoMemory>
@@ -87,16 +91,20 @@ fn copied_head(alloc: Global, file: &FileDescriptor) -> Result<Head, NoMemory>
         map string_bytes copy.dependency.items ≡ map string_bytes file.now.dependency.items) }
     ensures public_dependency { IfOk result
         (λ copy. copy.public_dependency.items ≡ file.now.public_dependency.items) }
+    ensures weak_dependency { IfOk result
+        (λ copy. copy.weak_dependency.items ≡ file.now.weak_dependency.items) }
 {
     let name = file.name.copy(alloc)?;
     let package = copied_text(alloc, &file.package)?;
     let dependency = copies(alloc, &file.dependency)?;
     let public_dependency = Vec::from_slice(alloc, &file.public_dependency)?;
+    let weak_dependency = Vec::from_slice(alloc, &file.weak_dependency)?;
     Ok(Head {
         name,
         package,
         dependency,
         public_dependency,
+        weak_dependency,
     })
 }
 

@@ -238,7 +238,8 @@ file_slots f =
     ∷ (codes "package", option_map json_string f.package)
     ∷ (codes "publicDependency", array_if_any (map decimal f.public_dependency))
     ∷ (codes "service", array_if_any (map service_text f.service))
-    ∷ (codes "syntax", option_map json_string (syntax_name f.syntax)) ∷ []
+    ∷ (codes "syntax", option_map json_string (syntax_name f.syntax))
+    ∷ (codes "weakDependency", array_if_any (map decimal f.weak_dependency)) ∷ []
 
 -- the object of a file
 abbrev pub file_text : FileDesc → Text

@@ -91,7 +91,8 @@ fn put_rest<S: Serializer>(out: &mut S, file: &FileDescriptor) -> Result<(), S::
     put_optional(out, "package", &file.package)?;
     put_list(out, "publicDependency", &file.public_dependency)?;
     put_list(out, "service", &file.service)?;
-    put_syntax(out, file.syntax)
+    put_syntax(out, file.syntax)?;
+    put_list(out, "weakDependency", &file.weak_dependency)
 }
 
 /// The name of the version, left out for proto2: a file without one is proto2.

@@ -68,6 +68,7 @@ file_whole : (e : Renaming) (taken : Taken) (f : FileDesc) → mapped_file e tak
   «package» = f.«package»;
   dependency = f.dependency;
   public_dependency = f.public_dependency;
+  weak_dependency = f.weak_dependency;
   message_type = mapped_messages e taken (words_of (package_prefix f.«package»)) f.message_type;
   enum_type = map (mapped_enum e (words_of (package_prefix f.«package»))) f.enum_type;
   service = map (mapped_service e (words_of (package_prefix f.«package»))) f.service;

@@ -19,6 +19,8 @@ use Rattle.proto_tree.specs.declared.tree.FieldType.{FieldType}
 use Rattle.proto_tree.specs.declared.tree.FieldType.TheVariants as field_type
 use Rattle.proto_tree.specs.declared.tree.MapField.{MapField}
 use Rattle.proto_tree.specs.declared.tree.MethodType.{MethodType}
+use Rattle.proto_tree.specs.declared.tree.Modifier.{Modifier}
+use Rattle.proto_tree.specs.declared.tree.Modifier.TheVariants as modifier
 use Rattle.proto_tree.specs.declared.tree.Range.{Range}
 use Rattle.proto_tree.specs.declared.tree.RangeEnd.{RangeEnd}
 use Rattle.proto_tree.specs.declared.tree.RangeEnd.TheVariants as range_end
@@ -38,7 +40,7 @@ use Rattle.proto_tree.specs.declared.tree.Signature.{Signature}
 use Rattle.proto_tree.specs.declared.tree.Signed.{Signed}
 use Rattle.proto_tree.specs.declared.tree.UpTo.{UpTo}
 use Rattle.proto_tree.specs.declared.tree.Value.{Value}
-use Rattle.proto_tree.proofs.Common.{IsOuter, Mark, mark, name, one as one_mark, only, text_mark, word, flat_all, flat_behind, flat_constant, flat_dotted, flat_field, flat_from, flat_header, flat_map_field, flat_method_type, flat_number, flat_option, flat_range, flat_range_end, flat_reference, flat_reserved, flat_reserved_list, flat_separated, flat_setting, flat_settings, flat_signature, flat_signed, flat_statement, flat_type, flat_up_to, flat_words, Tree, End, Leaf, Block, IsWellFormed, after, allows, flat, header_kind, statement_kind, last_outer}
+use Rattle.proto_tree.proofs.Common.{IsOuter, Mark, mark, name, one as one_mark, only, text_mark, word, flat_all, flat_behind, flat_constant, flat_dotted, flat_field, flat_from, flat_header, flat_map_field, flat_method_type, flat_number, flat_option, flat_range, flat_range_end, flat_reference, flat_reserved, flat_reserved_list, flat_separated, flat_setting, flat_settings, flat_signature, flat_signed, flat_statement, flat_type, flat_up_to, flat_words, Tree, End, Leaf, Block, IsWellFormed, after, allows, flat, header_kind, statement_kind, last_outer, flat_modifier}
 use Rattle.proto_ast.specs.Parts.{BlockOf, blocks_in, statement_values, values_in}
 use Rattle.proto_desc_checks_laws.proofs.Outermost.{no_value}
 use Rattle.proto_tree.specs.Flat.{flat_custom, flat_custom_value, flat_extension_name, flat_within, fewer, inner_expected, last_expected, other_expected}
@@ -197,6 +199,10 @@ header_no _ = (refl, (refl, tt))
 abbrev HasValueName : List Value → ℕ → Type 0
 HasValueName vs i = (v : Value) × Contains vs v × (v.name ≡ i)
 
+modifier_no : (x : Modifier) → No (flat_modifier x)
+modifier_no (modifier.Public i) = (refl, tt)
+modifier_no (modifier.Weak i) = (refl, tt)
+
 in_statement : (s : Statement) (m : Mark) → Contains (flat_statement s) m → m.want ≡ want.ValueName → HasValueName (statement_values s) m.at
 in_statement (statement.Value v) m c e =
     let behind : List Mark = one_mark class.Equals v.equals ++ (flat_signed v.number ++ (flat_option flat_settings v.settings ++ one_mark class.Semicolon v.semicolon)) in
@@ -209,9 +215,9 @@ in_statement (statement.Value v) m c e =
     ]
 in_statement (statement.Syntax s) m c e = absurd (none_of (flat_statement (statement.Syntax s)) (refl, (refl, (refl, (refl, tt)))) m c e)
 in_statement (statement.Import i) m c e =
-    let public : List Mark = flat_option (one_mark class.Public) i.public in
+    let public : List Mark = flat_option flat_modifier i.modifier in
     let path : List Mark = text_mark i.path ++ one_mark class.Semicolon i.semicolon in
-    absurd (none_of (flat_statement (statement.Import i)) (refl, both public path (option_no (one_mark class.Public) (one_no class.Public) i.public) (refl, (refl, tt))) m c e)
+    absurd (none_of (flat_statement (statement.Import i)) (refl, both public path (option_no flat_modifier modifier_no i.modifier) (refl, (refl, tt))) m c e)
 in_statement (statement.Package p) m c e =
     absurd (none_of (flat_statement (statement.Package p)) (refl, both (flat_separated class.Dot name p.name) (one_mark class.Semicolon p.semicolon) (separated_no class.Dot name (λ i. (refl, tt)) p.name) (refl, tt)) m c e)
 in_statement (statement.Option o) m c e =

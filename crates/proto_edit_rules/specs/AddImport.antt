@@ -137,10 +137,13 @@ pub data RefusesAddition
 -- ---- the descriptors
 
 -- with other imports
-abbrev pub with_dependencies : List Path → List ℕ → FileDesc → FileDesc
-with_dependencies dependency public d =
-    record d { dependency = dependency; public_dependency = public }
+abbrev pub with_dependencies : List Path → List ℕ → List ℕ → FileDesc → FileDesc
+with_dependencies dependency public weak d = record d {
+  dependency = dependency;
+  public_dependency = public;
+  weak_dependency = weak;
+}
 
--- the path comes in last, and is no public import
+-- the path comes in last, and is neither a public nor a weak import
 abbrev pub with_dependency : Path → FileDesc → FileDesc
 with_dependency path d = record d { dependency = d.dependency ++ path ∷ [] }

@@ -85,9 +85,10 @@ abbrev pub lowered : ℕ → List ℕ → List ℕ
 lowered n places =
     flat_map (λ p. if p == n then [] else (if nat_lt n p then (p - 1) ∷ [] else p ∷ [])) places
 
--- the path goes, and its place from the public ones
+-- the path goes, and its place from the public ones and from the weak ones
 abbrev pub without_dependency : Path → FileDesc → FileDesc
 without_dependency path d = record d {
   dependency = without_place (places_before (bytes_eq path) d.dependency) d.dependency;
   public_dependency = lowered (places_before (bytes_eq path) d.dependency) d.public_dependency;
+  weak_dependency = lowered (places_before (bytes_eq path) d.dependency) d.weak_dependency;
 }

@@ -34,7 +34,7 @@ pub record Laws : Type 0 where
 
 -- the statement that is put in
 abbrev statement_at : ℕ → Import
-statement_at p = record { keyword = p; public = None; path = p + 1; semicolon = p + 2 }
+statement_at p = record { keyword = p; modifier = None; path = p + 1; semicolon = p + 2 }
 
 workspace_path_of : (files : List FileOf) (reads : List ReadOf) (file path : List ℕ) (place : ℕ) → MayAdd files reads file path place → IsWorkspacePath path
 workspace_path_of files reads file path place may =
@@ -98,6 +98,7 @@ module _ (laws : Laws) (files : List FileOf) (reads : List ReadOf) (after : List
     trees = record { front = imports_in (tree_at reads place); back = []; was = sym (append-nil (imports_in (tree_at reads place))); is = last; others = moved_files.tree };
     last = refl;
     private = refl;
+    strong = refl;
     says = says;
   }
 

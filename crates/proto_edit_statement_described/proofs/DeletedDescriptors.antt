@@ -14,13 +14,13 @@ use Rattle.proto_desc_checks_laws.proofs.Common.{flat_map_moved, maps_kept, exte
 use Rattle.proto_names_outline.proofs.Common.{Wanted, imports_in, items_in, move_wanted}
 use Rattle.proto_names_rules.specs.Tree.{package_of}
 use Rattle.proto_descriptors.specs.declared.file.Syntax.TheVariants as syntax
-use Rattle.proto_desc_build.specs.Described.{field_number, file_options, package_named, package_prefix, public_places, services_described, below, entry_described, message_options, enums_described, extensions_described, field_described, message_described, messages_described, number_range, oneof_names}
+use Rattle.proto_desc_build.specs.Described.{field_number, file_options, package_named, package_prefix, public_places, services_described, below, entry_described, message_options, enums_described, extensions_described, field_described, message_described, messages_described, number_range, oneof_names, weak_places}
 use Rattle.proto_descriptors.specs.declared.message.NumberRange.{NumberRange}
 use Rattle.proto_descriptors.specs.Descriptors.{FieldDesc, MessageDesc, Messages, NoMessages, Message}
 use Rattle.proto_edit_statement_described.specs.Common.{Deeper, AtField, AtOneof, BehindBlock, BehindLeaf, InMessage, IsDeletedIn, IsDeletedRight, PastBlock, PastLeaf, Plain, OfMap, Reservation, Reserves, WrittenField, written_field, written_name, reserved, statement_of, at_place, places_before, with_more, without_place, DeletionsMapTheDescriptor, field_place, is_its, is_named_at, messages_with_deletion, range_of_field, statements_before, without_entry, without_field, IsMovedScene}
 use Rattle.proto_edit_statement_described.proofs.Parts.{IsReader, named_one, no_ranges, no_words, nothing_with, numbered_one, new_fields, new_read, old_fields, old_read, outer_fields, outer_statements}
 use Rattle.proto_edit_statement_described.proofs.DeletedHeads.{imports_less, packages_less}
-use Rattle.proto_edit_statement_described.proofs.MovedImports.{publics_moved}
+use Rattle.proto_edit_statement_described.proofs.MovedImports.{publics_moved, weaks_moved}
 use Rattle.proto_edit_statement_described.proofs.Places.{IsParted, at_is, none_in, none_moved, parted, place_is, some_behind, with_is, without_is}
 use Rattle.proto_edit_statement_described.proofs.MovedDescriptors.{each_same, enum_same, enums_same, entry_same, extend_same, extensions_same, field_same, message_same, messages_same, oneofs_same, ranges_same, truths, services_same, service_same, package_same, options_same}
 
@@ -345,7 +345,8 @@ deletions_are_mapped g k middle old new path aim res x t u to_old to_new reservi
     let messages : messages_described new (package_prefix (package_named new (package_of (items_in u)))) u ≡ messages_with_deletion (written_name aim) t (messages_described old (package_prefix (package_named old (package_of (items_in t)))) t) =
     ap (λ (p : Option (List ℕ)). messages_described new (package_prefix p) u) same_package ∙ messages_at g k middle old new to_old to_new aim res reserving fresh (package_prefix (package_named old (package_of (items_in t)))) x t u sw in
     let dependencies : map (λ (w : Wanted). value new w.path) (imports_in u) ≡ map (λ (w : Wanted). value old w.path) (imports_in t) = paths k middle new to_new (imports_in x) (imports_in u) is.1 ∙ sym (paths g middle old to_old (imports_in x) (imports_in t) is.0) in
-    let places : public_places 0 (imports_in u) ≡ public_places 0 (imports_in t) = ap (public_places 0) is.1 ∙ publics_moved k 0 (imports_in x) ∙ sym (ap (public_places 0) is.0 ∙ publics_moved g 0 (imports_in x)) in
+    let publics : public_places 0 (imports_in u) ≡ public_places 0 (imports_in t) = ap (public_places 0) is.1 ∙ publics_moved k 0 (imports_in x) ∙ sym (ap (public_places 0) is.0 ∙ publics_moved g 0 (imports_in x)) in
+    let weaks : weak_places 0 (imports_in u) ≡ weak_places 0 (imports_in t) = ap (weak_places 0) is.1 ∙ weaks_moved k 0 (imports_in x) ∙ sym (ap (weak_places 0) is.0 ∙ weaks_moved g 0 (imports_in x)) in
     let options : file_options new (options_in u) ≡ file_options old (options_in t) =
     options_same k middle new to_new (options_in x) (options_in u) (ap (flat_map statement_options) os.1 ∙ options_moved k x) ∙ sym (options_same g middle old to_old (options_in x) (options_in t) (ap (flat_map statement_options) os.0 ∙ options_moved g x)) in
     let proto3 : new.is_proto3 ≡ old.is_proto3 = sym to_new.same.version ∙ to_old.same.version in
@@ -353,7 +354,8 @@ deletions_are_mapped g k middle old new path aim res x t u to_old to_new reservi
       name = path;
       «package» = same_package i;
       dependency = dependencies i;
-      public_dependency = places i;
+      public_dependency = publics i;
+      weak_dependency = weaks i;
       message_type = messages i;
       enum_type = (es.1 ∙ sym es.0) i;
       service = (ss.1 ∙ sym ss.0) i;

@@ -1,8 +1,9 @@
 -- A dropped import that no case refuses leaves files without a fault, and one descriptor with an import less.
-use Rattle.std.proofs.Common.{◌≡◌, ℕ, false, List, ◌∷◌, length, get_or, map, Some, sym, ◌∙◌, ap, subst, is_some, Contains, bytes_eq}
+use Rattle.std.proofs.Common.{◌≡◌, ℕ, false, List, ◌∷◌, length, get_or, map, Some, sym, ◌∙◌, ap, subst, Contains, bytes_eq}
 use Rattle.proto_base.proofs.Common.{Contains-append_right, Contains-get_or, or_nothing, contains_head, contains_map, fails_from, word_from_same}
 use Rattle.proto_text.proofs.Common.{moved, Lexeme, lexeme_at, value_of, value_again}
 use Rattle.proto_tree.specs.declared.piece.Statement.TheVariants as statement
+use Rattle.proto_tree.specs.Modifiers.{is_public}
 use Rattle.proto_tree.specs.declared.tree.Import.{Import}
 use Rattle.proto_tree.proofs.Common.{Move, Tree, End, Leaf}
 use Rattle.proto_files.proofs.Common.{ReadOf, FileOf, paths_of, file_at}
@@ -58,11 +59,11 @@ module _ (laws : Laws) (files : List FileOf) (reads : List ReadOf) (after : List
 
   -- ---- names
 
-  less : IsImportMore after seen files reads place path (is_some i.public)
+  less : IsImportMore after seen files reads place path (is_public i.modifier)
   less = import_more after seen files reads place i.keyword i ls back is laws.lexemes path value_is
 
   dropped : IsDropped files reads after seen file path
-  dropped = record { from = place; place = may.at; is_public = is_some i.public; less = less; free = may.free }
+  dropped = record { from = place; place = may.at; is_public = is_public i.modifier; less = less; free = may.free }
 
   clean : AreClean files reads
   clean = record { read = may.faultless.are.read; clean = may.faultless.links }
@@ -72,7 +73,7 @@ module _ (laws : Laws) (files : List FileOf) (reads : List ReadOf) (after : List
   references =
       let to = names_file files reads may.faultless.are.read may.faultless.links place (wanted_by i) imported in
       let there : file_with_path (paths_of after) path ≡ Some to.0 = ap (λ (ps : List (List ℕ)). file_with_path ps path) c.one.paths ∙ ap (λ o. file_with_path (paths_of files) (or_nothing o)) (sym value_is) ∙ to.1 in
-      sym (ap (λ (w : Workspace). w.references) (imports_are_more after seen files reads place to.0 path (is_some i.public) less there).0)
+      sym (ap (λ (w : Workspace). w.references) (imports_are_more after seen files reads place to.0 path (is_public i.modifier) less there).0)
 
   means : MeanTheSame after seen files reads
   means r d = sym (laws.means files reads after seen file path clean dropped r (subst (λ (rs : List Reference). Contains rs r) references d))

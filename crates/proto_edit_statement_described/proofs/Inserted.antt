@@ -1,8 +1,9 @@
 -- Files of which one has an import more: what the tokens and trees of that one say of all.
-use Rattle.std.proofs.Common.{◌≡◌, ℕ, List, length, map, Some, refl, sym, ◌∙◌, ap, subst, arith, is_some, slice_get}
+use Rattle.std.proofs.Common.{◌≡◌, ℕ, List, length, map, Some, refl, sym, ◌∙◌, ap, subst, arith, slice_get}
 use Rattle.proto_base.proofs.Common.{cases_lt, map-append}
 use Rattle.proto_text.proofs.Common.{moved, Lexeme, value_of}
 use Rattle.proto_tree.specs.declared.piece.Statement.TheVariants as statement
+use Rattle.proto_tree.specs.Modifiers.{is_public, is_weak}
 use Rattle.proto_tree.specs.declared.tree.Import.{Import}
 use Rattle.proto_tree.proofs.Common.{Move, End, Leaf}
 use Rattle.proto_files.proofs.Common.{ReadOf, FileOf}
@@ -21,7 +22,7 @@ use Rattle.proto_base.specs.declared.profile.Profile.{Profile}
 
 -- the import of a statement
 abbrev pub wanted_by : Import → Wanted
-wanted_by i = record { path = i.path; is_public = is_some i.public }
+wanted_by i = record { path = i.path; is_public = is_public i.modifier; is_weak = is_weak i.modifier }
 
 -- The import is put in at a token of the file at this place.
 abbrev pub IsInserted : List FileOf → List ReadOf → List FileOf → List ReadOf → ℕ → ℕ → Import → List Lexeme → Type 0
@@ -62,7 +63,7 @@ module _ (files : List FileOf) (reads : List ReadOf) (after : List FileOf) (seen
         is = has_import.is;
       }
 
-  pub import_more : LexemesAreMoved → (path : List ℕ) → value_of (text_of after seen (at place i.path)) ≡ Some path → IsImportMore files reads after seen place path (is_some i.public)
+  pub import_more : LexemesAreMoved → (path : List ℕ) → value_of (text_of after seen (at place i.path)) ≡ Some path → IsImportMore files reads after seen place path (is_public i.modifier)
   import_more law path value =
       let g : Move = moved token token (length more) in
       let h = are_moved law in

@@ -21,7 +21,7 @@ use Rattle.proto_names_rules.proofs.Common.{joined, key_word, package_of, value_
 use Rattle.proto_ast.proofs.Common.{is_named, text_of_constant, text_option, truth_named, truth_option, value_named, word_of, word_option, FieldOf, OptionOf, enum_ranges, extension_ranges, fields_in, options_in, reserved_names_in, reserved_ranges, settings_of, statements, values_in, MeantOf, Scene, meant_by, text, value, has_label}
 use Rattle.proto_desc_checks_laws.proofs.Common.{IsMoved, without_imports, enum_ranges_moved, extension_ranges_moved, fields_moved, file_options_moved, find_moved, flat_kept, given_moved, maps_kept, move_field_of, move_option_of, options_moved, reserved_names_moved, reserved_ranges_moved, settings_moved, some_kept, values_moved, enum_range_moved, json_name_moved, label_moved, named_moved, number_moved, range_moved, signed_moved, text_moved, word_moved}
 use Rattle.proto_desc_numbers.specs.NumberFlaws.{enum_range_of, range_of}
-use Rattle.proto_desc_build.specs.Described.{absolute, below, c_type_named, default_number, default_text, entry_described, entry_field, enum_described, enums_described, extension_described, extensions_described, field_described, field_with, field_number, field_type_name, field_type_of, file_described, file_options, is_map, label_of, message_described, messages_described, method_described, methods_described, mode_named, level_named, number_range, oneof_names, package_named, package_prefix, public_places, scalar_type, service_described, services_described, type_name_of, type_of, type_text, value_described, value_number, value_range, js_type_named}
+use Rattle.proto_desc_build.specs.Described.{absolute, below, c_type_named, default_number, default_text, entry_described, entry_field, enum_described, enums_described, extension_described, extensions_described, field_described, field_with, field_number, field_type_name, field_type_of, file_described, file_options, is_map, label_of, message_described, messages_described, method_described, methods_described, mode_named, level_named, number_range, oneof_names, package_named, package_prefix, public_places, scalar_type, service_described, services_described, type_name_of, type_of, type_text, value_described, value_number, value_range, js_type_named, weak_places}
 use Rattle.proto_descriptors.specs.declared.field.FieldType.{FieldType}
 use Rattle.proto_descriptors.specs.declared.field.FieldType.TheVariants as field_type
 use Rattle.proto_descriptors.specs.declared.field.Label.TheVariants as label
@@ -363,12 +363,13 @@ options_same g a b all os ps e = λ i. record {
 
 -- all but the imports
 pub imports_alone : (g : Move) (a b : Scene) (path : List ℕ) (s t : Tree) → IsMovedScene g a b → without_imports t ≡ move_tree g (without_imports s)
-    → file_described b path t ≡ with_dependencies (map (λ w. value b w.path) (imports_in t)) (public_places 0 (imports_in t)) (file_described a path s)
+    → file_described b path t ≡ with_dependencies (map (λ w. value b w.path) (imports_in t)) (public_places 0 (imports_in t)) (weak_places 0 (imports_in t)) (file_described a path s)
 imports_alone g a b path s t all e = λ i. record {
   name = path;
   «package» = pk i;
   dependency = map (λ w. value b w.path) (imports_in t);
   public_dependency = public_places 0 (imports_in t);
+  weak_dependency = weak_places 0 (imports_in t);
   message_type = (ap (λ (p : Option (List ℕ)). messages_described b (package_prefix p) t) pk ∙ ms (package_prefix (package_named a (package_of (items_in s))))) i;
   enum_type = (sym (no_enums b t) ∙ ap (enums_described b) e ∙ enums_same g a b all (without_imports s) ∙ no_enums a s) i;
   service = (sym (no_services b t) ∙ ap (services_described b) e ∙ services_same g a b all (without_imports s) ∙ no_services a s) i;

@@ -6,31 +6,48 @@ use Rattle.proto_tree.proofs.Common.{Move, Tree}
 use Rattle.proto_names_outline.proofs.Common.{Wanted, imports_in, move_wanted}
 use Rattle.proto_ast.specs.Scenes.{Scene, value}
 use Rattle.proto_desc_checks_laws.proofs.MovedParts.{maps_kept}
-use Rattle.proto_desc_build.specs.Described.{file_described, public_places}
+use Rattle.proto_desc_build.specs.Described.{file_described, places_of, public_places, weak_places}
 use Rattle.proto_descriptors.specs.Descriptors.{FileDesc}
 use Rattle.proto_edit_statement_described.specs.Common.{AdditionsAreMapped, DropsAreMapped, HasImport, lowered, with_dependencies, places_before, without_place, IsMovedScene}
 use Rattle.proto_edit_statement_described.proofs.MovedDescriptors.{imports_alone}
 use Rattle.proto_edit_statement_described.proofs.Places.{place_is, without_is}
 
--- ---- places of public imports
+-- ---- places of imports
 
-abbrev own : ℕ → Wanted → List ℕ
-own n w = if w.is_public then n ∷ [] else []
+-- a mark of imports, which stays where their tokens move
+abbrev Stays : (Wanted → Bool) → Type 0
+Stays marks = (g : Move) (w : Wanted) → marks (move_wanted g w) ≡ marks w
+
+abbrev is_public : Wanted → Bool
+is_public w = w.is_public
+
+abbrev is_weak : Wanted → Bool
+is_weak w = w.is_weak
+
+-- the place of one import, where it has the mark
+abbrev own : (Wanted → Bool) → ℕ → Wanted → List ℕ
+own marks n w = if marks w then n ∷ [] else []
+
+places_moved : (marks : Wanted → Bool) → Stays marks → (g : Move) (n : ℕ) (ws : List Wanted) → places_of marks n (map (move_wanted g) ws) ≡ places_of marks n ws
+places_moved marks stays g n [] = refl
+places_moved marks stays g n (w ∷ ws) = ap₂ (λ (b : Bool) (z : List ℕ). (if b then n ∷ [] else []) ++ z) (stays g w) (places_moved marks stays g (suc n) ws)
 
 pub publics_moved : (g : Move) (n : ℕ) (ws : List Wanted) → public_places n (map (move_wanted g) ws) ≡ public_places n ws
-publics_moved g n [] = refl
-publics_moved g n (w ∷ ws) = ap (λ (z : List ℕ). own n w ++ z) (publics_moved g (suc n) ws)
+publics_moved = places_moved is_public (λ g w. refl)
+
+pub weaks_moved : (g : Move) (n : ℕ) (ws : List Wanted) → weak_places n (map (move_wanted g) ws) ≡ weak_places n ws
+weaks_moved = places_moved is_weak (λ g w. refl)
 
 from_zero : (n : ℕ) → 0 + n ≡ n
 from_zero n = omega arith
 
 -- those of more imports
-publics_append : (n : ℕ) (xs ys : List Wanted) → public_places n (xs ++ ys) ≡ public_places n xs ++ public_places (n + length xs) ys
-publics_append n [] ys = let e : n ≡ n + 0 = omega arith in ap (λ m. public_places m ys) e
-publics_append n (x ∷ xs) ys =
+places_append : (marks : Wanted → Bool) (n : ℕ) (xs ys : List Wanted) → places_of marks n (xs ++ ys) ≡ places_of marks n xs ++ places_of marks (n + length xs) ys
+places_append marks n [] ys = let e : n ≡ n + 0 = omega arith in ap (λ m. places_of marks m ys) e
+places_append marks n (x ∷ xs) ys =
     let e : suc n + length xs ≡ n + suc (length xs) = omega arith in
-    ap (λ (z : List ℕ). own n x ++ z) (publics_append (suc n) xs ys ∙ ap (λ m. public_places (suc n) xs ++ public_places m ys) e)
-    ∙ sym (append_assoc (own n x) (public_places (suc n) xs) (public_places (n + suc (length xs)) ys))
+    ap (λ (z : List ℕ). own marks n x ++ z) (places_append marks (suc n) xs ys ∙ ap (λ m. places_of marks (suc n) xs ++ places_of marks m ys) e)
+    ∙ sym (append_assoc (own marks n x) (places_of marks (suc n) xs) (places_of marks (n + suc (length xs)) ys))
 
 -- ---- a place goes
 
@@ -52,26 +69,26 @@ low_behind n p le =
     cond-false (suc p == n) [] (if nat_lt n (suc p) then (suc p - 1) ∷ [] else suc p ∷ []) (ne_eqb (suc p) n (λ q. absurd (omega (arith, le, q))))
     ∙ cond-true (nat_lt n (suc p)) ((suc p - 1) ∷ []) (suc p ∷ []) yes ∙ ap (λ m. m ∷ []) e
 
-lowered_before : (n k : ℕ) (ws : List Wanted) → k + length ws ≤ n → lowered n (public_places k ws) ≡ public_places k ws
-lowered_before n k [] le = refl
-lowered_before n k (w ∷ ws) le =
-    flat_map-append (low n) (own k w) (public_places (suc k) ws) ∙ ap₂ (λ (y z : List ℕ). y ++ z) (one w.is_public) (lowered_before n (suc k) ws (omega (arith, le)))
+lowered_before : (marks : Wanted → Bool) (n k : ℕ) (ws : List Wanted) → k + length ws ≤ n → lowered n (places_of marks k ws) ≡ places_of marks k ws
+lowered_before marks n k [] le = refl
+lowered_before marks n k (w ∷ ws) le =
+    flat_map-append (low n) (own marks k w) (places_of marks (suc k) ws) ∙ ap₂ (λ (y z : List ℕ). y ++ z) (one (marks w)) (lowered_before marks n (suc k) ws (omega (arith, le)))
   where
     one : (b : Bool) → flat_map (low n) (if b then k ∷ [] else []) ≡ (if b then k ∷ [] else [])
     one true = ap (λ (z : List ℕ). z ++ []) (low_before n k (omega (arith, le)))
     one false = refl
 
-lowered_behind : (n k : ℕ) (ws : List Wanted) → n ≤ k → lowered n (public_places (suc k) ws) ≡ public_places k ws
-lowered_behind n k [] le = refl
-lowered_behind n k (w ∷ ws) le =
-    flat_map-append (low n) (own (suc k) w) (public_places (suc (suc k)) ws) ∙ ap₂ (λ (y z : List ℕ). y ++ z) (one w.is_public) (lowered_behind n (suc k) ws (omega (arith, le)))
+lowered_behind : (marks : Wanted → Bool) (n k : ℕ) (ws : List Wanted) → n ≤ k → lowered n (places_of marks (suc k) ws) ≡ places_of marks k ws
+lowered_behind marks n k [] le = refl
+lowered_behind marks n k (w ∷ ws) le =
+    flat_map-append (low n) (own marks (suc k) w) (places_of marks (suc (suc k)) ws) ∙ ap₂ (λ (y z : List ℕ). y ++ z) (one (marks w)) (lowered_behind marks n (suc k) ws (omega (arith, le)))
   where
     one : (b : Bool) → flat_map (low n) (if b then suc k ∷ [] else []) ≡ (if b then k ∷ [] else [])
     one true = ap (λ (z : List ℕ). z ++ []) (low_behind n k le)
     one false = refl
 
-lowered_same : (n : ℕ) (w : Wanted) → lowered n (own n w) ≡ []
-lowered_same n w = one w.is_public
+lowered_same : (marks : Wanted → Bool) (n : ℕ) (w : Wanted) → lowered n (own marks n w) ≡ []
+lowered_same marks n w = one (marks w)
   where
     one : (b : Bool) → flat_map (low n) (if b then n ∷ [] else []) ≡ []
     one true = ap (λ (z : List ℕ). z ++ []) (low_same n)
@@ -104,22 +121,37 @@ module _ (g : Move) (a b : Scene) (w : Wanted) (s t : Tree) (scenes : IsMovedSce
       ap (map path_b) i.is ∙ map-append path_b (map (move_wanted g) i.front) (w ∷ map (move_wanted g) i.back)
       ∙ ap₂ (λ (y z : List (List ℕ)). y ++ value b w.path ∷ z) (kept i.front) (kept i.back)
 
-  pub places_are : public_places 0 (imports_in t) ≡ public_places 0 i.front ++ (own (length i.front) w ++ public_places (suc (length i.front)) i.back)
-  places_are =
-      ap (public_places 0) i.is ∙ publics_append 0 (map (move_wanted g) i.front) (w ∷ map (move_wanted g) i.back)
-      ∙ ap₂ (λ (y : List ℕ) (n : ℕ). y ++ (own n w ++ public_places (suc n) (map (move_wanted g) i.back))) (publics_moved g 0 i.front) (from_zero (length (map (move_wanted g) i.front)) ∙ length_map (move_wanted g) i.front)
-      ∙ ap (λ (z : List ℕ). public_places 0 i.front ++ (own (length i.front) w ++ z)) (publics_moved g (suc (length i.front)) i.back)
+  places_are : (marks : Wanted → Bool) → Stays marks → places_of marks 0 (imports_in t) ≡ places_of marks 0 i.front ++ (own marks (length i.front) w ++ places_of marks (suc (length i.front)) i.back)
+  places_are marks stays =
+      ap (places_of marks 0) i.is ∙ places_append marks 0 (map (move_wanted g) i.front) (w ∷ map (move_wanted g) i.back)
+      ∙ ap₂ (λ (y : List ℕ) (n : ℕ). y ++ (own marks n w ++ places_of marks (suc n) (map (move_wanted g) i.back))) (places_moved marks stays g 0 i.front) (from_zero (length (map (move_wanted g) i.front)) ∙ length_map (move_wanted g) i.front)
+      ∙ ap (λ (z : List ℕ). places_of marks 0 i.front ++ (own marks (length i.front) w ++ z)) (places_moved marks stays g (suc (length i.front)) i.back)
+
+  -- an import more at the end, which has not the mark
+  pub places_more : (marks : Wanted → Bool) → Stays marks → i.back ≡ [] → marks w ≡ false → places_of marks 0 (imports_in t) ≡ places_of marks 0 (imports_in s)
+  places_more marks stays last not =
+      let front : imports_in s ≡ i.front = i.was ∙ ap (λ (ws : List Wanted). i.front ++ ws) last ∙ append-nil i.front in
+      places_are marks stays ∙ ap₂ (λ (p : Bool) (ws : List Wanted). places_of marks 0 i.front ++ ((if p then length i.front ∷ [] else []) ++ places_of marks (suc (length i.front)) ws)) not last
+      ∙ append-nil (places_of marks 0 i.front) ∙ sym (ap (places_of marks 0) front)
+
+  -- an import less
+  pub places_less : (marks : Wanted → Bool) → Stays marks → lowered (length i.front) (places_of marks 0 (imports_in t)) ≡ places_of marks 0 (imports_in s)
+  places_less marks stays =
+      let n : ℕ = length i.front in
+      ap (lowered n) (places_are marks stays)
+      ∙ flat_map-append (low n) (places_of marks 0 i.front) (own marks n w ++ places_of marks (suc n) i.back)
+      ∙ ap₂ (λ (y z : List ℕ). y ++ z) (lowered_before marks n 0 i.front (omega arith))
+      (flat_map-append (low n) (own marks n w) (places_of marks (suc n) i.back) ∙ ap₂ (λ (y z : List ℕ). y ++ z) (lowered_same marks n w) (lowered_behind marks n n i.back (omega arith)))
+      ∙ sym (ap (places_of marks 0) i.was ∙ places_append marks 0 i.front i.back ∙ ap (λ m. places_of marks 0 i.front ++ places_of marks m i.back) (from_zero (length i.front)))
 
 pub additions_are_mapped : AdditionsAreMapped
-additions_are_mapped g a b path w s t scenes i last private =
+additions_are_mapped g a b path w s t scenes i last private strong =
     let paths : map (λ (v : Wanted). value b v.path) (imports_in t) ≡ map (λ (v : Wanted). value a v.path) (imports_in s) ++ value b w.path ∷ [] =
     paths_are g a b w s t scenes i ∙ ap (λ (ws : List Wanted). map (λ (v : Wanted). value a v.path) i.front ++ value b w.path ∷ map (λ (v : Wanted). value a v.path) ws) last
     ∙ ap (λ (z : List (List ℕ)). z ++ value b w.path ∷ []) (sym (paths_were g a b w s t scenes i ∙ ap (λ (ws : List Wanted). map (λ (v : Wanted). value a v.path) i.front ++ map (λ (v : Wanted). value a v.path) ws) last ∙ append-nil (map (λ (v : Wanted). value a v.path) i.front))) in
-    let front : imports_in s ≡ i.front = i.was ∙ ap (λ (ws : List Wanted). i.front ++ ws) last ∙ append-nil i.front in
-    let places : public_places 0 (imports_in t) ≡ public_places 0 (imports_in s) =
-    places_are g a b w s t scenes i ∙ ap₂ (λ (p : Bool) (ws : List Wanted). public_places 0 i.front ++ ((if p then length i.front ∷ [] else []) ++ public_places (suc (length i.front)) ws)) private last
-    ∙ append-nil (public_places 0 i.front) ∙ sym (ap (public_places 0) front) in
-    imports_alone g a b path s t scenes i.others ∙ ap₂ (λ (y : List (List ℕ)) (z : List ℕ). with_dependencies y z (file_described a path s)) paths places
+    let publics : public_places 0 (imports_in t) ≡ public_places 0 (imports_in s) = places_more g a b w s t scenes i is_public (λ g w. refl) last private in
+    let weaks : weak_places 0 (imports_in t) ≡ weak_places 0 (imports_in s) = places_more g a b w s t scenes i is_weak (λ g w. refl) last strong in
+    imports_alone g a b path s t scenes i.others ∙ (λ k. with_dependencies (paths k) (publics k) (weaks k) (file_described a path s))
 
 pub drops_are_mapped : DropsAreMapped
 drops_are_mapped g a b path w s t scenes i others =
@@ -132,12 +164,10 @@ drops_are_mapped g a b path w s t scenes i others =
     ap (places_before (bytes_eq gone)) (paths_are g a b w s t scenes i) ∙ place_is (bytes_eq gone) front gone back (none_is gone a i.front others) (same_from_word gone gone refl) ∙ length_map (λ (v : Wanted). value a v.path) i.front in
     let paths : without_place (places_before (bytes_eq gone) now) now ≡ map (λ (v : Wanted). value a v.path) (imports_in s) =
     ap₂ (λ m (z : List (List ℕ)). without_place m z) (at ∙ sym (length_map (λ (v : Wanted). value a v.path) i.front)) (paths_are g a b w s t scenes i) ∙ without_is front gone back ∙ sym (paths_were g a b w s t scenes i) in
-    let places : lowered (places_before (bytes_eq gone) now) (public_places 0 (imports_in t)) ≡ public_places 0 (imports_in s) =
-    ap₂ lowered at (places_are g a b w s t scenes i)
-    ∙ flat_map-append (low n) (public_places 0 i.front) (own n w ++ public_places (suc n) i.back)
-    ∙ ap₂ (λ (y z : List ℕ). y ++ z) (lowered_before n 0 i.front (omega arith))
-    (flat_map-append (low n) (own n w) (public_places (suc n) i.back) ∙ ap₂ (λ (y z : List ℕ). y ++ z) (lowered_same n w) (lowered_behind n n i.back (omega arith)))
-    ∙ sym (ap (public_places 0) i.was ∙ publics_append 0 i.front i.back ∙ ap (λ m. public_places 0 i.front ++ public_places m i.back) (from_zero (length i.front))) in
+    let publics : lowered (places_before (bytes_eq gone) now) (public_places 0 (imports_in t)) ≡ public_places 0 (imports_in s) =
+    ap (λ m. lowered m (public_places 0 (imports_in t))) at ∙ places_less g a b w s t scenes i is_public (λ g w. refl) in
+    let weaks : lowered (places_before (bytes_eq gone) now) (weak_places 0 (imports_in t)) ≡ weak_places 0 (imports_in s) =
+    ap (λ m. lowered m (weak_places 0 (imports_in t))) at ∙ places_less g a b w s t scenes i is_weak (λ g w. refl) in
     let whole = imports_alone g a b path s t scenes i.others in
-    sym (ap (λ (d : FileDesc). with_dependencies (without_place (places_before (bytes_eq gone) now) now) (lowered (places_before (bytes_eq gone) now) (public_places 0 (imports_in t))) d) whole
-    ∙ ap₂ (λ (y : List (List ℕ)) (z : List ℕ). with_dependencies y z (file_described a path s)) paths places)
+    sym (ap (λ (d : FileDesc). with_dependencies (without_place (places_before (bytes_eq gone) now) now) (lowered (places_before (bytes_eq gone) now) (public_places 0 (imports_in t))) (lowered (places_before (bytes_eq gone) now) (weak_places 0 (imports_in t))) d) whole
+    ∙ (λ k. with_dependencies (paths k) (publics k) (weaks k) (file_described a path s)))

@@ -138,7 +138,7 @@ additions_leave_no_fault files reads after seen place path a clean =
 pub additions_map_descriptors : AdditionsMapDescriptors
 additions_map_descriptors files reads after seen place path a ds new was is =
     all_described files reads after seen place a.others (with_dependency path)
-    (additions_are_mapped a.move (scene_at files reads place) (scene_at after seen place) (file_at files place).path a.wanted (tree_at reads place) (tree_at seen place) a.scenes a.trees a.last a.private
+    (additions_are_mapped a.move (scene_at files reads place) (scene_at after seen place) (file_at files place).path a.wanted (tree_at reads place) (tree_at seen place) a.scenes a.trees a.last a.private a.strong
     ∙ ap (λ p. with_dependency p (file_described (scene_at files reads place) (file_at files place).path (tree_at reads place))) a.says) ds new was is
 
 pub drops_leave_no_fault : DropsLeaveNoFault

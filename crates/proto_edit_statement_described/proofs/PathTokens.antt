@@ -1,13 +1,14 @@
 -- The token of an import's path is a string, whose value is the path.
-use Rattle.std.proofs.Common.{◌≡◌, ℕ, List, [], ◌++◌, get_or, Option, Some, None, refl, sym, ap, subst, ◌∙◌, inl, inr, arith, is_some, slice_get, Contains}
+use Rattle.std.proofs.Common.{◌≡◌, ℕ, List, [], ◌++◌, get_or, Option, Some, None, refl, sym, ap, subst, ◌∙◌, inl, inr, arith, slice_get, Contains}
 use Rattle.proto_base.proofs.Common.{Contains-append_cases, Contains-append_left, Contains-append_right, slice_get-get_or, or_nothing, contains_cases, contains_head}
 use Rattle.proto_text.specs.declared.kind.TokenKind.TheVariants.{Text}
 use Rattle.proto_text.proofs.Common.{word_at, Lexeme, value_of}
 use Rattle.proto_tree.specs.declared.class.Class.TheVariants as class
+use Rattle.proto_tree.specs.Modifiers.{is_public, is_weak}
 use Rattle.proto_tree.specs.declared.class.Expected.TheVariants as want
 use Rattle.proto_tree.specs.declared.piece.Statement.{Statement}
 use Rattle.proto_tree.specs.declared.piece.Statement.TheVariants as statement
-use Rattle.proto_tree.proofs.Common.{Mark, flat_header, flat_import, flat_option, flat_statement, mark, one, text_mark, Tree, End, Leaf, Block, Spells, flat, classes_in, marks_fit_in}
+use Rattle.proto_tree.proofs.Common.{Mark, flat_header, flat_import, flat_option, flat_statement, mark, one, text_mark, Tree, End, Leaf, Block, Spells, flat, classes_in, marks_fit_in, flat_modifier}
 use Rattle.proto_names_outline.proofs.Common.{Wanted, imports_in, statement_imports, text_only}
 use Rattle.proto_ast.specs.Scenes.{string_of, value_in, value_or_none as value_by_kind}
 use Rattle.proto_edit_statement_described.proofs.MovedScenes.{text_in, word_by}
@@ -18,12 +19,12 @@ use Rattle.proto_names_outline.proofs.ReadTrees.{same_text}
 -- ---- the paths of imports
 
 own_mark : (s : Statement) (w : Wanted) → Contains (statement_imports s) w → Contains (flat_statement s) (mark want.Text w.path)
-own_mark (statement.Import i) w c = elim (contains_cases (record { path = i.path; is_public = is_some i.public }) w [] c) [
+own_mark (statement.Import i) w c = elim (contains_cases (record { path = i.path; is_public = is_public i.modifier; is_weak = is_weak i.modifier }) w [] c) [
   | inl e ↦
       let m : Mark = mark want.Text i.path in
       subst (λ (v : Wanted). Contains (flat_import i) (mark want.Text v.path)) e
-      (Contains-append_right (one class.Import i.keyword) (flat_option (one class.Public) i.public ++ (text_mark i.path ++ one class.Semicolon i.semicolon)) m
-      (Contains-append_right (flat_option (one class.Public) i.public) (text_mark i.path ++ one class.Semicolon i.semicolon) m (contains_head m (one class.Semicolon i.semicolon))))
+      (Contains-append_right (one class.Import i.keyword) (flat_option flat_modifier i.modifier ++ (text_mark i.path ++ one class.Semicolon i.semicolon)) m
+      (Contains-append_right (flat_option flat_modifier i.modifier) (text_mark i.path ++ one class.Semicolon i.semicolon) m (contains_head m (one class.Semicolon i.semicolon))))
   | inr d ↦ absurd (omega (arith, d.1))
 ]
 own_mark _ w c = absurd (omega (arith, c.1))

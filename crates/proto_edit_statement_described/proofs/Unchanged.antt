@@ -8,11 +8,12 @@ use Rattle.proto_edit_rules.specs.DeleteField.{field_place, mapped_deletion, mes
 use Rattle.proto_edit_rules.specs.DropImport.{lowered, without_dependency}
 use Rattle.proto_edit_rules.specs.Statements.{at_place, places_before, with_more, without_place}
 
-imports_whole : (dependency : List (List ℕ)) (public : List ℕ) (d : FileDesc) → with_dependencies dependency public d ≡ (let x : FileDesc = record {
+imports_whole : (dependency : List (List ℕ)) (public weak : List ℕ) (d : FileDesc) → with_dependencies dependency public weak d ≡ (let x : FileDesc = record {
   name = d.name;
   «package» = d.«package»;
   dependency = dependency;
   public_dependency = public;
+  weak_dependency = weak;
   message_type = d.message_type;
   enum_type = d.enum_type;
   service = d.service;
@@ -20,14 +21,14 @@ imports_whole : (dependency : List (List ℕ)) (public : List ℕ) (d : FileDesc
   options = d.options;
   syntax = d.syntax;
 } in x)
-imports_whole dependency public d = refl
+imports_whole dependency public weak d = refl
 
-addition_whole : (path : List ℕ) (d : FileDesc) → with_dependency path d ≡ with_dependencies (d.dependency ++ path ∷ []) d.public_dependency d
+addition_whole : (path : List ℕ) (d : FileDesc) → with_dependency path d ≡ with_dependencies (d.dependency ++ path ∷ []) d.public_dependency d.weak_dependency d
 addition_whole path d = refl
 
 drop_whole : (path : List ℕ) (d : FileDesc)
     → without_dependency path d
-    ≡ with_dependencies (without_place (places_before (bytes_eq path) d.dependency) d.dependency) (lowered (places_before (bytes_eq path) d.dependency) d.public_dependency) d
+    ≡ with_dependencies (without_place (places_before (bytes_eq path) d.dependency) d.dependency) (lowered (places_before (bytes_eq path) d.dependency) d.public_dependency) (lowered (places_before (bytes_eq path) d.dependency) d.weak_dependency) d
 drop_whole path d = refl
 
 message_whole : (token : ℕ) (within : Tree) (m : MessageDesc) → without_field token within m ≡ (let x : MessageDesc = record {
@@ -48,6 +49,7 @@ deletion_whole : (token : ℕ) (tree : Tree) (d : FileDesc) → mapped_deletion 
   «package» = d.«package»;
   dependency = d.dependency;
   public_dependency = d.public_dependency;
+  weak_dependency = d.weak_dependency;
   message_type = messages_with_deletion token tree d.message_type;
   enum_type = d.enum_type;
   service = d.service;

@@ -113,7 +113,7 @@ MapDescriptors IsChange mapped =
     → AreDescribed after new
     → new ≡ changed_at place (mapped path) ds
 
--- The file imports the path as well, as its last import, which is not public.
+-- The file imports the path as well, as its last import, which is neither public nor weak.
 pub record IsFileAddition
     (files : List FileOf) (reads : List ReadOf) (after : List FileOf) (seen : List ReadOf)
     (place : ℕ) (path : Path) : Type 0 where
@@ -124,6 +124,7 @@ pub record IsFileAddition
   pub trees : HasImport move wanted (tree_at reads place) (tree_at seen place)
   pub last : trees.back ≡ []
   pub private : wanted.is_public ≡ false
+  pub strong : wanted.is_weak ≡ false
   pub says : value (scene_at after seen place) wanted.path ≡ path
 
 -- An added import brings no fault of the checks,

@@ -27,13 +27,14 @@ pub record HasImport (g : Move) (w : Wanted) (s t : Tree) : Type 0 where
 
 -- ---- laws
 
--- An import more as the last of all.
+-- An import more as the last of all, which is neither public nor weak.
 abbrev pub AdditionsAreMapped : Type 0
 AdditionsAreMapped = (g : Move) (a b : Scene) (path : Path) (w : Wanted) (s t : Tree)
     → IsMovedScene g a b
     → (i : HasImport g w s t)
     → i.back ≡ []
     → w.is_public ≡ false
+    → w.is_weak ≡ false
     → file_described b path t ≡ with_dependency (value b w.path) (file_described a path s)
 
 -- An import less: the first tree has it no more, of which no earlier import had the path.

@@ -5,7 +5,7 @@ use Rattle.proto_tree.specs.declared.class.Class.TheVariants as class
 use Rattle.proto_tree.specs.declared.class.Expected.TheVariants as want
 use Rattle.proto_tree.specs.declared.piece.Statement.{Statement}
 use Rattle.proto_tree.specs.declared.piece.Statement.TheVariants as statement
-use Rattle.proto_tree.proofs.Common.{Mark, only, one, flat_option, flat_type, name, text_mark, flat_settings, flat_separated, flat_setting, flat_signed, flat_number, flat_ranges, flat_reserved_list, flat_signature, flat_statement, flat_header, Tree, End, Leaf, Block, flat}
+use Rattle.proto_tree.proofs.Common.{Mark, only, one, flat_option, flat_type, name, text_mark, flat_settings, flat_separated, flat_setting, flat_signed, flat_number, flat_ranges, flat_reserved_list, flat_signature, flat_statement, flat_header, Tree, End, Leaf, Block, flat, flat_modifier}
 
 -- ---- marks that end with a semicolon or a brace
 
@@ -33,7 +33,7 @@ ends_with i = the class.Semicolon i refl
 
 pub statement_ended : (s : Statement) → IsEnded (flat_statement s)
 statement_ended (statement.Syntax s) = then (one class.Syntax s.keyword) (then (one class.Equals s.equals) (then (one class.ProtoText s.text) (ends_with s.semicolon)))
-statement_ended (statement.Import i) = then (one class.Import i.keyword) (then (flat_option (one class.Public) i.public) (then (text_mark i.path) (ends_with i.semicolon)))
+statement_ended (statement.Import i) = then (one class.Import i.keyword) (then (flat_option flat_modifier i.modifier) (then (text_mark i.path) (ends_with i.semicolon)))
 statement_ended (statement.Package p) = then (one class.Package p.keyword) (then (flat_separated class.Dot name p.name) (ends_with p.semicolon))
 statement_ended (statement.Option o) = then (one class.Option o.keyword) (then (flat_setting o.setting) (ends_with o.semicolon))
 statement_ended (statement.Field f) =

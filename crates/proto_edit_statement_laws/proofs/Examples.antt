@@ -71,7 +71,7 @@ abbrev middle_tokens : List Token
 middle_tokens = tok Word 0 7 ∷ tok Word 8 9 ∷ tok Punctuation 9 10 ∷ tok Word 11 18 ∷ tok Word 19 20 ∷ tok Punctuation 21 22 ∷ tok Punctuation 22 23 ∷ tok Word 24 30 ∷ tok Text 31 40 ∷ tok Punctuation 40 41 ∷ tok Word 42 49 ∷ tok Word 50 51 ∷ tok Punctuation 52 53 ∷ tok Punctuation 53 54 ∷ []
 
 abbrev middle : Import
-middle = record { keyword = 7; public = None; path = 8; semicolon = 9 }
+middle = record { keyword = 7; modifier = None; path = 8; semicolon = 9 }
 
 abbrev middle_tree : Tree
 middle_tree =

@@ -7,6 +7,8 @@ use Rattle.proto_tree.specs.declared.context.Context.TheVariants as context
 use Rattle.proto_tree.specs.declared.piece.Statement.{Statement}
 use Rattle.proto_tree.specs.declared.piece.Statement.TheVariants as statement
 use Rattle.proto_tree.specs.declared.tree.Import.{Import}
+use Rattle.proto_tree.specs.declared.tree.Modifier.{Modifier}
+use Rattle.proto_tree.specs.declared.tree.Modifier.TheVariants as modifier
 use Rattle.proto_tree.specs.declared.tree.Package.{Package}
 use Rattle.proto_tree.proofs.Common.{Mark, mark, name, one, flat_separated, flat_statement, Numbered, Move, move_header, move_statement, move_tree, Tree, End, Leaf, Block, flat, statement_kind, header_kind, after, IsWellFormed, last_of, joined_trees, numbered_append, flat-joined}
 use Rattle.proto_names_outline.proofs.Common.{Wanted, imports_in, statement_imports, move_wanted, imports_moved}
@@ -103,11 +105,12 @@ package_last : (p : Package) → last_index (flat_statement (statement.Package p
 package_last p = ap last_index (sym (append_assoc (one class.Package p.keyword) (flat_separated class.Dot name p.name) (one class.Semicolon p.semicolon))) ∙ last_of_end (one class.Package p.keyword ++ flat_separated class.Dot name p.name) (mark (want.One class.Semicolon) p.semicolon)
 
 pub import_last : (i : Import) → last_index (flat_statement (statement.Import i)) ≡ i.semicolon
-import_last i = by i.public
+import_last i = by i.modifier
   where
-    by : (o : Option ℕ) → last_index (flat_statement (statement.Import (record { keyword = i.keyword; public = o; path = i.path; semicolon = i.semicolon }))) ≡ i.semicolon
+    by : (o : Option Modifier) → last_index (flat_statement (statement.Import (record { keyword = i.keyword; modifier = o; path = i.path; semicolon = i.semicolon }))) ≡ i.semicolon
     by None = refl
-    by (Some k) = refl
+    by (Some (modifier.Public k)) = refl
+    by (Some (modifier.Weak k)) = refl
 
 import_tells : Tells behind_import
 import_tells (statement.Import i) n p num e = sym (some_same (suc i.semicolon) p e) ∙ ap suc (sym (import_last i)) ∙ numbered_last n (flat_statement (statement.Import i)) num (some_marks (statement.Import i))

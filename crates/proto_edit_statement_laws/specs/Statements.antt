@@ -51,5 +51,5 @@ import_tokens path =
 -- the statement, whose tokens begin with this index
 abbrev pub import_tree : ℕ → Tree
 import_tree i =
-    Leaf (statement.Import (record { keyword = i; public = None; path = i + 1; semicolon = i + 2 }))
+    Leaf (statement.Import (record { keyword = i; modifier = None; path = i + 1; semicolon = i + 2 }))
     End

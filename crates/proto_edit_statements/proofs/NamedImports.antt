@@ -10,6 +10,7 @@ use Rattle.proto_tree.specs.declared.piece.Statement.{Statement}
 use Rattle.proto_tree.specs.declared.piece.Statement.TheVariants as statement
 use Rattle.proto_tree.specs.declared.tree.File.{File}
 use Rattle.proto_tree.specs.declared.tree.Import.{Import}
+use Rattle.proto_tree.specs.Modifiers.{is_public, is_weak}
 use Rattle.proto_tree.specs.declared.tree.Item.{Item}
 use Rattle.proto_tree.proofs.Common.{item_tree, tree_of_file, trees, Tree, End, Leaf, Block}
 use Rattle.proto_files.proofs.Common.{ReadOf, AreRead, read_at, FileOf, file_at, is_string, string_at}
@@ -71,13 +72,13 @@ string_kind Punctuation w l s =
 
 -- ---- imports and their statements
 
-stands_wanted : (i : Import) (t : Tree) → StandsIn (statement.Import i) t → Contains (imports_in t) (record { path = i.path; is_public = is_some i.public })
-stands_wanted i _ (First rest) = contains_head (record { path = i.path; is_public = is_some i.public }) (imports_in rest)
-stands_wanted i _ (AfterLeaf x rest k) = Contains-append_right (statement_imports x) (imports_in rest) (record { path = i.path; is_public = is_some i.public }) (stands_wanted i rest k)
+stands_wanted : (i : Import) (t : Tree) → StandsIn (statement.Import i) t → Contains (imports_in t) (record { path = i.path; is_public = is_public i.modifier; is_weak = is_weak i.modifier })
+stands_wanted i _ (First rest) = contains_head (record { path = i.path; is_public = is_public i.modifier; is_weak = is_weak i.modifier }) (imports_in rest)
+stands_wanted i _ (AfterLeaf x rest k) = Contains-append_right (statement_imports x) (imports_in rest) (record { path = i.path; is_public = is_public i.modifier; is_weak = is_weak i.modifier }) (stands_wanted i rest k)
 stands_wanted i _ (AfterBlock h a within b rest k) = stands_wanted i rest k
 
 of_statement : (s : Statement) (w : Wanted) → Contains (statement_imports s) w → (i : Import) × (s ≡ statement.Import i) × (i.path ≡ w.path)
-of_statement (statement.Import i) w c = elim (contains_cases (record { path = i.path; is_public = is_some i.public }) w [] c) [
+of_statement (statement.Import i) w c = elim (contains_cases (record { path = i.path; is_public = is_public i.modifier; is_weak = is_weak i.modifier }) w [] c) [
   | inl e ↦ (i, refl, ap (λ (z : Wanted). z.path) e)
   | inr d ↦ absurd (omega (arith, d.1))
 ]
@@ -137,7 +138,7 @@ module _ (files : List FileOf) (reads : List ReadOf) (are : AreRead files reads)
   found i h =
       let x = import_there says tree i h in
       let value : value_of (word_of_token files reads file i.path) ≡ Some path = ap (λ z. value_of (word_at z i.path)) (sym lexemes) ∙ value_said ls i.path path x.1 in
-      let w : Wanted = record { path = i.path; is_public = is_some i.public } in
+      let w : Wanted = record { path = i.path; is_public = is_public i.modifier; is_weak = is_weak i.modifier } in
       let e : 0 + file ≡ file = omega arith in
       let c = subst (λ m. Contains (asked_in files reads) (asked_as T m w)) e (asked_there T 0 reads file w inside (stands_wanted i tree x.0)) in
       ((asked_as T file w, c, refl, ap or_nothing value), record { within = within; stands = x.0; value = (value_is_value_of (word_of_token files reads file i.path) path).1 value })

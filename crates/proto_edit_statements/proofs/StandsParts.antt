@@ -7,6 +7,8 @@ use Rattle.proto_tree.specs.declared.class.Class.TheVariants as class
 use Rattle.proto_tree.specs.declared.piece.Statement.{Statement}
 use Rattle.proto_tree.specs.declared.piece.Statement.TheVariants as statement
 use Rattle.proto_tree.specs.declared.tree.Import.{Import}
+use Rattle.proto_tree.specs.declared.tree.Modifier.{Modifier}
+use Rattle.proto_tree.specs.declared.tree.Modifier.TheVariants as modifier
 use Rattle.proto_tree.proofs.Common.{Mark, flat_header, flat_statement, one, Numbered, ReadsIn, Tree, flat, trees_are_numbered_in}
 use Rattle.proto_edit_statement_laws.proofs.Common.{AfterBlock, AfterLeaf, First, StandsIn, first_token, next_token, numbered_among, numbered_first, numbered_last, some_marks, fit_long}
 use Rattle.proto_base.specs.declared.profile.Profile.{Profile}
@@ -42,11 +44,12 @@ stands_inside profile text tokens t s reads p =
 -- ---- an import
 
 pub import_last : (i : Import) → next_token (statement.Import i) ≡ suc i.semicolon
-import_last i = by i.public
+import_last i = by i.modifier
   where
-    by : (o : Option ℕ) → next_token (statement.Import (record { keyword = i.keyword; public = o; path = i.path; semicolon = i.semicolon })) ≡ suc i.semicolon
+    by : (o : Option Modifier) → next_token (statement.Import (record { keyword = i.keyword; modifier = o; path = i.path; semicolon = i.semicolon })) ≡ suc i.semicolon
     by None = refl
-    by (Some p) = refl
+    by (Some (modifier.Public p)) = refl
+    by (Some (modifier.Weak p)) = refl
 
 pub import_inside : (profile : Profile) (text : List ℕ) (tokens : List Token) (t : Tree) (i : Import) → ReadsIn profile text tokens t → StandsIn (statement.Import i) t → (i.keyword ≤ i.semicolon) × (i.semicolon < length tokens)
 import_inside profile text tokens t i reads h =

@@ -1,9 +1,10 @@
 -- The import statements of trees.
-use Rattle.std.proofs.Common.{◌≡◌, ℕ, ◌+◌, ◌<◌, List, [], ◌∷◌, ◌++◌, Bor, length, get_or, map, take, refl, sym, ◌∙◌, ap, subst, is_some, Contains, flat_map, append-nil}
+use Rattle.std.proofs.Common.{◌≡◌, ℕ, ◌+◌, ◌<◌, List, [], ◌∷◌, ◌++◌, Bor, length, get_or, map, take, refl, sym, ◌∙◌, ap, subst, Contains, flat_map, append-nil}
 use Rattle.proto_base.proofs.Common.{flat_map-append, map-append, contains_map}
 use Rattle.proto_text.specs.declared.lexer.Token.{Token}
 use Rattle.proto_text.proofs.Common.{IsString, words}
 use Rattle.proto_tree.specs.declared.piece.Statement.{Statement}
+use Rattle.proto_tree.specs.Modifiers.{is_public, is_weak}
 use Rattle.proto_tree.specs.declared.piece.Statement.TheVariants as statement
 use Rattle.proto_tree.specs.declared.tree.Import.{Import}
 use Rattle.proto_tree.proofs.Common.{Tree, End, Leaf, Block, joined_trees, ReadsIn}
@@ -19,7 +20,7 @@ imports_joined t u = ap (flat_map statement_import) (statements_joined t u) ∙ 
 
 -- an import as the names have it
 abbrev wanted_as : Import → Wanted
-wanted_as i = record { path = i.path; is_public = is_some i.public }
+wanted_as i = record { path = i.path; is_public = is_public i.modifier; is_weak = is_weak i.modifier }
 
 same_statement : (s : Statement) → names.statement_imports s ≡ map wanted_as (statement_import s)
 same_statement (statement.Syntax x) = refl

@@ -1,7 +1,8 @@
 -- What is found of an import that leads to no file that a reference needs.
-use Rattle.std.proofs.Common.{◌≡◌, ◌↔◌, ◌||◌, ℕ, ◌<◌, Bool, true, false, List, [], ◌++◌, length, map, Option, None, Some, refl, sym, ◌∙◌, ap, arith, is_some, if◌then◌else◌, bytes_eq}
+use Rattle.std.proofs.Common.{◌≡◌, ◌↔◌, ◌||◌, ℕ, ◌<◌, Bool, true, false, List, [], ◌++◌, length, map, Option, None, Some, refl, sym, ◌∙◌, ap, arith, if◌then◌else◌, bytes_eq}
 use Rattle.proto_base.proofs.Common.{length-map, position-Some}
 use Rattle.proto_tree.specs.declared.tree.Import.{Import}
+use Rattle.proto_tree.specs.Modifiers.{is_public}
 use Rattle.proto_files.proofs.Common.{FileOf, paths_of, ReadOf, AreRead}
 use Rattle.proto_names_rules.proofs.Common.{file_with_path, Workspace}
 use Rattle.proto_names_imports.specs.Links.{link_imports, names_of_files}
@@ -34,7 +35,7 @@ leads_is_used files reads are file marks used path b h = go (file_with_path (pat
         same_truth a (is_used (names_of_files files reads) file (Some to)) ((λ t. u.0 (k.0 t)), λ t. k.1 (u.1 t))
 
 pub used_found : (rules : List Bool) (r : LintFile) (w : Workspace) (paths : List (List ℕ)) (file : ℕ) (i : Import) (old new : List Found) (path : List ℕ) (used passes : Bool)
-    → is_chosen rules rule.ImportUsed ≡ true → is_some i.public ≡ false → import_path r i ≡ path → used ≡ is_used w file (file_with_path paths path) → passes ≡ (used || r.has_custom)
+    → is_chosen rules rule.ImportUsed ≡ true → is_public i.modifier ≡ false → import_path r i ≡ path → used ≡ is_used w file (file_with_path paths path) → passes ≡ (used || r.has_custom)
     → new ≡ old ++ map (found_at r rule.ImportUsed) (unless passes i.keyword path) → new ≡ old ++ found_by rules r rule.ImportUsed (import_used w paths r file i)
 used_found rules r w paths file i old new path used passes chosen plain is uses passing e =
     e

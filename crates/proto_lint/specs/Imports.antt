@@ -1,9 +1,10 @@
 -- The rules of imports.
-use Rattle.std.specs.Prelude.{ℕ, Bool, false, not, ◌||◌, ◌&&◌, ◌==◌, List, [], ◌∷◌, ◌++◌, flat_map, Option, Some, None, is_some}
+use Rattle.std.specs.Prelude.{ℕ, Bool, false, not, ◌||◌, ◌&&◌, ◌==◌, List, [], ◌∷◌, ◌++◌, flat_map, Option, Some, None}
 use Rattle.std.specs.List.{list_any}
 use Rattle.proto_base.specs.Texts.{Path, Text, or_nothing}
 use Rattle.proto_text.specs.Values.{value_of}
 use Rattle.proto_tree.specs.declared.tree.Import.{Import}
+use Rattle.proto_tree.specs.Modifiers.{is_public}
 use Rattle.proto_tree.specs.declared.piece.Statement.{Statement}
 use Rattle.proto_tree.specs.declared.piece.Statement.TheVariants as statement
 use Rattle.proto_tree.specs.Tree.{Tree}
@@ -34,7 +35,7 @@ import_unless r passes i = unless passes i.keyword (import_path r i)
 
 -- IMPORT_NO_PUBLIC: a public import
 abbrev pub import_no_public : LintFile → Import → List NamedToken
-import_no_public r i = import_unless r (not (is_some i.public)) i
+import_no_public r i = import_unless r (not (is_public i.modifier)) i
 
 -- ---- imports that are used
 
@@ -55,7 +56,7 @@ is_used w file (Some to) =
 -- a file with a custom option passes, since the names of such options may mean symbols, too
 abbrev pub import_used : Workspace → List Path → LintFile → ℕ → Import → List NamedToken
 import_used w paths r file i =
-    import_unless r (is_some i.public
+    import_unless r (is_public i.modifier
     || (is_used w file (file_with_path paths (import_path r i)) || r.has_custom)) i
 
 -- ---- what they find

@@ -193,7 +193,7 @@ fn add_import_no_public(
         (import_no_public (reading_of reading.now) import.now)) }
 {
     let rule = Rule::ImportNoPublic;
-    if rules.has(rule) && import.public.is_some() {
+    if rules.has(rule) && import.is_public() {
         let path = string_value(alloc, reading.text(import.path))?;
         found.add(rule, reading.offset(import.keyword), path.as_str())?;
     }
@@ -325,7 +325,7 @@ impl<'a> FileImports<'a> {
             marks,
         } = self;
         let rule = Rule::ImportUsed;
-        if linter.rules.has(rule) && import.public.is_none() {
+        if linter.rules.has(rule) && !import.is_public() {
             let path = string_value(alloc, reading.text(import.path))?;
             let is_used = linter
                 .imports

@@ -15,7 +15,7 @@ use Rattle.proto_tree.specs.declared.piece.Statement.TheVariants as statement
 use Rattle.proto_tree.specs.declared.piece.Extending.{Extending}
 use Rattle.proto_tree.specs.declared.piece.Header.{Header}
 use Rattle.proto_tree.specs.declared.piece.Header.TheVariants as header
-use Rattle.proto_tree.proofs.Common.{mark, only, one, word, name, text_mark, flat_all, flat_behind, flat_option, flat_words, flat_reference, flat_type, flat_settings, flat_import, flat_field, flat_map_field, flat_method_type, flat_signature, flat_statement, flat_header, Tree, End, Leaf, Block, flat, dotted, first_of, word_token}
+use Rattle.proto_tree.proofs.Common.{mark, only, one, word, name, text_mark, flat_all, flat_behind, flat_option, flat_words, flat_reference, flat_type, flat_settings, flat_import, flat_field, flat_map_field, flat_method_type, flat_signature, flat_statement, flat_header, Tree, End, Leaf, Block, flat, dotted, first_of, word_token, flat_modifier}
 use Rattle.proto_names_rules.proofs.Common.{Source, Token, Used, Rising, rising_spreads, Spreads}
 use Rattle.proto_tree.proofs.SpacedWords.{words_stand_apart}
 use Rattle.proto_names_outline.specs.FromTree.{used_as, type_uses, signature_uses, statement_uses, header_uses, flat_uses, block_uses, member_uses, item_uses, Wanted, statement_imports, imports_in}
@@ -302,7 +302,7 @@ module _ (W R S : ℕ → Type 0) where
   import_rises (statement.Import i) n a =
       let behind = text_mark i.path ++ one class.Semicolon i.semicolon in
       let at = are_at W R S n (flat_import i) (mark want.Text i.path) a
-      (Contains-append_right (one class.Import i.keyword) (flat_option (one class.Public) i.public ++ behind) _ (Contains-append_right (flat_option (one class.Public) i.public) behind _ (0, omega arith, refl))) in
+      (Contains-append_right (one class.Import i.keyword) (flat_option flat_modifier i.modifier ++ behind) _ (Contains-append_right (flat_option flat_modifier i.modifier) behind _ (0, omega arith, refl))) in
       (at.0, at.1, at.2, omega (arith, at.1))
   import_rises _ n a = omega arith
 

@@ -1,13 +1,16 @@
 -- The package and the imports of a tree whose tokens are moved (for the crates above).
-use Rattle.std.proofs.Common.{◌≡◌, ℕ, Option, Some, None, is_some, List, [], ◌∷◌, ◌++◌, map, refl, sym, ◌∙◌, ap₂}
+use Rattle.std.proofs.Common.{◌≡◌, ℕ, Option, Some, None, List, [], ◌∷◌, ◌++◌, map, refl, sym, ◌∙◌, ap₂}
 use Rattle.std.proofs.lemmas.List.{map-append}
 use Rattle.proto_tree.specs.declared.piece.Header.{Header}
 use Rattle.proto_tree.specs.declared.piece.Header.TheVariants as header
 use Rattle.proto_tree.specs.declared.piece.Statement.{Statement}
 use Rattle.proto_tree.specs.declared.piece.Statement.TheVariants as statement
 use Rattle.proto_tree.specs.declared.tree.Behind.{Behind}
+use Rattle.proto_tree.specs.declared.tree.Modifier.{Modifier}
+use Rattle.proto_tree.specs.declared.tree.Modifier.TheVariants as modifier
+use Rattle.proto_tree.specs.Modifiers.{is_public, is_weak}
 use Rattle.proto_tree.specs.declared.tree.Separated.{Separated}
-use Rattle.proto_tree.proofs.Common.{Move, move_behind, move_header, move_option, move_separated, move_statement, move_tree, dotted, Tree, End, Leaf, Block}
+use Rattle.proto_tree.proofs.Common.{Move, move_behind, move_header, move_option, move_separated, move_statement, move_tree, dotted, Tree, End, Leaf, Block, move_modifier}
 use Rattle.proto_names_rules.specs.Tree.{package_of}
 use Rattle.proto_names_outline.specs.FromTree.{Wanted, imports_in, items_in, statement_imports}
 use Rattle.proto_names_outline.specs.Moved.{move_wanted}
@@ -39,11 +42,17 @@ package_moved g (Block h i within j rest) = block_package g h i within (move_tre
 -- ---- the imports
 
 pub statement_imports_moved : (g : Move) (s : Statement) → statement_imports (move_statement g s) ≡ map (move_wanted g) (statement_imports s)
-statement_imports_moved g (statement.Import i) = λ k. record { path = g i.path; is_public = kept i.public k } ∷ []
+statement_imports_moved g (statement.Import i) = λ k. record { path = g i.path; is_public = public_kept i.modifier k; is_weak = weak_kept i.modifier k } ∷ []
   where
-    kept : (o : Option ℕ) → is_some (move_option g o) ≡ is_some o
-    kept None = refl
-    kept (Some t) = refl
+    public_kept : (o : Option Modifier) → is_public (move_option (move_modifier g) o) ≡ is_public o
+    public_kept None = refl
+    public_kept (Some (modifier.Public t)) = refl
+    public_kept (Some (modifier.Weak t)) = refl
+
+    weak_kept : (o : Option Modifier) → is_weak (move_option (move_modifier g) o) ≡ is_weak o
+    weak_kept None = refl
+    weak_kept (Some (modifier.Public t)) = refl
+    weak_kept (Some (modifier.Weak t)) = refl
 statement_imports_moved g _ = refl
 
 -- one statement more before

@@ -9,6 +9,7 @@ use Rattle.proto_tree.specs.declared.piece.Statement.{Statement}
 use Rattle.proto_tree.specs.declared.piece.Statement.TheVariants as statement
 use Rattle.proto_tree.specs.declared.piece.Header.{Header}
 use Rattle.proto_tree.specs.declared.piece.Header.TheVariants as header
+use Rattle.proto_tree.specs.Modifiers.{is_public, is_weak}
 use Rattle.proto_tree.specs.Tree.{Tree, End, Leaf, Block}
 use Rattle.proto_tree.specs.References.{dotted, first_of}
 use Rattle.proto_names_rules.specs.Skeleton.{Source, Token, Used}
@@ -181,14 +182,20 @@ file_names tree = record {
 
 -- ---- imports
 
--- an import: the token of its path, and whether it is public
+-- an import: the token of its path, and whether it is public or weak
 pub record Wanted : Type 0 where
   pub path : ℕ
   pub is_public : Bool
+  pub is_weak : Bool
 
 -- the import that a statement is, if it is one
 abbrev pub statement_imports : Statement → List Wanted
-statement_imports (statement.Import i) = record { path = i.path; is_public = is_some i.public } ∷ []
+statement_imports (statement.Import i) =
+    record {
+      path = i.path;
+      is_public = is_public i.modifier;
+      is_weak = is_weak i.modifier;
+    } ∷ []
 statement_imports _ = []
 
 -- the imports of a file, by the tokens of their paths

@@ -16,9 +16,9 @@ use Rattle.proto_names_outline.specs.declared.listing.Use.{Use}
 use Rattle.proto_names_outline.specs.declared.listing.Listing.{Listing}
 use Rattle.proto_names_outline.specs.declared.wanted.Wanted.{Wanted as WantedAt}
 
--- an import as listed: the token of its path, and whether it is public
+-- an import as listed: the token of its path, and whether it is public or weak
 abbrev pub wanted_of : WantedAt → Wanted
-wanted_of w = record { path = w.path; is_public = w.is_public }
+wanted_of w = record { path = w.path; is_public = w.is_public; is_weak = w.is_weak }
 
 -- the import as a list, if there is one
 abbrev pub wanted_if : Option WantedAt → List Wanted

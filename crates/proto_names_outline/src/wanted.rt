@@ -11,11 +11,12 @@ use proto_base::NoMemory;
 use proto_tree::{Dotted, File, Item};
 use std::alloc::Global;
 
-/// An import: the token of its path, and whether it is public.
+/// An import: the token of its path, and whether it is public or weak.
 #[derive(Clone, Copy)]
 pub struct Wanted {
     pub path: u32,
     pub is_public: bool,
+    pub is_weak: bool,
 }
 
 fn import(item: &Item) -> Option<Wanted>
@@ -24,7 +25,8 @@ fn import(item: &Item) -> Option<Wanted>
     match item {
         Item::Import(import) => Some(Wanted {
             path: import.path,
-            is_public: import.public.is_some(),
+            is_public: import.is_public(),
+            is_weak: import.is_weak(),
         }),
         _ => None,
     }

@@ -48,7 +48,7 @@ asked_here text file (w ∷ wanted) (x ∷ ws) h =
     λ i. record { place = at file (token i); path = or_nothing (path i); is_public = is_public i } ∷ asked_here text file wanted ws rest i
 
 no_import : Wanted
-no_import = record { path = 0; is_public = false }
+no_import = record { path = 0; is_public = false; is_weak = false }
 
 written_rising : (profile : Profile) (text : List ℕ) (tokens : List Token) (tree : Tree) → ReadsIn profile text tokens tree → (wanted : List WantedAt) (ws : List WrittenImport) → map wanted_of wanted ≡ imports_in tree → map (λ i. i.token) ws ≡ map (λ w. w.path) wanted → TokensAreRising ws
 written_rising profile text tokens tree reads wanted ws e t = λ i j d l m.

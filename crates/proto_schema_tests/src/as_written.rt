@@ -1,8 +1,48 @@
-//! What files as written are answered, beside what they are in the core language: options, `extend` in proto3, and one extension number
-//! in two files.
+//! What files as written are answered, beside what they are in the core language: weak imports, options, `extend` in proto3, and one
+//! extension number in two files.
 
 use crate::calls::{answer_in, expect_text, given_files};
 use proto_base::Profile;
+use std::process::Abort;
+
+/// Files with weak imports, with the answers in the core language and as written.
+const WEAK_IMPORTS: &[(&str, &str, &str)] = &[
+    (
+        "a.proto import public \"d.proto\"; import weak \"c.proto\"; import weak \"b.proto\"; message M { optional B b = 1; }|b.proto message B {}|c.proto |d.proto ",
+        "a.proto:25: 8 Syntax",
+        "{\"file\":[{\"dependency\":[\"d.proto\",\"c.proto\",\"b.proto\"],\"messageType\":[{\"field\":[{\"jsonName\":\"b\",\"label\":\"LABEL_OPTIONAL\",\"name\":\"b\",\"number\":1,\"type\":\"TYPE_MESSAGE\",\"typeName\":\".B\"}],\"name\":\"M\"}],\"name\":\"a.proto\",\"publicDependency\":[0],\"weakDependency\":[1,2]},{\"messageType\":[{\"name\":\"B\"}],\"name\":\"b.proto\"},{\"name\":\"c.proto\"},{\"name\":\"d.proto\"}]}",
+    ),
+    (
+        "a.proto import \"b.proto\"; message M { optional C c = 1; }|b.proto import weak \"c.proto\";|c.proto message C {}",
+        "b.proto:0: 8 Syntax",
+        "a.proto:39: 14 Unresolved",
+    ),
+    (
+        "a.proto import weak \"b.proto\";|b.proto import weak \"a.proto\";",
+        "a.proto:0: 8 Syntax",
+        "a.proto:12: 12 ImportCycle",
+    ),
+    (
+        "a.proto import weak \"b.proto\";",
+        "a.proto:0: 8 Syntax",
+        "a.proto:12: 10 UnknownImport",
+    ),
+    (
+        "a.proto import public weak \"b.proto\";|b.proto ",
+        "a.proto:0: 8 Syntax",
+        "a.proto:0: 8 Syntax",
+    ),
+    (
+        "a.proto import weak public \"b.proto\";|b.proto ",
+        "a.proto:0: 8 Syntax",
+        "a.proto:0: 8 Syntax",
+    ),
+    (
+        "a.proto message weak { optional .weak weak = 1; }",
+        "{\"file\":[{\"messageType\":[{\"field\":[{\"jsonName\":\"weak\",\"label\":\"LABEL_OPTIONAL\",\"name\":\"weak\",\"number\":1,\"type\":\"TYPE_MESSAGE\",\"typeName\":\".weak\"}],\"name\":\"weak\"}],\"name\":\"a.proto\"}]}",
+        "{\"file\":[{\"messageType\":[{\"field\":[{\"jsonName\":\"weak\",\"label\":\"LABEL_OPTIONAL\",\"name\":\"weak\",\"number\":1,\"type\":\"TYPE_MESSAGE\",\"typeName\":\".weak\"}],\"name\":\"weak\"}],\"name\":\"a.proto\"}]}",
+    ),
+];
 
 /// Files, with the answers in the core language and as written.
 const ROWS: &[(&str, &str, &str)] = &[
@@ -283,14 +323,23 @@ const ROWS: &[(&str, &str, &str)] = &[
     ),
 ];
 
+fn expect_answers<R: AllocGlobal + Abort>(rt: &R, rows: &[(&str, &str, &str)]) {
+    for (texts, core, written) in rows {
+        let files = given_files(rt.alloc(), texts).expect(rt, "memory");
+        let found = answer_in(rt, Profile::Core, files).expect(rt, "memory");
+        expect_text(rt, found.as_str(), core);
+        let files = given_files(rt.alloc(), texts).expect(rt, "memory");
+        let found = answer_in(rt, Profile::AsWritten, files).expect(rt, "memory");
+        expect_text(rt, found.as_str(), written);
+    }
+}
+
+#[test]
+fn weak_imports_have_their_answers(rt: HostRuntime) {
+    expect_answers(&rt, WEAK_IMPORTS);
+}
+
 #[test]
 fn each_language_has_its_answer(rt: HostRuntime) {
-    for (texts, core, written) in ROWS {
-        let files = given_files(rt.alloc(), texts).expect(&rt, "memory");
-        let found = answer_in(&rt, Profile::Core, files).expect(&rt, "memory");
-        expect_text(&rt, found.as_str(), core);
-        let files = given_files(rt.alloc(), texts).expect(&rt, "memory");
-        let found = answer_in(&rt, Profile::AsWritten, files).expect(&rt, "memory");
-        expect_text(&rt, found.as_str(), written);
-    }
+    expect_answers(&rt, ROWS);
 }

@@ -13,9 +13,9 @@ pub use Rattle.proto_tree.proofs.WordLaws.{edits_keep_trees, edits_keep_trees_in
 pub use Rattle.proto_tree.specs.Answer.{IsOuter}
 pub use Rattle.proto_tree.specs.Classes.{fits, is_brace, is_text, is_word}
 pub use Rattle.proto_tree.specs.File.{enum_item_tree, enum_tree, field_tree, item_tree, member_tree, message_tree, method_by, method_item_tree, oneof_item_tree, oneof_tree, service_item_tree, service_tree, tree_of_file, trees}
-pub use Rattle.proto_tree.specs.Flat.{Fit, Mark, flat_all, flat_behind, flat_constant, flat_dotted, flat_field, flat_from, flat_header, flat_heading, flat_import, flat_map_field, flat_method_type, flat_number, flat_option, flat_package, flat_piece, flat_range, flat_range_end, flat_ranges, flat_reference, flat_reserved, flat_reserved_list, flat_separated, flat_setting, flat_settings, flat_signature, flat_signed, flat_statement, flat_type, flat_up_to, flat_value, flat_words, mark, name, one, only, text_mark, word}
+pub use Rattle.proto_tree.specs.Flat.{Fit, Mark, flat_all, flat_behind, flat_constant, flat_dotted, flat_field, flat_from, flat_header, flat_heading, flat_import, flat_map_field, flat_method_type, flat_number, flat_option, flat_package, flat_piece, flat_range, flat_range_end, flat_ranges, flat_reference, flat_reserved, flat_reserved_list, flat_separated, flat_setting, flat_settings, flat_signature, flat_signed, flat_statement, flat_type, flat_up_to, flat_value, flat_words, mark, name, one, only, text_mark, word, flat_modifier}
 pub use Rattle.proto_tree.specs.Laws.{HasStatement, Numbered, PutsWords, Suits}
-pub use Rattle.proto_tree.specs.Moved.{Move, move_behind, move_constant, move_header, move_heading, move_map_field, move_option, move_range, move_range_end, move_reference, move_reserved_list, move_separated, move_setting, move_settings, move_signature, move_signed, move_statement, move_tree, move_type, move_up_to, move_value, shift}
+pub use Rattle.proto_tree.specs.Moved.{Move, move_behind, move_constant, move_header, move_heading, move_map_field, move_option, move_range, move_range_end, move_reference, move_reserved_list, move_separated, move_setting, move_settings, move_signature, move_signed, move_statement, move_tree, move_type, move_up_to, move_value, shift, move_modifier}
 pub use Rattle.proto_tree.specs.Place.{IsShallow, IsTooDeep, open_after, open_from, open_in}
 pub use Rattle.proto_tree.specs.Reads.{Reads, ReadsIn, classed, classed_in, place_at}
 pub use Rattle.proto_tree.specs.References.{dotted, first_of, word_token}

@@ -6,7 +6,7 @@ use Rattle.proto_base.specs.declared.profile.Profile.TheVariants as profile
 use Rattle.proto_text.specs.declared.kind.TokenKind.{TokenKind}
 use Rattle.proto_text.specs.declared.kind.TokenKind.TheVariants.{Word, Number, Text, Punctuation}
 use Rattle.proto_text.proofs.Common.{Lexeme, colon_lexeme, lexeme_at, says, tokens_are_written, tokens_without_colon}
-use Rattle.proto_tree.specs.Common.{Class, Expected, Atom, CustomValue, Settings, code, fits, Fit, Mark, flat_all, flat_behind, flat_constant, flat_custom, flat_custom_value, flat_dotted, flat_extension_name, flat_extensions, flat_field, flat_from, flat_header, flat_heading, flat_import, flat_joined, flat_map_field, flat_method_type, flat_number, flat_option, flat_option_statement, flat_package, flat_range, flat_range_end, flat_ranges, flat_reference, flat_reserved, flat_reserved_list, flat_separated, flat_setting, flat_settings, flat_signature, flat_signed, flat_statement, flat_syntax, flat_type, flat_up_to, flat_value, flat_within, flat_words, inner_expected, last_expected, other_expected, fewer, only, open_after, open_from, IsShallow, Tree, End, Leaf, Block, flat, Listed, class_in, listed, marks, class_by, class_as, classes, classes_in, any_for, is_for, CoreTreesArePlain, CoreTreesAreWritten, TreesHaveTokens, one, word, name, text_mark, Custom}
+use Rattle.proto_tree.specs.Common.{Class, Expected, Atom, CustomValue, Settings, code, fits, Fit, Mark, flat_all, flat_behind, flat_constant, flat_custom, flat_custom_value, flat_dotted, flat_extension_name, flat_extensions, flat_field, flat_from, flat_header, flat_heading, flat_import, flat_joined, flat_map_field, flat_method_type, flat_number, flat_option, flat_option_statement, flat_package, flat_range, flat_range_end, flat_ranges, flat_reference, flat_reserved, flat_reserved_list, flat_separated, flat_setting, flat_settings, flat_signature, flat_signed, flat_statement, flat_syntax, flat_type, flat_up_to, flat_value, flat_within, flat_words, inner_expected, last_expected, other_expected, fewer, only, open_after, open_from, IsShallow, Tree, End, Leaf, Block, flat, Listed, class_in, listed, marks, class_by, class_as, classes, classes_in, any_for, is_for, CoreTreesArePlain, CoreTreesAreWritten, TreesHaveTokens, one, word, name, text_mark, Custom, CoreTreesHaveNoWeakImport, flat_modifier}
 use Rattle.proto_tree.specs.declared.class.Class.TheVariants as class
 use Rattle.proto_tree.specs.declared.class.Expected.TheVariants as want
 use Rattle.proto_tree.specs.declared.piece.Header.TheVariants as header
@@ -15,15 +15,25 @@ use Rattle.proto_tree.specs.declared.tree.Atom.TheVariants as atom
 use Rattle.proto_tree.specs.declared.tree.Constant.TheVariants as constant
 use Rattle.proto_tree.specs.declared.tree.CustomValue.TheVariants as custom_value
 use Rattle.proto_tree.specs.declared.tree.FieldType.TheVariants as field_type
+use Rattle.proto_tree.specs.declared.tree.Modifier.TheVariants as modifier
 use Rattle.proto_tree.specs.declared.tree.RangeEnd.TheVariants as range_end
 use Rattle.proto_tree.specs.declared.tree.ReservedList.TheVariants as reserved_list
 use Rattle.proto_tree.specs.declared.tree.Setting.TheVariants as setting
 
 -- ---- what the places of a tree want
 
--- no place wants a `(` alone, and one that wants a `:` is of a custom option
-record IsCore (ms : List Mark) : Type 0 where
-  parenthesis : any_for class.LeftParenthesis ms ≡ false
+-- a place that wants a token alone whose class is another as written: a `(`, or `weak`
+abbrev pub is_changed : Expected → Bool
+is_changed w = is_for class.LeftParenthesis w || is_for class.Weak w
+
+-- one of the places does
+abbrev pub any_changed : List Mark → Bool
+any_changed [] = false
+any_changed (m ∷ ms) = is_changed m.want || any_changed ms
+
+-- no place wants such a token alone, and one that wants a `:` is of a custom option
+pub record IsCore (ms : List Mark) : Type 0 where
+  pub unchanged : any_changed ms ≡ false
   colon : any_for class.NameParenthesis ms ≡ false → any_for class.Colon ms ≡ false
 
 true_not_false : true ≡ false → ⊥
@@ -40,21 +50,25 @@ any_append : (c : Class) (a b : List Mark) → any_for c (a ++ b) ≡ any_for c 
 any_append c [] b = refl
 any_append c (m ∷ a) b = ap (λ (x : Bool). is_for c m.want || x) (any_append c a b) ∙ sym (or_assoc (is_for c m.want) (any_for c a) (any_for c b))
 
+changed_append : (a b : List Mark) → any_changed (a ++ b) ≡ any_changed a || any_changed b
+changed_append [] b = refl
+changed_append (m ∷ a) b = ap (λ (x : Bool). is_changed m.want || x) (changed_append a b) ∙ sym (or_assoc (is_changed m.want) (any_changed a) (any_changed b))
+
 both_false : (a b : Bool) → a ≡ false → b ≡ false → a || b ≡ false
 both_false false b e f = f
 both_false true b e f = absurd (true_not_false e)
 
-first_false : (a b : Bool) → a || b ≡ false → a ≡ false
+pub first_false : (a b : Bool) → a || b ≡ false → a ≡ false
 first_false false b e = refl
 first_false true b e = absurd (true_not_false e)
 
-second_false : (a b : Bool) → a || b ≡ false → b ≡ false
+pub second_false : (a b : Bool) → a || b ≡ false → b ≡ false
 second_false false b e = e
 second_false true b e = absurd (true_not_false e)
 
 then : (a b : List Mark) → IsCore a → IsCore b → IsCore (a ++ b)
 then a b x y = record {
-  parenthesis = any_append class.LeftParenthesis a b ∙ both_false (any_for class.LeftParenthesis a) (any_for class.LeftParenthesis b) x.parenthesis y.parenthesis;
+  unchanged = changed_append a b ∙ both_false (any_changed a) (any_changed b) x.unchanged y.unchanged;
   colon = λ e.
       let none : any_for class.NameParenthesis a || any_for class.NameParenthesis b ≡ false = sym (any_append class.NameParenthesis a b) ∙ e in
       any_append class.Colon a b ∙ both_false (any_for class.Colon a) (any_for class.Colon b)
@@ -64,7 +78,7 @@ then a b x y = record {
 
 -- a place that wants neither
 abbrev is_new : Expected → Bool
-is_new w = is_for class.LeftParenthesis w || is_for class.Colon w
+is_new w = is_changed w || is_for class.Colon w
 
 or_none : (a : Bool) → a ≡ false → a || false ≡ false
 or_none false e = refl
@@ -72,12 +86,12 @@ or_none true e = absurd (true_not_false e)
 
 plain : (w : Expected) (i : ℕ) → is_new w ≡ false → IsCore (only w i)
 plain w i e = record {
-  parenthesis = or_none (is_for class.LeftParenthesis w) (first_false (is_for class.LeftParenthesis w) (is_for class.Colon w) e);
-  colon = λ h. or_none (is_for class.Colon w) (second_false (is_for class.LeftParenthesis w) (is_for class.Colon w) e);
+  unchanged = or_none (is_changed w) (first_false (is_changed w) (is_for class.Colon w) e);
+  colon = λ h. or_none (is_for class.Colon w) (second_false (is_changed w) (is_for class.Colon w) e);
 }
 
 none : IsCore []
-none = record { parenthesis = refl; colon = λ e. refl }
+none = record { unchanged = refl; colon = λ e. refl }
 
 abbrev AreCore : {A : Type 0} → (A → List Mark) → Type 0
 AreCore {A = A} f = (x : A) → IsCore (f x)
@@ -129,12 +143,12 @@ constant_core (constant.Word i) = plain want.Constant i refl
 constant_core (constant.Number n) = signed_core n
 constant_core (constant.Text t) = joined_core t
 
--- no `(` alone
+-- no place wants such a token alone
 abbrev HasNone : List Mark → Type 0
-HasNone ms = any_for class.LeftParenthesis ms ≡ false
+HasNone ms = any_changed ms ≡ false
 
 none_then : (a b : List Mark) → HasNone a → HasNone b → HasNone (a ++ b)
-none_then a b x y = any_append class.LeftParenthesis a b ∙ both_false (any_for class.LeftParenthesis a) (any_for class.LeftParenthesis b) x y
+none_then a b x y = changed_append a b ∙ both_false (any_changed a) (any_changed b) x y
 
 none_last : (n j : ℕ) → HasNone (only (last_expected n) j)
 none_last zero j = refl
@@ -157,7 +171,7 @@ none_within colon n (atom.Word i ∷ rest) j = none_then (only want.OptionName i
 none_within colon n (atom.Other i ∷ rest) j = none_then (only (other_expected colon) i) (flat_within false n rest j) (none_other colon i) (none_within false n rest j)
 
 none_value : (v : CustomValue) → HasNone (flat_custom_value v)
-none_value (custom_value.Constant c) = (constant_core c).parenthesis
+none_value (custom_value.Constant c) = (constant_core c).unchanged
 none_value (custom_value.Aggregate a) = none_then (one class.Open a.«open») (flat_within false 0 a.atoms a.close) refl (none_within false 0 a.atoms a.close)
 
 extension_name_core : AreCore flat_extension_name
@@ -168,9 +182,9 @@ plain_custom c =
     let path : List Mark = flat_all (flat_behind class.Dot (only want.OptionName)) c.path in
     let value : List Mark = one class.Equals c.equals ++ flat_custom_value c.value in
     none_then (one class.NameParenthesis c.«open») (flat_extension_name c.name ++ (one class.RightParenthesis c.close ++ (path ++ value))) refl
-    (none_then (flat_extension_name c.name) (one class.RightParenthesis c.close ++ (path ++ value)) (extension_name_core c.name).parenthesis
+    (none_then (flat_extension_name c.name) (one class.RightParenthesis c.close ++ (path ++ value)) (extension_name_core c.name).unchanged
     (none_then (one class.RightParenthesis c.close) (path ++ value) refl
-    (none_then path value (all_core (flat_behind class.Dot (only want.OptionName)) (behind_core class.Dot (only want.OptionName) refl (token want.OptionName refl)) c.path).parenthesis
+    (none_then path value (all_core (flat_behind class.Dot (only want.OptionName)) (behind_core class.Dot (only want.OptionName) refl (token want.OptionName refl)) c.path).unchanged
     (none_then (one class.Equals c.equals) (flat_custom_value c.value) refl (none_value c.value)))))
 
 -- it has a place for the `(` of an extension's name
@@ -178,7 +192,7 @@ custom_has : (c : Custom) → any_for class.NameParenthesis (flat_custom c) ≡ 
 custom_has c e = absurd (true_not_false e)
 
 custom_core : AreCore flat_custom
-custom_core c = record { parenthesis = plain_custom c; colon = custom_has c }
+custom_core c = record { unchanged = plain_custom c; colon = custom_has c }
 
 setting_core : AreCore flat_setting
 setting_core (setting.Plain p) =
@@ -198,14 +212,18 @@ option_core o =
     then (one class.Option o.keyword) (flat_setting o.setting ++ one class.Semicolon o.semicolon) (plain (want.One class.Option) o.keyword refl)
     (then (flat_setting o.setting) (one class.Semicolon o.semicolon) (setting_core o.setting) (plain (want.One class.Semicolon) o.semicolon refl))
 
+modifier_core : AreCore flat_modifier
+modifier_core (modifier.Public i) = plain (want.One class.Public) i refl
+modifier_core (modifier.Weak i) = plain (want.One class.ImportWeak) i refl
+
 import_core : AreCore flat_import
 import_core i =
-    then (one class.Import i.keyword) (flat_option (one class.Public) i.public ++ (text_mark i.path ++ one class.Semicolon i.semicolon)) (plain (want.One class.Import) i.keyword refl)
-    (then (flat_option (one class.Public) i.public) (text_mark i.path ++ one class.Semicolon i.semicolon) (maybe_core (one class.Public) (token (want.One class.Public) refl) i.public)
+    then (one class.Import i.keyword) (flat_option flat_modifier i.modifier ++ (text_mark i.path ++ one class.Semicolon i.semicolon)) (plain (want.One class.Import) i.keyword refl)
+    (then (flat_option flat_modifier i.modifier) (text_mark i.path ++ one class.Semicolon i.semicolon) (maybe_core flat_modifier modifier_core i.modifier)
     (then (text_mark i.path) (one class.Semicolon i.semicolon) (plain want.Text i.path refl) (plain (want.One class.Semicolon) i.semicolon refl)))
 
 syntax_core : AreCore flat_syntax
-syntax_core s = record { parenthesis = refl; colon = λ e. refl }
+syntax_core s = record { unchanged = refl; colon = λ e. refl }
 
 package_core : AreCore flat_package
 package_core p =
@@ -316,7 +334,7 @@ header_core (header.Service h) = heading_core class.Service refl h
 header_core (header.Method s) = signature_core s
 header_core (header.Extend e) = then (one class.Extend e.keyword) (flat_reference e.extendee) (plain (want.One class.Extend) e.keyword refl) (reference_core e.extendee)
 
-tree_core : (t : Tree) → IsCore (flat t)
+pub tree_core : (t : Tree) → IsCore (flat t)
 tree_core End = none
 tree_core (Leaf s rest) = then (flat_statement s) (flat rest) (statement_core s) (tree_core rest)
 tree_core (Block h i within j rest) =
@@ -325,7 +343,7 @@ tree_core (Block h i within j rest) =
     (then (flat within) (one class.Close j ++ flat rest) (tree_core within)
     (then (one class.Close j) (flat rest) (plain (want.One class.Close) j refl) (tree_core rest)))
 
--- ---- no class of the core language is that of an option's `(`
+-- ---- no class of the core language is that of an option's `(`, or that of `weak` behind `import`
 
 abbrev all_rows : (Class → Bool) → List Listed → Bool
 all_rows p [] = true
@@ -347,34 +365,52 @@ row_holds : (p : Class → Bool) (ks : List Listed) (c : Class) (w : List ℕ) �
 row_holds p [] c w h e = e
 row_holds p (k ∷ ks) c w h e = either_row p (bytes_eq w k.word) k.class (class_in ks c w) (first_true (p k.class) (all_rows p ks) h) (row_holds p ks c w (second_true (p k.class) (all_rows p ks) h) e)
 
-abbrev is_old : Class → Bool
-is_old c = not (code c == code class.NameParenthesis)
+abbrev is_other : Class → Class → Bool
+is_other x c = not (code c == code x)
 
-text_is_old : (b : Bool) → is_old (cond b class.ProtoText class.OtherText) ≡ true
-text_is_old true = refl
-text_is_old false = refl
+either_text : (p : Class → Bool) (b : Bool) → p class.ProtoText ≡ true → p class.OtherText ≡ true → p (cond b class.ProtoText class.OtherText) ≡ true
+either_text p true e f = e
+either_text p false e f = f
 
-class_is_old : (k : TokenKind) (w : List ℕ) → is_old (class_by k w) ≡ true
-class_is_old Word w = row_holds is_old listed class.Name w refl refl
-class_is_old Number w = refl
-class_is_old Text w = text_is_old (says w (codes "proto2") || says w (codes "proto3"))
-class_is_old Punctuation w = row_holds is_old marks class.Other w refl refl
+-- a test of each class that a token may have
+abbrev AllOf : (Class → Bool) → Type 0
+AllOf p = (all_rows p listed ≡ true) × (all_rows p marks ≡ true) × (p class.Name ≡ true) × (p class.Number ≡ true) × (p class.ProtoText ≡ true) × (p class.OtherText ≡ true) × (p class.Other ≡ true)
+
+class_holds : (p : Class → Bool) → AllOf p → (k : TokenKind) (w : List ℕ) → p (class_by k w) ≡ true
+class_holds p h Word w = row_holds p listed class.Name w h.0 h.2
+class_holds p h Number w = h.3
+class_holds p h Text w = either_text p (says w (codes "proto2") || says w (codes "proto3")) h.4 h.5
+class_holds p h Punctuation w = row_holds p marks class.Other w h.1 h.6
 
 not_true : (b : Bool) → not b ≡ true → b ≡ false
 not_true false e = refl
 not_true true e = absurd (false_not_true e)
 
-old_place : (w : Expected) (c : Class) → fits w c ≡ true → is_old c ≡ true → is_for class.NameParenthesis w ≡ false
-old_place (want.One d) c e h = subst (λ (n : ℕ). (n == code class.NameParenthesis) ≡ false) (sym (eqb-true (code d) (code c) e)) (not_true (code c == code class.NameParenthesis) h)
-old_place _ c e h = refl
+other_place : (x : Class) (w : Expected) (c : Class) → fits w c ≡ true → is_other x c ≡ true → is_for x w ≡ false
+other_place x (want.One d) c e h = subst (λ (n : ℕ). (n == code x) ≡ false) (sym (eqb-true (code d) (code c) e)) (not_true (code c == code x) h)
+other_place x want.Word c e h = refl
+other_place x want.Name c e h = refl
+other_place x want.OptionName c e h = refl
+other_place x want.Constant c e h = refl
+other_place x want.ValueName c e h = refl
+other_place x want.Label c e h = refl
+other_place x want.Text c e h = refl
+other_place x want.Atom c e h = refl
+other_place x want.Element c e h = refl
+other_place x want.Nothing c e h = refl
+other_place x want.Parenthesis c e h = refl
+other_place x want.Modifier c e h = refl
 
-core_is_plain : (n : ℕ) (ms : List Mark) (ls : List Lexeme) → Fit ms (classes n ls) → any_for class.NameParenthesis ms ≡ false
-core_is_plain n [] ls h = refl
-core_is_plain n (m ∷ ms) [] h = absurd h
-core_is_plain n (m ∷ ms) (l ∷ ls) h = both_false (is_for class.NameParenthesis m.want) (any_for class.NameParenthesis ms) (old_place m.want (class_by l.kind l.text) h.0 (class_is_old l.kind l.text)) (core_is_plain (suc n) ms ls h.2)
+no_place : (x : Class) → AllOf (is_other x) → (n : ℕ) (ms : List Mark) (ls : List Lexeme) → Fit ms (classes n ls) → any_for x ms ≡ false
+no_place x a n [] ls h = refl
+no_place x a n (m ∷ ms) [] h = absurd h
+no_place x a n (m ∷ ms) (l ∷ ls) h = both_false (is_for x m.want) (any_for x ms) (other_place x m.want (class_by l.kind l.text) h.0 (class_holds (is_other x) a l.kind l.text)) (no_place x a (suc n) ms ls h.2)
 
 pub core_trees_are_plain : CoreTreesArePlain
-core_trees_are_plain text tokens t r = core_is_plain 0 (flat t) (map (lexeme_at text) tokens) r.spells.fits
+core_trees_are_plain text tokens t r = no_place class.NameParenthesis (refl, refl, refl, refl, refl, refl, refl) 0 (flat t) (map (lexeme_at text) tokens) r.spells.fits
+
+pub core_trees_have_no_weak_import : CoreTreesHaveNoWeakImport
+core_trees_have_no_weak_import text tokens t r = no_place class.ImportWeak (refl, refl, refl, refl, refl, refl, refl) 0 (flat t) (map (lexeme_at text) tokens) r.spells.fits
 
 -- ---- no token is a `:`
 
@@ -405,18 +441,28 @@ parenthesis_fits want.Element e h = refl
 parenthesis_fits want.Parenthesis e h = refl
 parenthesis_fits _ e h = absurd (false_not_true h)
 
-still_fits : (w : Expected) (c : Class) → is_for class.LeftParenthesis w ≡ false → fits w c ≡ true → fits w (class_as profile.AsWritten c) ≡ true
-still_fits w class.LeftParenthesis e h = parenthesis_fits w e h
+weak_fits : (w : Expected) → is_for class.Weak w ≡ false → fits w class.Weak ≡ true → fits w class.ImportWeak ≡ true
+weak_fits (want.One d) e h = absurd (true_not_false (sym h ∙ e))
+weak_fits want.Word e h = refl
+weak_fits want.Name e h = refl
+weak_fits want.OptionName e h = refl
+weak_fits want.Constant e h = refl
+weak_fits want.ValueName e h = refl
+weak_fits _ e h = absurd (false_not_true h)
+
+pub still_fits : (w : Expected) (c : Class) → is_changed w ≡ false → fits w c ≡ true → fits w (class_as profile.AsWritten c) ≡ true
+still_fits w class.LeftParenthesis e h = parenthesis_fits w (first_false (is_for class.LeftParenthesis w) (is_for class.Weak w) e) h
+still_fits w class.Weak e h = weak_fits w (second_false (is_for class.LeftParenthesis w) (is_for class.Weak w) e) h
 still_fits w _ e h = h
 
-fits_as_written : (n : ℕ) (ms : List Mark) (ls : List Lexeme) → Fit ms (classes n ls) → any_for class.LeftParenthesis ms ≡ false → Fit ms (classes_in profile.AsWritten n ls)
+fits_as_written : (n : ℕ) (ms : List Mark) (ls : List Lexeme) → Fit ms (classes n ls) → any_changed ms ≡ false → Fit ms (classes_in profile.AsWritten n ls)
 fits_as_written n [] [] h e = tt
 fits_as_written n [] (l ∷ ls) h e = h
 fits_as_written n (m ∷ ms) [] h e = h
 fits_as_written n (m ∷ ms) (l ∷ ls) h e = (
-  still_fits m.want (class_by l.kind l.text) (first_false (is_for class.LeftParenthesis m.want) (any_for class.LeftParenthesis ms) e) h.0,
+  still_fits m.want (class_by l.kind l.text) (first_false (is_changed m.want) (any_changed ms) e) h.0,
   h.1,
-  fits_as_written (suc n) ms ls h.2 (second_false (is_for class.LeftParenthesis m.want) (any_for class.LeftParenthesis ms) e),
+  fits_as_written (suc n) ms ls h.2 (second_false (is_changed m.want) (any_changed ms) e),
 )
 
 opens_as_much : (d : ℕ) (c : Class) → open_after d (class_as profile.AsWritten c) ≡ open_after d c
@@ -440,6 +486,6 @@ core_trees_are_written text tokens t r =
     let ls = map (lexeme_at text) tokens in
     record {
       tokens_are = r.tokens_are;
-      spells = record { well_formed = r.spells.well_formed; fits = fits_as_written 0 (flat t) ls r.spells.fits (tree_core t).parenthesis };
+      spells = record { well_formed = r.spells.well_formed; fits = fits_as_written 0 (flat t) ls r.spells.fits (tree_core t).unchanged };
       shallow = as_shallow ls r.shallow;
     }

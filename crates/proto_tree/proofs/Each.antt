@@ -76,6 +76,8 @@ classes =
     ∷ class.Colon
     ∷ class.NameParenthesis
     ∷ class.Other
+    ∷ class.Weak
+    ∷ class.ImportWeak
     ∷ []
 
 abbrev pub each : (Class → Bool) → Bool
@@ -125,6 +127,8 @@ listed class.Minus = refl
 listed class.Colon = refl
 listed class.NameParenthesis = refl
 listed class.Other = refl
+listed class.Weak = refl
+listed class.ImportWeak = refl
 
 pub each_is : (p : Class → Bool) → each p ≡ true → (c : Class) → p c ≡ true
 each_is p e c = all_at p classes (code c) c (listed c) e

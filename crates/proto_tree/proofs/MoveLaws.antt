@@ -1,9 +1,11 @@
 -- A moved tree has the moved marks (for the crates above).
 use Rattle.std.proofs.Common.{◌≡◌, ℕ, suc, Bool, true, false, List, [], ◌∷◌, ◌++◌, map, Option, Some, None, refl, sym, ap, subst, ◌∙◌}
-use Rattle.proto_tree.specs.Common.{Class, Expected, Separated, FieldType, Atom, CustomValue, Setting, flat_aggregate, flat_within, flat_extension_name, flat_custom, flat_custom_value, flat_plain, fewer, inner_expected, other_expected, move_atom, move_aggregate, move_custom, move_custom_value, move_plain, Constant, Settings, RangeEnd, ReservedList, Statement, Header, Context, Mark, only, one, flat_option, flat_all, flat_behind, flat_from, flat_separated, flat_dotted, flat_words, flat_reference, flat_type, flat_signed, flat_joined, flat_constant, flat_setting, flat_settings, flat_option_statement, flat_syntax, flat_import, flat_package, flat_field, flat_map_field, flat_range_end, flat_up_to, flat_range, flat_ranges, flat_reserved_list, flat_reserved, flat_extensions, flat_value, flat_method_type, flat_signature, flat_statement, flat_extending, flat_header, Tree, End, Leaf, Block, flat, field_kind, option_kind, statement_kind, header_kind, allows, after, inside, IsWellFormed, Move, move_extending, move_option, move_behind, move_separated, move_reference, move_type, move_signed, move_joined, move_constant, move_setting, move_settings, move_option_statement, move_syntax, move_import, move_package, move_field, move_map_field, move_range_end, move_up_to, move_range, move_reserved_list, move_reserved, move_extensions, move_value, move_method_type, move_signature, move_statement, move_header, move_tree, shift}
+use Rattle.proto_tree.specs.Common.{Class, Expected, Separated, FieldType, Atom, CustomValue, Setting, flat_aggregate, flat_within, flat_extension_name, flat_custom, flat_custom_value, flat_plain, fewer, inner_expected, other_expected, move_atom, move_aggregate, move_custom, move_custom_value, move_plain, Constant, Settings, RangeEnd, ReservedList, Statement, Header, Context, Mark, only, one, flat_option, flat_all, flat_behind, flat_from, flat_separated, flat_dotted, flat_words, flat_reference, flat_type, flat_signed, flat_joined, flat_constant, flat_setting, flat_settings, flat_option_statement, flat_syntax, flat_import, flat_package, flat_field, flat_map_field, flat_range_end, flat_up_to, flat_range, flat_ranges, flat_reserved_list, flat_reserved, flat_extensions, flat_value, flat_method_type, flat_signature, flat_statement, flat_extending, flat_header, Tree, End, Leaf, Block, flat, field_kind, option_kind, statement_kind, header_kind, allows, after, inside, IsWellFormed, Move, move_extending, move_option, move_behind, move_separated, move_reference, move_type, move_signed, move_joined, move_constant, move_setting, move_settings, move_option_statement, move_syntax, move_import, move_package, move_field, move_map_field, move_range_end, move_up_to, move_range, move_reserved_list, move_reserved, move_extensions, move_value, move_method_type, move_signature, move_statement, move_header, move_tree, shift, flat_modifier, move_modifier}
 use Rattle.proto_tree.specs.declared.class.Class.TheVariants as class
 use Rattle.proto_tree.specs.declared.class.Expected.TheVariants as want
 use Rattle.proto_tree.specs.declared.tree.FieldType.TheVariants as field_type
+use Rattle.proto_tree.specs.declared.tree.Modifier.{Modifier}
+use Rattle.proto_tree.specs.declared.tree.Modifier.TheVariants as modifier
 use Rattle.proto_tree.specs.declared.tree.Constant.TheVariants as constant
 use Rattle.proto_tree.specs.declared.tree.Atom.TheVariants as atom
 use Rattle.proto_tree.specs.declared.tree.CustomValue.TheVariants as custom_value
@@ -135,9 +137,16 @@ module _ (g : Move) where
   syntax_statement : IsMoved flat_syntax (move_syntax g)
   syntax_statement = record { law = λ s. refl }
 
+  modifier_law : (x : Modifier) → flat_modifier (move_modifier g x) ≡ map (shift g) (flat_modifier x)
+  modifier_law (modifier.Public i) = refl
+  modifier_law (modifier.Weak i) = refl
+
+  modifier_moved : IsMoved flat_modifier (move_modifier g)
+  modifier_moved = record { law = modifier_law }
+
   import_statement : IsMoved flat_import (move_import g)
-  import_statement = seen_moved flat_import (move_import g) (λ i. (i.keyword, (i.public, (i.path, i.semicolon)))) (λ i. refl) (λ i. refl)
-      (then_moved (the class.Import) (then_moved (maybe (the class.Public)) (then_moved (tok want.Text) (the class.Semicolon))))
+  import_statement = seen_moved flat_import (move_import g) (λ i. (i.keyword, (i.modifier, (i.path, i.semicolon)))) (λ i. refl) (λ i. refl)
+      (then_moved (the class.Import) (then_moved (maybe modifier_moved) (then_moved (tok want.Text) (the class.Semicolon))))
 
   package_statement : IsMoved flat_package (move_package g)
   package_statement = seen_moved flat_package (move_package g) (λ p. (p.keyword, (p.name, p.semicolon))) (λ p. refl) (λ p. refl) (then_moved (the class.Package) (then_moved package_name (the class.Semicolon)))

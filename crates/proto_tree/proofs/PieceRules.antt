@@ -1,6 +1,6 @@
 -- Pieces, and the readers that read exactly these.
 use Rattle.std.proofs.Common.{◌≡◌, ℕ, Bool, true, false, List, [], ◌∷◌, ◌++◌, Option, Some, None, refl, sym, ap, subst, ◌∙◌, ◌⊎◌, inl, inr, ◌||◌, is_some, append_assoc}
-use Rattle.proto_tree.specs.Common.{Class, Expected, Lexeme, Field, Signed, Signature, Heading, Extending, Header, Piece, fits, is_brace, Mark, mark, one, only, name, text_mark, Fit, flat_extensions, flat_field, flat_import, flat_map_field, flat_number, flat_option, flat_option_statement, flat_setting, flat_package, flat_ranges, flat_reserved, flat_reserved_list, flat_separated, flat_settings, flat_signed, flat_syntax, flat_type, flat_value, Settings, flat_signature, flat_extending, flat_heading, flat_header, flat_piece, Reader, ◌then◌, made, token, starts, either, extend_at, heading_at, block_start, stated, syntax_at, import_at, package_at, option_at, field_at, map_field_at, reserved_at, signed_at, extensions_at, value_at, signature_at, ending_at, method_piece, method_at, reference_at, extending_at, inner_piece_at, enum_piece_at}
+use Rattle.proto_tree.specs.Common.{Class, Expected, Lexeme, Field, Signed, Signature, Heading, Extending, Header, Piece, fits, is_brace, Mark, mark, one, only, name, text_mark, Fit, flat_extensions, flat_field, flat_import, flat_map_field, flat_number, flat_option, flat_option_statement, flat_setting, flat_package, flat_ranges, flat_reserved, flat_reserved_list, flat_separated, flat_settings, flat_signed, flat_syntax, flat_type, flat_value, Settings, flat_signature, flat_extending, flat_heading, flat_header, flat_piece, Reader, ◌then◌, made, token, starts, either, extend_at, heading_at, block_start, stated, syntax_at, import_at, package_at, option_at, field_at, map_field_at, reserved_at, signed_at, extensions_at, value_at, signature_at, ending_at, method_piece, method_at, reference_at, extending_at, inner_piece_at, enum_piece_at, flat_modifier}
 use Rattle.proto_tree.specs.declared.class.Class.TheVariants as class
 use Rattle.proto_tree.specs.declared.class.Expected.TheVariants as want
 use Rattle.proto_tree.specs.declared.tree.Syntax.{Syntax}
@@ -246,7 +246,7 @@ syntax_ends : (x : Syntax) → Ends (flat_syntax x)
 syntax_ends x = ends_behind (one class.Syntax x.keyword) (one class.Equals x.equals ++ (one class.ProtoText x.text ++ one class.Semicolon x.semicolon)) (ends_behind (one class.Equals x.equals) (one class.ProtoText x.text ++ one class.Semicolon x.semicolon) (ends_behind (one class.ProtoText x.text) (one class.Semicolon x.semicolon) (semicolon_ends x.semicolon)))
 
 import_ends : (x : Import) → Ends (flat_import x)
-import_ends x = ends_behind (one class.Import x.keyword) (flat_option (one class.Public) x.public ++ (text_mark x.path ++ one class.Semicolon x.semicolon)) (ends_behind (flat_option (one class.Public) x.public) (text_mark x.path ++ one class.Semicolon x.semicolon) (ends_behind (text_mark x.path) (one class.Semicolon x.semicolon) (semicolon_ends x.semicolon)))
+import_ends x = ends_behind (one class.Import x.keyword) (flat_option flat_modifier x.modifier ++ (text_mark x.path ++ one class.Semicolon x.semicolon)) (ends_behind (flat_option flat_modifier x.modifier) (text_mark x.path ++ one class.Semicolon x.semicolon) (ends_behind (text_mark x.path) (one class.Semicolon x.semicolon) (semicolon_ends x.semicolon)))
 
 package_ends : (x : Package) → Ends (flat_package x)
 package_ends x = ends_behind (one class.Package x.keyword) (flat_separated class.Dot name x.name ++ one class.Semicolon x.semicolon) (ends_behind (flat_separated class.Dot name x.name) (one class.Semicolon x.semicolon) (semicolon_ends x.semicolon))

@@ -1,10 +1,12 @@
 -- Each reader reads exactly what is flattened.
 use Rattle.std.proofs.Common.{◌≡◌, ℕ, Bool, true, false, List, ◌++◌, Option, Some, None, refl, subst, ◌⊎◌, inl, inr}
-use Rattle.proto_tree.specs.Common.{Class, Separated, FieldType, CustomValue, Setting, flat_behind, flat_extension_name, flat_custom, flat_custom_value, flat_plain, behind_at, extension_name_at, custom_at, custom_value_at, plain_at, Constant, Signed, RangeEnd, ReservedList, Settings, fits, is_brace, Mark, only, one, word, name, text_mark, flat_from, flat_separated, flat_dotted, flat_reference, flat_type, flat_number, flat_signed, flat_joined, flat_constant, flat_setting, flat_settings, flat_option, flat_option_statement, flat_syntax, flat_import, flat_package, flat_field, flat_map_field, flat_range_end, flat_up_to, flat_range, flat_ranges, flat_reserved_list, flat_reserved, flat_extensions, flat_value, flat_method_type, flat_signature, Reader, ◌then◌, made, token, either, dotted_at, named_at, package_name_at, reference_at, type_at, signed_at, joined_at, constant_at, setting_at, settings_at, option_at, syntax_at, import_at, package_at, field_at, map_field_at, range_end_at, up_to_at, range_at, ranges_at, reserved_list_at, reserved_at, extensions_at, value_at, method_type_at, signature_at, maybe_settings, numbered_at}
+use Rattle.proto_tree.specs.Common.{Class, Separated, FieldType, CustomValue, Setting, flat_behind, flat_extension_name, flat_custom, flat_custom_value, flat_plain, behind_at, extension_name_at, custom_at, custom_value_at, plain_at, Constant, Signed, RangeEnd, ReservedList, Settings, fits, is_brace, Mark, only, one, word, name, text_mark, flat_from, flat_separated, flat_dotted, flat_reference, flat_type, flat_number, flat_signed, flat_joined, flat_constant, flat_setting, flat_settings, flat_option, flat_option_statement, flat_syntax, flat_import, flat_package, flat_field, flat_map_field, flat_range_end, flat_up_to, flat_range, flat_ranges, flat_reserved_list, flat_reserved, flat_extensions, flat_value, flat_method_type, flat_signature, Reader, ◌then◌, made, token, either, dotted_at, named_at, package_name_at, reference_at, type_at, signed_at, joined_at, constant_at, setting_at, settings_at, option_at, syntax_at, import_at, package_at, field_at, map_field_at, range_end_at, up_to_at, range_at, ranges_at, reserved_list_at, reserved_at, extensions_at, value_at, method_type_at, signature_at, maybe_settings, numbered_at, flat_modifier, modifier_at}
 use Rattle.proto_tree.specs.declared.class.Class.TheVariants as class
 use Rattle.proto_tree.specs.declared.class.Expected.TheVariants as want
 use Rattle.proto_tree.specs.declared.tree.Reference.{Reference}
 use Rattle.proto_tree.specs.declared.tree.FieldType.TheVariants as field_type
+use Rattle.proto_tree.specs.declared.tree.Modifier.{Modifier}
+use Rattle.proto_tree.specs.declared.tree.Modifier.TheVariants as modifier
 use Rattle.proto_tree.specs.declared.tree.Constant.TheVariants as constant
 use Rattle.proto_tree.specs.declared.tree.CustomValue.TheVariants as custom_value
 use Rattle.proto_tree.specs.declared.tree.Setting.TheVariants as setting
@@ -183,11 +185,19 @@ syntax-exact = renamed flat_syntax
     (λ x. record { keyword = x.0; equals = x.1.0; text = x.1.1.0; semicolon = x.1.1.1 }) (λ f. (f.keyword, (f.equals, (f.text, f.semicolon)))) (λ f. refl)
     (token_then (the class.Syntax refl) (token_then (the class.Equals refl) (token_then (the class.ProtoText refl) the_semicolon)))
 
+modifier_made : (x : Modifier) → IsMade modifier.Public modifier.Weak x
+modifier_made (modifier.Public i) = Left i
+modifier_made (modifier.Weak i) = Right i
+
+modifier-exact : IsExact is_brace true (any_of (is class.Public) (is class.ImportWeak)) (any_of never never) flat_modifier modifier_at
+unfolding modifier_at
+modifier-exact = one_of (want.One class.Public) flat_modifier modifier.Public modifier.Weak modifier_made (the class.Public refl) (the class.ImportWeak refl) refl refl
+
 pub import-exact : IsExact is_brace true (is class.Import) never flat_import import_at
 unfolding import_at
 import-exact = renamed flat_import
-    (λ x. record { keyword = x.0; public = x.1.0; path = x.1.1.0; semicolon = x.1.1.1 }) (λ f. (f.keyword, (f.public, (f.path, f.semicolon)))) (λ f. refl)
-    (token_then (the class.Import refl) (or_next (if_any (want.One class.Public) (the class.Public refl) refl) (token_then a_text the_semicolon) refl))
+    (λ x. record { keyword = x.0; modifier = x.1.0; path = x.1.1.0; semicolon = x.1.1.1 }) (λ f. (f.keyword, (f.modifier, (f.path, f.semicolon)))) (λ f. refl)
+    (token_then (the class.Import refl) (or_next (if_any want.Modifier modifier-exact refl) (token_then a_text the_semicolon) refl))
 
 pub package-exact : IsExact is_brace true (is class.Package) never flat_package package_at
 unfolding package_at

@@ -8,6 +8,7 @@ use Rattle.proto_tree.specs.Common.{Class, Expected, code, is_element, is_word, 
 use Rattle.proto_base.specs.declared.profile.Profile.TheVariants as profile
 use Rattle.proto_tree.specs.declared.class.Class.TheVariants as class
 use Rattle.proto_tree.specs.declared.class.Expected.TheVariants as want
+use Rattle.proto_tree.proofs.CoreTrees.{any_changed, first_false, is_changed, second_false, still_fits, tree_core}
 use Rattle.proto_tree.proofs.Each.{each, each_is}
 
 -- ---- the classes of words
@@ -71,6 +72,11 @@ label_is_word class.Required e = refl
 label_is_word class.Repeated e = refl
 label_is_word _ e = absurd cc
 
+modifier_is_word : (c : Class) → fits want.Modifier c ≡ true → is_word c ≡ true
+modifier_is_word class.Public e = refl
+modifier_is_word class.ImportWeak e = refl
+modifier_is_word _ e = absurd cc
+
 -- what stands between the braces of a value, and is no word
 abbrev is_no_element : Class → Bool
 is_no_element c = cond (is_element c) (is_no_word c) true
@@ -122,6 +128,7 @@ place_of_word want.Atom c d e f h = absurd (element_no_word c (atom_is_element c
 place_of_word want.Element c d e f h = absurd (element_no_word c e h)
 place_of_word want.Nothing c d e f h = absurd cc
 place_of_word want.Parenthesis c d e f h = absurd (parenthesis_no_word c e h)
+place_of_word want.Modifier c d e f h = modifier_is_word d f
 
 -- ---- the tree
 
@@ -131,24 +138,24 @@ class_as_word profile.AsWritten class.LeftParenthesis = refl
 class_as_word profile.AsWritten _ = refl
 class_as_word profile.Core c = refl
 
-class_as_is : (p : Profile) (c : Class) → is_word c ≡ true → class_as p c ≡ c
-class_as_is profile.AsWritten class.LeftParenthesis e = absurd cc
-class_as_is profile.AsWritten _ e = refl
-class_as_is profile.Core c e = refl
+-- what fits a place fits it in each language, where that does not want a token whose class is another as written
+fits_in : (p : Profile) (w : Expected) (c : Class) → is_changed w ≡ false → fits w c ≡ true → fits w (class_as p c) ≡ true
+fits_in profile.AsWritten w c e h = still_fits w c e h
+fits_in profile.Core w c e h = h
 
 kind_there : (p : Profile) (c : Change) (n : ℕ) (m : Mark) (l : Lexeme) (w : List ℕ) → ((w : List ℕ) → c m.at ≡ Some w → fits m.want (class_by Word w) ≡ true) → n ≡ m.at → c n ≡ Some w → fits m.want (class_as p (class_by l.kind l.text)) ≡ true → l.kind ≡ Word
 kind_there p c n m l w suits at e fit =
     words_only l.kind l.text (sym (class_as_word p (class_by l.kind l.text)) ∙ place_of_word m.want (class_by Word w) (class_as p (class_by l.kind l.text)) (suits w (ap c (sym at) ∙ e)) fit (word_is_word w))
 
-fits_words : (p : Profile) (c : Change) (n : ℕ) (ms : List Mark) (ls : List Lexeme) → Suits c ms → Fit ms (classes_in p n ls) → Fit ms (classes_in p n (changed c n ls))
-fits_words p c n [] [] g h = tt
-fits_words p c n [] (l ∷ ls) g h = absurd h
-fits_words p c n (m ∷ ms) [] g h = absurd h
-fits_words p c n (m ∷ ms) (l ∷ ls) g h = (by (c n) refl, h.1, fits_words p c (suc n) ms ls g.1 h.2)
+fits_words : (p : Profile) (c : Change) (n : ℕ) (ms : List Mark) (ls : List Lexeme) → any_changed ms ≡ false → Suits c ms → Fit ms (classes_in p n ls) → Fit ms (classes_in p n (changed c n ls))
+fits_words p c n [] [] e g h = tt
+fits_words p c n [] (l ∷ ls) e g h = absurd h
+fits_words p c n (m ∷ ms) [] e g h = absurd h
+fits_words p c n (m ∷ ms) (l ∷ ls) u g h = (by (c n) refl, h.1, fits_words p c (suc n) ms ls (second_false (is_changed m.want) (any_changed ms) u) g.1 h.2)
   where
     by : (o : Option (List ℕ)) → c n ≡ o → fits m.want (class_as p (class_by l.kind (or_word o l.text))) ≡ true
     by None e = h.0
-    by (Some v) e = subst (λ (k : TokenKind). fits m.want (class_as p (class_by k v)) ≡ true) (sym (kind_there p c n m l v g.0 h.1 e h.0)) (subst (λ (k : Class). fits m.want k ≡ true) (sym (class_as_is p (class_by Word v) (word_is_word v))) (g.0 v (ap c (sym h.1) ∙ e)))
+    by (Some v) e = subst (λ (k : TokenKind). fits m.want (class_as p (class_by k v)) ≡ true) (sym (kind_there p c n m l v g.0 h.1 e h.0)) (fits_in p m.want (class_by Word v) (first_false (is_changed m.want) (any_changed ms) u) (g.0 v (ap c (sym h.1) ∙ e)))
 
 are_words : (p : Profile) (c : Change) → PutsWords c → (n : ℕ) (ms : List Mark) (ls : List Lexeme) → Suits c ms → Fit ms (classes_in p n ls) → AreWords c n ls
 are_words p c run n [] [] g h = tt
@@ -182,7 +189,7 @@ same_length p c n (l ∷ ls) = ap suc (same_length p c (suc n) ls)
 
 pub words_keep_trees_in : (p : Profile) → WordsKeepTreesIn p
 words_keep_trees_in p c t ls g h = (
-  record { well_formed = h.well_formed; fits = fits_words p c 0 (flat t) ls g h.fits },
+  record { well_formed = h.well_formed; fits = fits_words p c 0 (flat t) ls (tree_core t).unchanged g h.fits },
   λ s k lt. subst (λ (x : ℕ). x ≤ 32) (sym (open_same p c 0 0 k (flat t) ls g h.fits)) (s k (omega (arith, lt, same_length p c 0 ls))),
 )
 

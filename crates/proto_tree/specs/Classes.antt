@@ -50,6 +50,8 @@ code class.Minus = 39
 code class.Colon = 40
 code class.NameParenthesis = 41
 code class.Other = 42
+code class.Weak = 43
+code class.ImportWeak = 44
 
 -- a word, whether listed or not
 abbrev pub is_word : Class → Bool
@@ -99,6 +101,12 @@ is_parenthesis class.LeftParenthesis = true
 is_parenthesis class.NameParenthesis = true
 is_parenthesis _ = false
 
+-- what may stand behind `import`: `public`, or `weak` where it may
+abbrev pub is_modifier : Class → Bool
+is_modifier class.Public = true
+is_modifier class.ImportWeak = true
+is_modifier _ = false
+
 -- a token of a value in braces that is no word, no brace and no `:`, as it may stand behind a `:`
 abbrev pub is_element : Class → Bool
 is_element class.Open = false
@@ -125,6 +133,7 @@ fits want.Atom c = is_atom c
 fits want.Element c = is_element c
 fits want.Nothing c = false
 fits want.Parenthesis c = is_parenthesis c
+fits want.Modifier c = is_modifier c
 
 -- a brace, `{` or `}`
 abbrev pub is_brace : Class → Bool

@@ -41,6 +41,8 @@ use Rattle.proto_tree.specs.declared.tree.Reserved.{Reserved}
 use Rattle.proto_tree.specs.declared.tree.Extensions.{Extensions}
 use Rattle.proto_tree.specs.declared.tree.Value.{Value}
 use Rattle.proto_tree.specs.declared.tree.MethodType.{MethodType}
+use Rattle.proto_tree.specs.declared.tree.Modifier.{Modifier}
+use Rattle.proto_tree.specs.declared.tree.Modifier.TheVariants as modifier
 use Rattle.proto_tree.specs.declared.tree.Signature.{Signature}
 use Rattle.proto_tree.specs.declared.piece.Statement.{Statement}
 use Rattle.proto_tree.specs.declared.piece.Statement.TheVariants as statement
@@ -236,11 +238,16 @@ flat_syntax s =
     ++ (one class.Equals s.equals
     ++ (one class.ProtoText s.text ++ one class.Semicolon s.semicolon))
 
--- an import: `import`, `public` where it is there, the string of a path, and `;`
+-- what stands behind `import`
+abbrev pub flat_modifier : Modifier → List Mark
+flat_modifier (modifier.Public i) = one class.Public i
+flat_modifier (modifier.Weak i) = one class.ImportWeak i
+
+-- an import: `import`, `public` or `weak` where it is there, the string of a path, and `;`
 abbrev pub flat_import : Import → List Mark
 flat_import i =
     one class.Import i.keyword
-    ++ (flat_option (one class.Public) i.public
+    ++ (flat_option flat_modifier i.modifier
     ++ (text_mark i.path ++ one class.Semicolon i.semicolon))
 
 -- a package statement: `package`, words joined by dots, and `;`

@@ -214,6 +214,7 @@ is_for c want.Atom = false
 is_for c want.Element = false
 is_for c want.Nothing = false
 is_for c want.Parenthesis = false
+is_for c want.Modifier = false
 
 -- one of the places does
 abbrev pub any_for : Class → List Mark → Bool
@@ -226,6 +227,12 @@ abbrev pub CoreTreesArePlain : Type 0
 CoreTreesArePlain =
     (text : Text) (tokens : List Token) (t : Tree) → Reads text tokens t
     → any_for class.NameParenthesis (flat t) ≡ false
+
+-- Nor has it a weak import: `weak` behind `import` is of a class of its own, too.
+abbrev pub CoreTreesHaveNoWeakImport : Type 0
+CoreTreesHaveNoWeakImport =
+    (text : Text) (tokens : List Token) (t : Tree) → Reads text tokens t
+    → any_for class.ImportWeak (flat t) ≡ false
 
 -- A text of which a tree is read in a language has tokens of it; so in the core language no `:`.
 abbrev pub TreesHaveTokens : Type 0

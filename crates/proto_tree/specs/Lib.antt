@@ -4,6 +4,7 @@ pub mod Common
 pub mod File
 pub mod Flat
 pub mod Laws
+pub mod Modifiers
 pub mod Moved
 pub mod Place
 pub mod Reading

@@ -35,6 +35,8 @@ use Rattle.proto_tree.specs.declared.tree.Reserved.{Reserved}
 use Rattle.proto_tree.specs.declared.tree.Extensions.{Extensions}
 use Rattle.proto_tree.specs.declared.tree.Value.{Value}
 use Rattle.proto_tree.specs.declared.tree.MethodType.{MethodType}
+use Rattle.proto_tree.specs.declared.tree.Modifier.{Modifier}
+use Rattle.proto_tree.specs.declared.tree.Modifier.TheVariants as modifier
 use Rattle.proto_tree.specs.declared.tree.Signature.{Signature}
 use Rattle.proto_tree.specs.declared.piece.Statement.{Statement}
 use Rattle.proto_tree.specs.declared.piece.Statement.TheVariants as statement
@@ -155,11 +157,16 @@ move_syntax g s = record {
   semicolon = g s.semicolon;
 }
 
+-- what stands behind `import`, moved
+abbrev pub move_modifier : Move → Modifier → Modifier
+move_modifier g (modifier.Public i) = modifier.Public (g i)
+move_modifier g (modifier.Weak i) = modifier.Weak (g i)
+
 -- an import, moved
 abbrev pub move_import : Move → Import → Import
 move_import g i = record {
   keyword = g i.keyword;
-  public = move_option g i.public;
+  modifier = move_option (move_modifier g) i.modifier;
   path = g i.path;
   semicolon = g i.semicolon;
 }

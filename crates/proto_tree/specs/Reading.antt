@@ -42,6 +42,8 @@ use Rattle.proto_tree.specs.declared.tree.Reserved.{Reserved}
 use Rattle.proto_tree.specs.declared.tree.Extensions.{Extensions}
 use Rattle.proto_tree.specs.declared.tree.Value.{Value}
 use Rattle.proto_tree.specs.declared.tree.MethodType.{MethodType}
+use Rattle.proto_tree.specs.declared.tree.Modifier.{Modifier}
+use Rattle.proto_tree.specs.declared.tree.Modifier.TheVariants as modifier
 use Rattle.proto_tree.specs.declared.tree.Signature.{Signature}
 use Rattle.proto_tree.specs.declared.piece.Statement.{Statement}
 use Rattle.proto_tree.specs.declared.piece.Statement.TheVariants as statement
@@ -275,12 +277,18 @@ syntax_at = made
     then one_token class.ProtoText
     then one_token class.Semicolon)
 
--- reads an import: `import`, `public` where it is there, the string of a path, and `;`
+-- reads what stands behind `import`: `public`, or `weak` where it may
+unfoldable pub modifier_at : Reader Modifier
+modifier_at = either (want.One class.Public)
+    (made modifier.Public (one_token class.Public))
+    (made modifier.Weak (one_token class.ImportWeak))
+
+-- reads an import: `import`, `public` or `weak` where it is there, the string of a path, and `;`
 unfoldable pub import_at : Reader Import
 import_at = made
-    (λ x. record { keyword = x.0; public = x.1.0; path = x.1.1.0; semicolon = x.1.1.1 })
+    (λ x. record { keyword = x.0; modifier = x.1.0; path = x.1.1.0; semicolon = x.1.1.1 })
     (one_token class.Import
-    then maybe_token (want.One class.Public)
+    then maybe want.Modifier modifier_at
     then token want.Text
     then one_token class.Semicolon)
 

@@ -38,7 +38,7 @@ abbrev pub listed : List Listed
 listed =
     row (codes "syntax") class.Syntax
     ∷ row (codes "import") class.Import
-    ∷ row (codes "weak") class.OtherListed
+    ∷ row (codes "weak") class.Weak
     ∷ row (codes "public") class.Public
     ∷ row (codes "package") class.Package
     ∷ row (codes "option") class.Option
@@ -111,10 +111,12 @@ class_by Punctuation w = class_in marks class.Other w
 abbrev pub is_listed : List ℕ → Bool
 is_listed w = not (fits (want.One class.Name) (class_by Word w))
 
--- the class of a token in a language: as written a `(` may stand before the name of an option, too
+-- the class of a token in a language: as written a `(` may stand before the name of an option, too,
+-- and `weak` behind `import`
 abbrev pub class_as : Profile → Class → Class
 class_as profile.Core c = c
 class_as profile.AsWritten class.LeftParenthesis = class.NameParenthesis
+class_as profile.AsWritten class.Weak = class.ImportWeak
 class_as profile.AsWritten c = c
 
 -- the tokens from the n-th on as the grammar of the language sees them

@@ -1,7 +1,7 @@
 //! Tokens as the grammar sees them.
 
 ghost use Rattle.std.specs.Prelude.{◌≡◌};
-ghost use Rattle.proto_tree.specs.Classes.{is_word as word, is_value_name as value_name, is_label as label, is_text as text, is_element as element, is_atom as atom, is_parenthesis as parenthesis, fits};
+ghost use Rattle.proto_tree.specs.Classes.{is_word as word, is_value_name as value_name, is_label as label, is_text as text, is_element as element, is_atom as atom, is_parenthesis as parenthesis, is_modifier as modifier, fits};
 
 /// What the grammar knows of a token.
 #[derive(Clone, Copy)]
@@ -57,6 +57,10 @@ pub enum Class {
     NameParenthesis,
     /// No token of a text.
     Other,
+    /// The word `weak`.
+    Weak,
+    /// The word `weak` where it may stand behind `import`, too.
+    ImportWeak,
 }
 
 /// A token: its class and its index.
@@ -90,6 +94,8 @@ pub enum Expected {
     Nothing,
     /// `(`
     Parenthesis,
+    /// What may stand behind `import`: `public`, or `weak` where it may.
+    Modifier,
 }
 
 impl Class {
@@ -143,6 +149,15 @@ impl Class {
         }
     }
 
+    fn is_modifier(self) -> bool
+        ensures { result ≡ modifier self }
+    {
+        match self {
+            Class::Public | Class::ImportWeak => true,
+            _ => false,
+        }
+    }
+
     fn is_element(self) -> bool
         ensures { result ≡ element self }
     {
@@ -178,6 +193,7 @@ impl Expected {
             Expected::Element => class.is_element(),
             Expected::Nothing => false,
             Expected::Parenthesis => class.is_parenthesis(),
+            Expected::Modifier => class.is_modifier(),
         }
     }
 }

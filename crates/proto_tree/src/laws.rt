@@ -1,7 +1,7 @@
 //! Laws of trees, for the layers above. None of these does anything.
 
 ghost use Rattle.proto_base.specs.declared.profile.Profile.{Profile};
-ghost use Rattle.proto_tree.specs.Laws.{CoreTreesArePlain, CoreTreesAreWritten, TreesHaveTokens, OneTree, OneTreeIn, OneFault, OneFaultIn, NoFaultWithTree, NoFaultWithTreeIn, WordsKeepTrees, WordsKeepTreesIn, WordsComeForWords, WordsComeForWordsIn, EditsKeepTrees, EditsKeepTreesIn, TreesAreNumbered, TreesAreNumberedIn, OneMark, OneMarkIn, MarksFit, MarksFitIn, EachTokenIsMarked, EachTokenIsMarkedIn, WordsStandApart, StatementsHaveMarks, HeadersHaveMarks, WordsHaveWordClasses};
+ghost use Rattle.proto_tree.specs.Laws.{CoreTreesArePlain, CoreTreesAreWritten, CoreTreesHaveNoWeakImport, TreesHaveTokens, OneTree, OneTreeIn, OneFault, OneFaultIn, NoFaultWithTree, NoFaultWithTreeIn, WordsKeepTrees, WordsKeepTreesIn, WordsComeForWords, WordsComeForWordsIn, EditsKeepTrees, EditsKeepTreesIn, TreesAreNumbered, TreesAreNumberedIn, OneMark, OneMarkIn, MarksFit, MarksFitIn, EachTokenIsMarked, EachTokenIsMarkedIn, WordsStandApart, StatementsHaveMarks, HeadersHaveMarks, WordsHaveWordClasses};
 ghost use Rattle.proto_tree.specs.Replaced.{StatementsAreReplaced, StatementsAreReplacedIn};
 ghost use Rattle.proto_tree.specs.Roles.{RolesAreOfTokens, RolesAreOfTokensIn, RolesAreOne, RolesAreOneIn, TokensHaveRoles, TokensHaveRolesIn};
 
@@ -73,10 +73,11 @@ pub fn words_have_word_classes()
     ensures { WordsHaveWordClasses }
 {}
 
-/// What is read in the core language is read as written, as the same tree, and has no custom option
-/// and no `:`.
+/// What is read in the core language is read as written, as the same tree, and has no custom option,
+/// no weak import and no `:`.
 pub fn core_trees_are_written()
     ensures plain { CoreTreesArePlain }
+    ensures weak { CoreTreesHaveNoWeakImport }
     ensures tokens { TreesHaveTokens }
     ensures written { CoreTreesAreWritten }
 {}

@@ -30,8 +30,8 @@ pub use steps::{Steps, parse_counted, parse_counted_as};
 pub use tree::{
     Aggregate, Atom, Behind, Block, Constant, Custom, CustomValue, Dotted, Enum, EnumItem, Extend,
     Extension, Extensions, Field, FieldType, File, Import, Item, Joined, MapField, Member, Message,
-    Method, MethodEnd, MethodItem, MethodType, Oneof, OneofItem, Option_, Package, Plain, Range,
-    RangeEnd, Reference, Reserved, ReservedList, Separated, Service, ServiceItem, Setting,
+    Method, MethodEnd, MethodItem, MethodType, Modifier, Oneof, OneofItem, Option_, Package, Plain,
+    Range, RangeEnd, Reference, Reserved, ReservedList, Separated, Service, ServiceItem, Setting,
     Settings, Signature, Signed, Syntax, UpTo, Value,
 };
 pub use words::{is_listed, may_name_value};

@@ -1,7 +1,7 @@
 //! Reading the statements of a file, a message and an enum.
 
 ghost use Rattle.std.specs.Prelude.{◌≡◌, true};
-ghost use Rattle.proto_tree.specs.Reading.{Gives, starts, stated, syntax_at, import_at, package_at, field_at, map_field_at, value_at, token, one_token, maybe_settings, ◌then◌};
+ghost use Rattle.proto_tree.specs.Reading.{Gives, starts, stated, syntax_at, import_at, modifier_at, package_at, field_at, map_field_at, value_at, token, one_token, maybe, maybe_settings, ◌then◌};
 
 use crate::class::{Class, Expected, Lexeme};
 use crate::names::{field_type, package_name};
@@ -9,8 +9,8 @@ use crate::on_heap::OnHeap;
 use crate::options::settings;
 use crate::piece::{Piece, Statement};
 use crate::ranges::Numeral;
-use crate::reading::{Stop, first, one, option, take, three};
-use crate::tree::{Field, Import, MapField, Package, Settings, Signed, Syntax, Value};
+use crate::reading::{Stop, first, one, option, starts, take, three};
+use crate::tree::{Field, Import, MapField, Modifier, Package, Settings, Signed, Syntax, Value};
 use std::alloc::Global;
 
 /// `syntax = "proto3";`
@@ -33,6 +33,22 @@ pub fn syntax(rest: &[Lexeme]) -> Result<(Piece, &[Lexeme]), Stop>
     Ok((Piece::Statement(Statement::Syntax(syntax)), rest))
 }
 
+/// What stands behind `import`, where something does.
+#[tactic(auto, unfolding(crate::specs::Reading::modifier_at))]
+fn modifier(rest: &[Lexeme]) -> Result<(Option<Modifier>, &[Lexeme]), Stop>
+    ensures { Gives (λ x. (x.0, x.1.now)) result (maybe Expected.Modifier modifier_at rest.now) }
+{
+    if !starts(rest, Expected::Modifier) {
+        return Ok((None, rest));
+    }
+    if starts(rest, Expected::One(Class::Public)) {
+        let (at, rest) = first(rest, Expected::One(Class::Public));
+        return Ok((Some(Modifier::Public(at)), rest));
+    }
+    let (at, rest) = one(rest, Class::ImportWeak)?;
+    Ok((Some(Modifier::Weak(at)), rest))
+}
+
 /// `import public "path";`
 #[tactic(auto, unfolding(crate::specs::Reading::import_at))]
 pub fn import(rest: &[Lexeme]) -> Result<(Piece, &[Lexeme]), Stop>
@@ -40,12 +56,12 @@ pub fn import(rest: &[Lexeme]) -> Result<(Piece, &[Lexeme]), Stop>
     ensures { Gives (λ x. (x.0, x.1.now)) result (stated Statement.Import import_at rest.now) }
 {
     let (keyword, rest) = first(rest, Expected::One(Class::Import));
-    let (public, rest) = option(rest, Expected::One(Class::Public));
+    let (modifier, rest) = modifier(rest)?;
     let (path, rest) = take(rest, Expected::Text)?;
     let (semicolon, rest) = one(rest, Class::Semicolon)?;
     let import = Import {
         keyword,
-        public,
+        modifier,
         path,
         semicolon,
     };

@@ -1,6 +1,9 @@
 //! The tree of a file. Each token of the file has its index, from 0, in a named field; no text is
 //! kept.
 
+ghost use Rattle.std.specs.Prelude.{◌≡◌};
+ghost use Rattle.proto_tree.specs.Modifiers.{is_public, is_weak};
+
 use crate::list::Sequence;
 use crate::on_heap::OnHeap;
 
@@ -130,9 +133,34 @@ pub struct Syntax {
 #[derive(Clone, Copy)]
 pub struct Import {
     pub keyword: u32,
-    pub public: Option<u32>,
+    pub modifier: Option<Modifier>,
     pub path: u32,
     pub semicolon: u32,
+}
+
+/// What stands behind `import`.
+#[derive(Clone, Copy)]
+pub enum Modifier {
+    /// `public`
+    Public(u32),
+    /// `weak`, in files as written.
+    Weak(u32),
+}
+
+impl Import {
+    /// Whether it is a public import.
+    pub fn is_public(&self) -> bool
+        ensures { result ≡ is_public self.now.modifier }
+    {
+        matches!(self.modifier, Some(Modifier::Public(_)))
+    }
+
+    /// Whether it is a weak import.
+    pub fn is_weak(&self) -> bool
+        ensures { result ≡ is_weak self.now.modifier }
+    {
+        matches!(self.modifier, Some(Modifier::Weak(_)))
+    }
 }
 
 /// `package a.b;`

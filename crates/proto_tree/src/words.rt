@@ -33,7 +33,7 @@ fn of_four(text: &str) -> Class
 {
     match text {
         "enum" => Class::Enum,
-        "weak" => Class::OtherListed,
+        "weak" => Class::Weak,
         "bool" => Class::Scalar,
         _ => Class::Name,
     }
@@ -179,6 +179,7 @@ pub fn class_as(profile: Profile, class: Class) -> Class
         Profile::Core => class,
         Profile::AsWritten => match class {
             Class::LeftParenthesis => Class::NameParenthesis,
+            Class::Weak => Class::ImportWeak,
             class => class,
         },
     }

@@ -59,6 +59,7 @@ def file_of(workspace, place):
         "package": ".".join(file.package) or None,
         "dependency": [path for path, _ in file.imports],
         "publicDependency": [at for at, (_, is_public) in enumerate(file.imports) if is_public],
+        "weakDependency": file.weak_imports,
         "messageType": [scene.message(file.package, block) for block in file.blocks("message")],
         "enumType": [scene.enum(block) for block in file.blocks("enum")],
         "service": [scene.service(block) for block in file.blocks("service")],

@@ -5,7 +5,7 @@ that resolves to their names. A workspace compiles by how it is made; the model 
 """
 
 from faults import faults_of
-from grammar import LISTED, SCALARS, Reference, Token, Value, derived_json, entry_name
+from grammar import LISTED, MAX_BYTES, SCALARS, Reference, Token, Value, derived_json, entry_name
 from renames import KINDS
 from schemas import Use, Workspace
 
@@ -432,6 +432,18 @@ def workspace_by_chance(chance, counts=(1, 1, 1, 2, 2, 3, 3, 4, 5, 6, 7, 8)):
         texts = Maker(chance, counts).workspace()
         if not faults_of(Workspace(texts)):
             return texts
+
+
+def with_weak_imports(chance, texts):
+    """The texts with most of the imports that are not public made weak."""
+    made = {}
+    for file in Workspace(texts).files:
+        made[file.path] = texts[file.path]
+        places = [at for at, (_, is_public) in zip(file.import_places, file.imports) if not is_public]
+        for at in reversed(places):
+            if chance.random() < 0.7 and len(made[file.path]) + len("weak ") <= MAX_BYTES:
+                made[file.path] = made[file.path][:at] + "weak " + made[file.path][at:]
+    return made
 
 
 # ---- renames

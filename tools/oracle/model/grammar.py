@@ -261,6 +261,8 @@ class File:
     # The bytes of each import, where its string begins, and the offsets after the `;` of the package and of the syntax.
     import_spans: list = field(default_factory=list)
     import_places: list = field(default_factory=list)
+    # The places of weak imports among all.
+    weak_imports: list = field(default_factory=list)
     # The names of custom options, which are no part of the tree.
     custom: list = field(default_factory=list)
     package_end: Optional[int] = None
@@ -363,6 +365,8 @@ class Reader:
         start = self.next().start
         if self.takes("import"):
             is_public = self.takes("public")
+            if self.as_written and not is_public and self.takes("weak"):
+                file.weak_imports.append(len(file.imports))
             file.import_places.append(self.next().start)
             file.imports.append((text_value([self.take("string")]), is_public))
             file.import_spans.append((start, self.take_end()))

@@ -305,6 +305,13 @@ WRITTEN = [
     ("option (x) = { a: [ 1 };", [], ["a.proto:1:17: 3"]),
     ("message M { option (x) = { a: [ b { c: [ } }; }", [], ["a.proto:1:29: 3"]),
     ("enum E { A = 0 [(x) = { a: [ }]; }", [], ["a.proto:1:26: 3"]),
+    ({"a.proto": 'import weak "b.proto";', "b.proto": ""}, [], ["a.proto:1:1: 8"]),
+    ({"a.proto": 'import weak "b.proto"; import "a.proto";', "b.proto": 'import weak "a.proto";'}, ["a.proto:1:13: 12", "a.proto:1:31: 12", "b.proto:1:13: 12"], ["a.proto:1:1: 8", "b.proto:1:1: 8"]),
+    ("message weak { optional .weak weak = 1; enum E { Weak = 0; } } service S { rpc weak(.weak) returns (.weak); }", [], []),
+    ('import weak "c.proto"; import weak "c.proto";', ["a.proto:1:13: 10", "a.proto:1:36: 10", "a.proto:1:36: 11"], ["a.proto:1:1: 8"]),
+    ('import public weak "b.proto";', ["a.proto:1:1: 8"], ["a.proto:1:1: 8"]),
+    ('import weak public "b.proto";', ["a.proto:1:1: 8"], ["a.proto:1:1: 8"]),
+    ('message M { import weak "b.proto"; }', ["a.proto:1:13: 8"], ["a.proto:1:13: 8"]),
     ("option (optional.stream) = -0x1; option (.message).to.max = 'a' \"b\";", [], ["a.proto:1:1: 8"]),
     ({"a.proto": ONE_OPTION % "", "d.proto": FIELD_OPTIONS}, [], ["a.proto:1:38: 31"]),
     ({"a.proto": ONE_OPTION % "required ", "d.proto": FIELD_OPTIONS}, ["a.proto:1:76: 31", "a.proto:1:76: 38"], ["a.proto:1:38: 31", "a.proto:1:76: 31", "a.proto:1:76: 38"]),
@@ -323,6 +330,10 @@ EXTENDED_IN_PROTO3 = {
 }
 # Edits of files that are read as they are written, with what is printed.
 WRITTEN_EDITS = [
+    ({"a.proto": 'import weak "b.proto"; message M { optional B b = 1; }', "b.proto": "message B {}"}, ("drop-import", "a.proto", "b.proto"), "refused: 15 Needed a.proto:1:45\n"),
+    ({"a.proto": 'import weak "b.proto";', "b.proto": ""}, ("drop-import", "a.proto", "b.proto"), "changed a.proto\n"),
+    ({"a.proto": 'import weak "b.proto";', "b.proto": ""}, ("add-import", "a.proto", "b.proto"), "refused: 12 AlreadyImported\n"),
+    ({"a.proto": 'import weak "b.proto";', "b.proto": ""}, ("add-import", "b.proto", "a.proto"), "refused: 14 Cycle\n"),
     (WITH_CUSTOM, ("rename", "p.A", "Q"), "refused: 19 OptionValue a.proto:1:186\n"),
     (WITH_CUSTOM, ("rename", "p.A", "message"), "refused: 4 KeywordName\n"),
     (WITH_CUSTOM, ("delete-field", "p.A.f"), "refused: 19 OptionValue a.proto:1:186\n"),
@@ -335,6 +346,10 @@ WRITTEN_EDITS = [
 ]
 # Files that are read as they are written, with pieces of their descriptors.
 WRITTEN_JSON = [
+    (
+        {"a.proto": 'import public "d.proto"; import weak "c.proto"; import weak "b.proto";', "b.proto": "", "c.proto": "", "d.proto": ""},
+        ['{"dependency":["d.proto","c.proto","b.proto"],"name":"a.proto","publicDependency":[0],"weakDependency":[1,2]}'],
+    ),
     (
         WITH_CUSTOM,
         [

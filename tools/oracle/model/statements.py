@@ -165,8 +165,10 @@ class Drop(Statement):
 
     def map_file(self, file):
         del file["dependency"][self.number]
-        public = [at - (at > self.number) for at in file.get("publicDependency", []) if at != self.number]
-        for key, left in (("dependency", file["dependency"]), ("publicDependency", public)):
+        lists = {"dependency": file["dependency"]}
+        for key in ("publicDependency", "weakDependency"):
+            lists[key] = [at - (at > self.number) for at in file.get(key, []) if at != self.number]
+        for key, left in lists.items():
             file.pop(key, None)
             if left:
                 file[key] = left

@@ -9,7 +9,7 @@ from faults import LONG, MORE_OPTIONS
 from generated import spelled
 from grammar import tokens_of
 
-DESCRIPTOR, OPTIONS, BASE = "google/protobuf/descriptor.proto", "opt/options.proto", "base.proto"
+DESCRIPTOR, OPTIONS, BASE, CHAIN = "google/protobuf/descriptor.proto", "opt/options.proto", "base.proto", "chain.proto"
 # The options that protoc looks up here, with its numbers.
 OPTION_MESSAGES = """syntax = "proto2";
 package google.protobuf;
@@ -84,7 +84,7 @@ VALUES = ["a word", "a number", "a negative number", "a string", "strings in a r
 IN_BRACES = ["nothing in braces", "braces in braces", "braces behind a colon", "angle brackets", "a list", "a list of braces", "a float"]
 IN_BRACES += ["a negative number in braces", "strings in a row in braces", "a comma behind a field", "a semicolon behind a field"]
 BESIDE = ["before a plain option", "behind a plain option", "an option twice", "a comment inside"]
-WIDER = ["extend in proto3", "an optional extension in proto3", "a number in two files"]
+WIDER = ["a weak import", "behind a public import", "extend in proto3", "an optional extension in proto3", "a number in two files"]
 WIDER += [name for known in MORE_OPTIONS.values() for name in known]
 CONSTRUCTS = list(dict.fromkeys(OF + NAMES + VALUES + IN_BRACES + BESIDE + WIDER))
 
@@ -106,6 +106,8 @@ class Written:
         self.taken, self.taken_here = [], []
         self.put(BASE, joined(["syntax", "=", '"proto2"', ";"], ["message", "Base", "{", "extensions", "100", "to", "199", ";", "}"]))
         self.put(OPTIONS, self.options_file())
+        if not self.is_plain:
+            self.put(CHAIN, self.chain_file())
         paths = chance.sample(["a.proto", "b.proto", "p/a.proto", "z.proto"], chance.choice([1, 2, 3]))
         for path in paths:
             self.put(path, self.file())
@@ -161,13 +163,28 @@ class Written:
         self.count = self.extensions = 0
         self.taken, self.taken_here = self.taken + self.taken_here, []
         parts = [["syntax", "=", '"proto3"' if self.is_proto3 else '"proto2"', ";"]]
-        parts += [["import", f'"{path}"', ";"] for path in (OPTIONS, DESCRIPTOR, BASE)]
+        seen = CHAIN if not self.is_plain and self.rolls(0.4) else OPTIONS
+        parts += [["import", *self.weak(), f'"{path}"', ";"] for path in (seen, DESCRIPTOR, BASE)]
+        self.note("behind a public import", seen == CHAIN)
         if self.package:
             parts.append(["package", *" . ".join(self.package.split(".")).split(), ";"])
         parts += self.statements("file")
         for _ in range(self.any(1, 2, 3)):
             parts.append(self.any(self.message, self.message, self.enum, self.service, self.extend, self.extend)())
         return joined(*parts)
+
+    def weak(self):
+        """What makes an import weak, in a workspace that is read with the word alone."""
+        is_weak = not self.is_plain and self.rolls(0.4)
+        self.note("a weak import", is_weak)
+        return ["weak"] if is_weak else []
+
+    def chain_file(self):
+        """A file that passes the extensions on, by a public import beside weak ones."""
+        imports = [["import", "public", f'"{OPTIONS}"', ";"], ["import", *self.weak(), f'"{BASE}"', ";"]]
+        imports.append(["import", *self.weak(), f'"{DESCRIPTOR}"', ";"])
+        self.chance.shuffle(imports)
+        return joined(["syntax", "=", '"proto3"', ";"], *imports)
 
     def name(self, word):
         self.count += 1

@@ -8,7 +8,7 @@ use Rattle.proto_lint.proofs.imports.public_targets.Goals as goal
 
 -- an import for no place
 abbrev no_import : Wanted
-no_import = record { path = 0; is_public = false }
+no_import = record { path = 0; is_public = false; is_weak = false }
 
 pub loop-import-preserved : goal.loop-import-preserved
 loop-import-preserved c = λ (paths : List (List ℕ)) index.

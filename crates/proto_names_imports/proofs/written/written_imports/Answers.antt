@@ -8,7 +8,7 @@ use Rattle.proto_names_imports.proofs.written.written_imports.Goals as goal
 
 -- an import for no place
 abbrev no_import : Wanted
-no_import = record { path = 0; is_public = false }
+no_import = record { path = 0; is_public = false; is_weak = false }
 
 pub string_value-requires : goal.string_value-requires
 string_value-requires c = subst IsString (sym c.get.ensures) (c.requires.strings c.loop-import.import-index no_import c.loop-import-test.true)

@@ -10,7 +10,7 @@ use Rattle.proto_lint.proofs.imports.FileImports.add_statements.Goals as goal
 
 -- an import for no place
 abbrev no_import : Bor Import
-no_import = record { ref_ptr = (0, 0); now = record { keyword = 0; public = None; path = 0; semicolon = 0 } }
+no_import = record { ref_ptr = (0, 0); now = record { keyword = 0; modifier = None; path = 0; semicolon = 0 } }
 
 pub loop-import-preserved : goal.loop-import-preserved
 loop-import-preserved c = λ (reads : List ReadOf) are.

@@ -1,7 +1,8 @@
-use Rattle.std.proofs.Common.{◌≡◌, ◌++◌, List, sym, ◌∙◌, ap, subst, rules, is_some, false}
+use Rattle.std.proofs.Common.{◌≡◌, ◌++◌, List, sym, ◌∙◌, ap, subst, rules, false}
 use Rattle.proto_base.specs.Texts.{or_nothing}
 use Rattle.proto_text.specs.Strings.{IsString}
 use Rattle.proto_text.specs.Values.{value_of}
+use Rattle.proto_tree.specs.Modifiers.{is_public}
 use Rattle.proto_files.proofs.Common.{paths_of, ReadOf, AreRead}
 use Rattle.proto_names_imports.specs.Links.{names_of_files}
 use Rattle.proto_lint_rules.specs.declared.rule.Rule.TheVariants as rule
@@ -25,8 +26,8 @@ returns-in_ok-add_unless c =
     let old = c.args.found.now in
     let new = c.add_unless.new.self in
     let chosen = sym c.has.ensures ∙ c.if-has.true in
-    let plain : is_some i.public ≡ false = grind (rules, c.is_none.ensures, c.if-is_none.true) in
-    let again = c.as_str-then-is_none.ensures.value ∙ sym c.as_str.ensures.value in
+    let plain : is_public i.modifier ≡ false = sym c.is_public.ensures ∙ c.if-not-is_public.true in
+    let again = c.as_str-then-not-is_public.ensures.value ∙ sym c.as_str.ensures.value in
     let is : import_path r i ≡ path = ap or_nothing (ap value_of (sym c.text.ensures) ∙ c.in_ok-path.ensures.value) ∙ sym c.as_str.ensures.value in
     subst (λ (x : ImportsOf). (reads : List ReadOf) → AreRead x.files reads → new ≡ old ++ found_by x.rules x.read rule.ImportUsed (import_used (names_of_files x.files reads) (paths_of x.files) x.read x.file i)) c.self.view_is
     (λ (reads : List ReadOf) are.
