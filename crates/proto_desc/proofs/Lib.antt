@@ -11,3 +11,4 @@ mod Renewed
 mod ReplacedTexts
 pub mod SameBut
 mod WithTexts
+mod Numbered

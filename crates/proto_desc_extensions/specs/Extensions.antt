@@ -8,7 +8,6 @@ use Rattle.proto_base.specs.Texts.{Text}
 use Rattle.proto_base.specs.declared.fault.FaultKind.TheVariants as kind
 use Rattle.proto_base.specs.declared.profile.Profile.{Profile}
 use Rattle.proto_base.specs.declared.profile.Profile.TheVariants as profile
-use Rattle.proto_tree.specs.References.{first_of}
 use Rattle.proto_tree.specs.Tree.{Tree}
 use Rattle.proto_tree.specs.declared.piece.Header.{Header}
 use Rattle.proto_tree.specs.declared.piece.Header.TheVariants as header
@@ -18,7 +17,6 @@ use Rattle.proto_files.specs.GivenFiles.{FileOf, file_at}
 use Rattle.proto_names_rules.specs.Faults.{place_of}
 use Rattle.proto_names_rules.specs.Grown.{At}
 use Rattle.proto_names_rules.specs.Names.{same_name}
-use Rattle.proto_names.specs.Links.{uses_of}
 use Rattle.proto_ast.specs.Parts.{BlockOf, blocks_in, extension_ranges, fields_in, statements}
 use Rattle.proto_ast.specs.Scenes.{Scene}
 use Rattle.proto_ast.specs.declared.ranges.RangeAt.{RangeAt}
@@ -27,7 +25,8 @@ use Rattle.proto_desc_numbers.specs.NumberFlaws.{is_inside, number_of_field, ran
 use Rattle.proto_desc_numbers.specs.declared.flaw.Flaw.{Flaw}
 use Rattle.proto_desc_numbers.specs.declared.numbers.NumberAt.{NumberAt}
 use Rattle.proto_desc_checks.specs.FileFlaws.{file_flaws}
-use Rattle.proto_resolved.specs.SceneOf.{declared_as, meaning_of, scene_of}
+use Rattle.proto_resolved.specs.SceneOf.{declared_as, scene_of}
+pub use Rattle.proto_resolved.specs.SceneOf.{name_meant}
 
 -- ---- extensions
 
@@ -45,12 +44,6 @@ extendee_in (header.Oneof h) = None
 extendee_in (header.Enum h) = None
 extendee_in (header.Service h) = None
 extendee_in (header.Method s) = None
-
--- the full name, by its words, that a reference of a file means, if it means one
-abbrev pub name_meant : List FileOf → List ReadOf → ℕ → Reference → Option (List Text)
-name_meant files reads file r =
-    option_and_then (meaning_of files reads file)
-    (find (λ u. u.first == first_of r.dot r.words) (uses_of reads file))
 
 -- the fields between the braces as extensions of what has this name, if there is a name
 abbrev pub extensions_of : Scene → Option (List Text) → Tree → List ExtensionOf

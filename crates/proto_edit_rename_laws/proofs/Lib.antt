@@ -19,3 +19,4 @@ pub mod Scenes
 pub mod TargetThere
 pub mod TokenRoles
 mod ValueMarks
+mod Numbered

@@ -20,19 +20,18 @@ use Rattle.proto_files.specs.GivenFiles.{FileOf, file_at}
 use Rattle.proto_names_imports.specs.Links.{uses_of, text_of, link_skeleton, names_of_files}
 use Rattle.proto_names_rules.specs.Edits.{Renaming, target, IsCaptured, Collides, turned, ren}
 use Rattle.proto_names_rules.specs.Faults.{place_of}
-use Rattle.proto_names_rules.specs.Grown.{At, at}
+use Rattle.proto_names_rules.specs.Grown.{At, at, numbered}
 use Rattle.proto_names_rules.specs.Joined.{joined}
 use Rattle.proto_names_rules.specs.Names.{same_name as is_same_name, hit, front_at, Symbol}
 use Rattle.proto_names_rules.specs.Skeleton.{Used, Skeleton, reference_of, workspace_of, Source, Declared, name_of, Token, IsAimEntry, renaming_of}
 use Rattle.proto_names_rules.specs.declared.kind.Kind.{Kind}
 use Rattle.proto_names_rules.specs.declared.kind.Kind.TheVariants.{Package, Message, Entry, Enum, Service, Field, EntryField, Oneof, Value, Method, Extension}
-use Rattle.proto_resolved.specs.SceneOf.{meaning_of, is_enum_at, scene_of}
+use Rattle.proto_resolved.specs.SceneOf.{meaning_of, name_meant, is_enum_at, scene_of}
 use Rattle.proto_text.specs.Edits.{Edit, old_len, new_len}
 use Rattle.proto_text.specs.Texts.{token_edits, offset_at}
 use Rattle.proto_text.specs.Words.{is_run}
 use Rattle.proto_text.specs.declared.kind.TokenKind.TheVariants.{Word}
 use Rattle.proto_tree.specs.Classes.{fits}
-use Rattle.proto_tree.specs.References.{first_of}
 use Rattle.proto_tree.specs.Tree.{Tree}
 use Rattle.proto_tree.specs.Words.{class_by, is_listed}
 use Rattle.proto_tree.specs.declared.class.Expected.TheVariants as want
@@ -105,16 +104,15 @@ default_words text f =
     flat_map (λ o. if is_named text (codes "default") o then constant_tokens o.value else [])
     f.options
 
+-- the full name that a field's type means
+abbrev pub type_meaning : List FileOf → List ReadOf → ℕ → FieldType → Option (List Text)
+type_meaning files reads file (field_type.Scalar t) = None
+type_meaning files reads file (field_type.Reference r) = name_meant files reads file r
+
 -- what the reference with this first token means
 abbrev pub meaning_from : List FileOf → List ReadOf → ℕ → ℕ → Option (List Text)
 meaning_from files reads file first = option_and_then (meaning_of files reads file)
     (find (λ u. u.first == first) (uses_of reads file))
-
--- the full name that a field's type means
-abbrev pub type_meaning : List FileOf → List ReadOf → ℕ → FieldType → Option (List Text)
-type_meaning files reads file (field_type.Scalar t) = None
-type_meaning files reads file (field_type.Reference r) =
-    meaning_from files reads file (first_of r.dot r.words)
 
 -- the word is the renamed value's, and the type means its enum
 abbrev pub means_value : Option (List Text) → Text → Option (List Text) → Text → Bool
@@ -132,17 +130,20 @@ renamed_default files reads enum old file f =
     else [])
     (default_words (λ t. text_of files reads (at file t)) f)
 
--- of all files from this number on
-abbrev pub defaults_from : List FileOf → List ReadOf → Option (List Text) → Text → ℕ
-    → List ReadOf → List At
-defaults_from files reads enum old file [] = []
-defaults_from files reads enum old file (r ∷ rs) =
-    map (at file) (flat_map (renamed_default files reads enum old file) (fields_of_file r.tree))
-    ++ defaults_from files reads enum old (suc file) rs
-
 -- those of all files
 abbrev pub renamed_defaults : List FileOf → List ReadOf → Option (List Text) → Text → List At
-renamed_defaults files reads enum old = defaults_from files reads enum old 0 reads
+renamed_defaults files reads enum old =
+    flat_map (λ p. map (at p.0)
+    (flat_map (renamed_default files reads enum old p.0) (fields_of_file p.1.tree)))
+    (numbered 0 reads)
+
+-- those of the files from this number on
+abbrev pub defaults_from : List FileOf → List ReadOf → Option (List Text) → Text → ℕ
+    → List ReadOf → List At
+defaults_from files reads enum old file rs =
+    flat_map (λ p. map (at p.0)
+    (flat_map (renamed_default files reads enum old p.0) (fields_of_file p.1.tree)))
+    (numbered file rs)
 
 -- ---- what is renamed
 

@@ -19,3 +19,4 @@ pub mod Resolving
 pub mod SeenFiles
 pub mod Turned
 pub mod Walks
+mod Numbered

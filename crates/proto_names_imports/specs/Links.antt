@@ -1,6 +1,6 @@
 -- The link of files: what they declare, see and refer to, as the texts of their tokens spell it;
 -- and the faults of imports, names and references.
-use Rattle.std.specs.Prelude.{◌≡◌, ℕ, suc, List, [], ◌∷◌, ◌++◌, length, map}
+use Rattle.std.specs.Prelude.{◌≡◌, ℕ, List, flat_map, length, map}
 use Rattle.proto_text.specs.Values.{value_of}
 use Rattle.proto_text.specs.Texts.{words, offset_at}
 use Rattle.proto_files.specs.Faults.{FaultAt}
@@ -14,7 +14,7 @@ use Rattle.proto_names_outline.specs.FromTree.{Wanted, imports_in, items_in, fil
 pub use Rattle.proto_names_outline.specs.Listing.{used_named}
 use Rattle.proto_names_outline.specs.Listing.{IsSound, package_first, read, uses_in}
 use Rattle.proto_names_outline.specs.declared.listing.Listing.{Listing}
-use Rattle.proto_names_rules.specs.Grown.{At, at, FileNames, skeleton_of_files}
+use Rattle.proto_names_rules.specs.Grown.{At, at, FileNames, numbered, skeleton_of_files}
 use Rattle.proto_names_rules.specs.Names.{Import, Workspace}
 use Rattle.proto_names_rules.specs.Skeleton.{Skeleton, Used, workspace_of}
 
@@ -34,9 +34,8 @@ asked_as text file w = record {
 
 -- the imports of all files from this number on, file after file
 abbrev pub all_wanted : (At → Text) → ℕ → List ReadOf → List AskedImport
-all_wanted text file [] = []
-all_wanted text file (r ∷ rs) =
-    map (asked_as text file) (imports_in r.tree) ++ all_wanted text (suc file) rs
+all_wanted text file rs =
+    flat_map (λ p. map (asked_as text p.0) (imports_in p.1.tree)) (numbered file rs)
 
 -- what a file that is read declares and refers to
 abbrev pub names_in : ReadOf → FileNames

@@ -29,3 +29,4 @@ mod Unaffected
 pub mod Still
 pub mod Symbols
 pub mod Tree
+mod Numbered

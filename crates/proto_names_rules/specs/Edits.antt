@@ -124,8 +124,7 @@ IsClear e m = (front back : Name) → front ++ back ≡ m → is_entry e front �
 
 -- the same workspace with these imports instead of its own
 abbrev pub with_imports : Workspace → List Import → Workspace
-with_imports w imports =
-    record { files = w.files; symbols = w.symbols; imports = imports; references = w.references }
+with_imports w imports = record w { imports = imports }
 
 -- an import, not a public one, of the second file by the first
 abbrev pub import_of : ℕ → ℕ → Import

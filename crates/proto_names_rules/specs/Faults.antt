@@ -8,7 +8,10 @@ use Rattle.proto_names_rules.specs.Cycles.{Leads}
 use Rattle.proto_case.specs.Camel.{entry_name}
 use Rattle.proto_names_rules.specs.Skeleton.{Source, Token, EntryOf, Given, Declared, Used, Skeleton, name_of, reference_of, workspace_of}
 use Rattle.proto_names_rules.specs.Grown.{At, at}
+use Rattle.proto_base.specs.FaultTable.{kind_number}
 use Rattle.proto_base.specs.Texts.{Text, Path}
+use Rattle.proto_base.specs.declared.fault.FaultKind.{FaultKind}
+use Rattle.proto_base.specs.declared.fault.FaultKind.TheVariants as kind
 
 -- a fault's file, the token that it stands at, and its number
 pub record Fault : Type 0 where
@@ -18,6 +21,10 @@ pub record Fault : Type 0 where
 -- the fault with this number at this token
 abbrev pub fault : At → ℕ → Fault
 fault place number = record { place = place; number = number }
+
+-- the fault of this kind at this token
+abbrev pub fault_of_kind : At → FaultKind → Fault
+fault_of_kind place kind = record { place = place; number = kind_number kind }
 
 -- the first fault comes before the second: by file, token and number
 abbrev pub FaultIsBefore : Fault → Fault → Type 0
@@ -57,18 +64,19 @@ import_from_asked paths a =
 abbrev pub imports_of : List Path → List AskedImport → List Import
 imports_of paths asked = filter_map (import_from_asked paths) asked
 
--- a fault of an import, at its path: 10, 11 or 12
+-- a fault of an import, at its path
 pub data ImportFault (paths : List Path) (asked : List AskedImport) : Fault → Type 0 where
   -- no such path in the workspace
   unknown : (a : AskedImport) → Contains asked a → file_with_path paths a.path ≡ None
-      → ImportFault paths asked (fault a.place 10)
+      → ImportFault paths asked (fault_of_kind a.place kind.UnknownImport)
   -- a path that an earlier import of the file has
   double : (a : AskedImport)
       → AfterEarlier (λ x y. (x.place.file ≡ y.place.file) × (x.path ≡ y.path)) asked a
-      → ImportFault paths asked (fault a.place 11)
+      → ImportFault paths asked (fault_of_kind a.place kind.DoubleImport)
   -- an import whose file is the importing file or reaches it by imports
   cycle : (a : AskedImport) (to : ℕ) → Contains asked a → file_with_path paths a.path ≡ Some to
-      → Leads (imports_of paths asked) to a.place.file → ImportFault paths asked (fault a.place 12)
+      → Leads (imports_of paths asked) to a.place.file
+      → ImportFault paths asked (fault_of_kind a.place kind.ImportCycle)
 
 -- the last token among the sources of a name, or this one where there is none
 abbrev pub place_from : {X : Type 0} → X → List (Source X) → X
@@ -81,32 +89,33 @@ place_from x (Given w ∷ rest) = place_from x rest
 abbrev pub place_of : Declared At → At
 place_of d = place_from (at d.file 0) d.path
 
--- fault 13: a declaration that is no package has
+-- a fault of a name: a declaration that is no package has
 pub data NameFault (text : At → Text) (declared : List (Declared At)) : Fault → Type 0 where
   -- a full name that an earlier declaration has
   earlier : (d : Declared At)
       → AfterEarlier (λ x y. name_of text entry_name x.path ≡ name_of text entry_name y.path)
       declared d
-      → d.kind ≢ Package → NameFault text declared (fault (place_of d) 13)
+      → d.kind ≢ Package → NameFault text declared (fault_of_kind (place_of d) kind.DuplicateName)
   -- or that is a package or a prefix of one
   of_package : (d e : Declared At) → Contains declared d → Contains declared e
       → d.kind ≢ Package → e.kind ≡ Package
       → name_of text entry_name d.path ≡ name_of text entry_name e.path
-      → NameFault text declared (fault (place_of d) 13)
+      → NameFault text declared (fault_of_kind (place_of d) kind.DuplicateName)
 
--- a fault of a reference, at its first token: 14, 15 or 16
+-- a fault of a reference, at its first token
 pub data ReferenceFault (text : At → Text) (k : Skeleton At) : Fault → Type 0 where
   -- a reference that means nothing
   unresolved : (u : Used At) → Contains k.used u
       → meaning (workspace_of text entry_name k) (reference_of text entry_name u) ≡ None
-      → ReferenceFault text k (fault u.first 14)
+      → ReferenceFault text k (fault_of_kind u.first kind.Unresolved)
   -- a reference that wants a message and means an enum
   wrong_kind : (u : Used At) (s : Symbol) → Contains k.used u
       → Contains (workspace_of text entry_name k).symbols s
       → meaning (workspace_of text entry_name k) (reference_of text entry_name u) ≡ Some s.name
-      → u.wants_message ≡ true → s.kind ≡ Enum → ReferenceFault text k (fault u.first 15)
+      → u.wants_message ≡ true → s.kind ≡ Enum
+      → ReferenceFault text k (fault_of_kind u.first kind.WrongKind)
   -- a reference that means a generated entry
   of_entry : (u : Used At) (s : Symbol) → Contains k.used u
       → Contains (workspace_of text entry_name k).symbols s
       → meaning (workspace_of text entry_name k) (reference_of text entry_name u) ≡ Some s.name
-      → s.kind ≡ Entry → ReferenceFault text k (fault u.first 16)
+      → s.kind ≡ Entry → ReferenceFault text k (fault_of_kind u.first kind.MapEntryRef)

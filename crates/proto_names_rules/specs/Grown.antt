@@ -1,5 +1,5 @@
 -- The declarations of one file from its tree, and of many files.
-use Rattle.std.specs.Prelude.{◌≡◌, ◌≢◌, ℕ, suc, List, [], ◌∷◌, ◌++◌, length, map}
+use Rattle.std.specs.Prelude.{◌≡◌, ◌≢◌, ℕ, suc, List, [], ◌∷◌, ◌++◌, flat_map, length, map}
 use Rattle.std.specs.List.{Contains}
 use Rattle.proto_names_rules.specs.Names.{Import}
 use Rattle.proto_names_rules.specs.Skeleton.{Declared, Used, Skeleton, shifted_source, shifted_declared}
@@ -60,21 +60,24 @@ used_in file u = record {
 abbrev pub file_used : ℕ → FileNames → List (Used At)
 file_used file f = map (used_in file) f.used
 
+-- each element with its number, of which the first is this one
+abbrev pub numbered : {A : Type 0} → ℕ → List A → List (ℕ × A)
+numbered n [] = []
+numbered n (x ∷ xs) = (n, x) ∷ numbered (suc n) xs
+
 -- the declarations of all files from this number on, file after file
 abbrev pub all_declared : ℕ → List FileNames → List (Declared At)
-all_declared file [] = []
-all_declared file (f ∷ fs) = file_declared file f ++ all_declared (suc file) fs
+all_declared file fs = flat_map (λ p. file_declared p.0 p.1) (numbered file fs)
 
 -- the references in all files from this number on, file after file
 abbrev pub all_used : ℕ → List FileNames → List (Used At)
-all_used file [] = []
-all_used file (f ∷ fs) = file_used file f ++ all_used (suc file) fs
+all_used file fs = flat_map (λ p. file_used p.0 p.1) (numbered file fs)
 
 -- the names of many files, numbered from 0, by their tokens, with these imports between them
 abbrev pub skeleton_of_files : List Import → List FileNames → Skeleton At
 skeleton_of_files imports fs = record {
   files = length fs;
-  declared = all_declared 0 fs;
+  declared = flat_map (λ p. file_declared p.0 p.1) (numbered 0 fs);
   imports = imports;
-  used = all_used 0 fs;
+  used = flat_map (λ p. file_used p.0 p.1) (numbered 0 fs);
 }

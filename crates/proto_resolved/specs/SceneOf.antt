@@ -4,6 +4,8 @@ use Rattle.std.specs.Prelude.{ℕ, Bool, false, not, ◌==◌, List, [], ◌∷�
 use Rattle.std.specs.Option.{option_and_then}
 use Rattle.proto_text.specs.Tokens.{Lexeme, lexeme_at}
 use Rattle.proto_text.specs.Texts.{word_at}
+use Rattle.proto_tree.specs.References.{first_of}
+use Rattle.proto_tree.specs.declared.tree.Reference.{Reference}
 use Rattle.proto_tree.specs.declared.tree.Value.{Value}
 use Rattle.proto_tree.specs.declared.piece.Header.{Header}
 use Rattle.proto_tree.specs.declared.piece.Header.TheVariants as header
@@ -93,6 +95,12 @@ meant_as files reads token (Some name) = record {
 abbrev pub meaning_of : List FileOf → List ReadOf → ℕ → Used ℕ → Option (List Text)
 meaning_of files reads file u =
     meaning (names_of_files files reads) (used_named (text_of files reads) file u)
+
+-- the full name, by its words, that a reference of a file means, if it means one
+abbrev pub name_meant : List FileOf → List ReadOf → ℕ → Reference → Option (List Text)
+name_meant files reads file r =
+    option_and_then (meaning_of files reads file)
+    (find (λ u. u.first == first_of r.dot r.words) (uses_of reads file))
 
 -- what the references of a file mean, in the order in which they stand
 abbrev pub means_of : List FileOf → List ReadOf → ℕ → List MeantOf
