@@ -8,6 +8,7 @@ ghost use Rattle.proto_store.specs.Stores.{AreOf, Counts, HoldsBytes, HoldsJourn
 mod foreseeing;
 mod walking;
 
+use crate::locking::lock_alone;
 use crate::looks::{
     FileNumber, Known, Stamp, bytes_of, digest_of, number_of, open_numbered, regular_file, stamp_of,
 };
@@ -19,7 +20,7 @@ use crate::ways::Way;
 use proto_base::{MAX_JOURNAL_LEN, MAX_LEN, Profile};
 use std::alloc::Global;
 use std::collections::{BTreeMap, BTreeSet};
-use std::fs::{File, Metadata, TryLockError};
+use std::fs::{File, Metadata};
 use std::io;
 use std::rt::{Clock, Files};
 use walking::Walk;
@@ -445,7 +446,8 @@ impl<'a, R: Files + Clock + AllocGlobal> FolderStore<'a, R> {
 
 impl<'a, R: Files<File = File> + Clock + AllocGlobal> FolderStore<'a, R> {
     /// Takes the folder for this store alone, until the store is dropped or the process ends,
-    /// however it ends. Nothing is written for it. A store that has the folder keeps it. Fails, at
+    /// however it ends. Nothing is written for it. A store that has the folder keeps it. Waits up to a
+    /// second for those that hold a shared lock on it, since they only read, and fails then. Fails, at
     /// once, where another store has it, in this process or in another, and where the root is no
     /// folder or cannot be opened. A file system that has no such locks gives none; the store goes
     /// on without. From then on a digest is kept of what is read, by which a file is known whose bytes
@@ -480,10 +482,10 @@ impl<'a, R: Files<File = File> + Clock + AllocGlobal> FolderStore<'a, R> {
             return Ok(None);
         }
         let folder = File::open(self.rt, root.path())?;
-        match folder.try_lock() {
-            Ok(()) => Ok(Some(folder)),
-            Err(TryLockError::WouldBlock) => Err(io::Error::from(io::ErrorKind::WouldBlock)),
-            Err(TryLockError::Error(_)) => Ok(None),
+        if lock_alone(self.rt, &folder)? {
+            Ok(Some(folder))
+        } else {
+            Ok(None)
         }
     }
 }

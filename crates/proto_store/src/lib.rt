@@ -3,6 +3,7 @@
 
 mod files;
 mod folder;
+mod locking;
 mod looks;
 mod memory;
 mod mounts;
