@@ -1,5 +1,6 @@
 mod Chains
 pub mod Common
+mod CoreCustom
 mod CustomFiles
 pub mod EditSteps
 pub mod GivenAgain
