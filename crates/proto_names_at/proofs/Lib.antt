@@ -5,6 +5,6 @@ mod EnumValues
 mod ReferredNames
 mod StandingNames
 mod NamedTargets
-mod TokensAt
 mod ValueNames
 mod WordTurns
+mod WordsAt

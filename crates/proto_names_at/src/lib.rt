@@ -1,4 +1,4 @@
-//! The token at an offset of a file, and the name that stands at a token.
+//! The word at an offset of a file, and the name that stands at a token.
 #![tactic(auto)]
 
 mod declared;
@@ -13,4 +13,4 @@ mod targets;
 mod values;
 
 pub use names::name_at;
-pub use offsets::token_at;
+pub use offsets::word_at;

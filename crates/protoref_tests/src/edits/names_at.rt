@@ -1,9 +1,9 @@
-//! The token at an offset, and the name that stands at a token. Places are counted in the texts.
+//! The word at an offset, and the name that stands at a token. Places are counted in the texts.
 
 use super::calls::texts;
 use proto_base::{NoMemory, Profile, SchemaFault};
 use proto_edit::{Files, Workspace};
-use proto_names_at::{name_at, token_at};
+use proto_names_at::{name_at, word_at};
 use protoref_test_cases::open;
 use std::alloc::Global;
 use std::fmt::Write;
@@ -43,34 +43,41 @@ const WRITTEN: Row = (
     "a.proto:27 M=M,a.proto:31 M=M,a.proto:33 m=M.m",
 );
 
-/// A text of one file, and an offset in it with the word of the token there; `none` where no token is.
-const TEXT: &str = "a.proto syntax = \"proto3\"; // c\nmessage  M{} ";
+/// A text of one file, and an offset in it with the word there; `none` where no word is.
+const TEXT: &str = "a.proto syntax = \"proto3\";package a.b; // c\nmessage  M{} ";
 
 const OFFSETS: &[(usize, &str)] = &[
     (0, "syntax"),
     (5, "syntax"),
-    // Right behind a token, where none begins.
+    // Right behind a word, where none begins.
     (6, "syntax"),
-    (7, "="),
-    (8, "="),
-    (9, "\"proto3\""),
-    // Where one ends and the next begins, it is the next.
-    (17, ";"),
-    (18, ";"),
+    // Punctuation and a string are no words.
+    (7, "none"),
+    (8, "none"),
+    (9, "none"),
+    (17, "none"),
+    // Where punctuation ends and a word begins.
+    (18, "package"),
+    (25, "package"),
+    // Right before punctuation, and right behind it.
+    (26, "a"),
+    (27, "a"),
+    (28, "b"),
+    (29, "b"),
     // In white space and in a comment.
-    (19, "none"),
-    (20, "none"),
-    (23, "none"),
-    (24, "message"),
-    (31, "message"),
-    (32, "none"),
-    (33, "M"),
-    (34, "{"),
-    (35, "}"),
-    (36, "}"),
+    (30, "none"),
+    (31, "none"),
+    (34, "none"),
+    (36, "message"),
+    (43, "message"),
+    (44, "none"),
+    (45, "M"),
+    (46, "M"),
+    (47, "none"),
+    (48, "none"),
     // At the end of the text, and past it.
-    (37, "none"),
-    (38, "none"),
+    (49, "none"),
+    (50, "none"),
     (4294967296, "none"),
 ];
 
@@ -189,8 +196,8 @@ fn expect_told<R: AllocGlobal + Abort>(rt: &R, row: &Row) {
     assert!(rt; found.as_str() == wanted, "{found}, not {wanted}");
 }
 
-fn word_at<'a>(files: &'a Files, file: u32, offset: usize) -> &'a str {
-    match token_at(files, file, offset) {
+fn text_at<'a>(files: &'a Files, file: u32, offset: usize) -> &'a str {
+    match word_at(files, file, offset) {
         Some(token) => word(files, file, token).1,
         None => "none",
     }
@@ -215,13 +222,13 @@ fn is_no_name_in_a_custom_option(rt: HostRuntime) {
 }
 
 #[test]
-fn is_the_token_at_the_offset(rt: HostRuntime) {
+fn is_the_word_at_the_offset(rt: HostRuntime) {
     let files = texts(rt.alloc(), TEXT).expect(&rt, "memory");
     let workspace = open(rt.alloc(), files.as_slice()).expect(&rt, "a workspace");
     for (offset, wanted) in OFFSETS {
-        let found = word_at(workspace.files(), 0, *offset);
+        let found = text_at(workspace.files(), 0, *offset);
         assert!(rt; found == *wanted, "{offset}: {found}, not {wanted}");
     }
-    assert!(rt; word_at(workspace.files(), 1, 0) == "none");
+    assert!(rt; text_at(workspace.files(), 1, 0) == "none");
     workspace.release();
 }

@@ -1,6 +1,6 @@
 use Rattle.std.proofs.Common.{nat_le, rules}
 use Rattle.std.proofs.lemmas.List.Sorted.{IsPartitionPoint-from_clause}
-use Rattle.proto_names_at.proofs.TokensAt.{are_begun, partitioned}
+use Rattle.proto_names_at.proofs.WordsAt.{are_begun, partitioned}
 use Rattle.proto_names_at.proofs.offsets.begun.Goals as goal
 
 pub returns : goal.returns
