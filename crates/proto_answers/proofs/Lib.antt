@@ -1,0 +1,14 @@
+mod DeclaredThere
+mod Declarers
+mod EditsOfFiles
+mod LocationLists
+mod LoneReturns
+mod NamedTokens
+mod PutEdits
+mod ReferenceTokens
+mod RenameLines
+mod StepPositions
+mod SuitedEdits
+mod SymbolLists
+mod TokenPositions
+mod TokenRanges

@@ -1,0 +1,12 @@
+pub mod Actions
+pub mod Answers
+pub mod Common
+pub mod Declaring
+pub mod EditAnswers
+pub mod Laws
+pub mod LineEnds
+pub mod LspFiles
+pub mod Ranges
+pub mod References
+pub mod Standing
+pub mod Symbols

@@ -1,0 +1,2 @@
+pub mod ChangedFiles
+pub mod OwnFaults

@@ -1,0 +1,6 @@
+mod ByFile
+mod InLanguage
+mod News
+mod ShownKinds
+mod ToldOnce
+mod Viewed
