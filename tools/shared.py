@@ -16,6 +16,8 @@ import sys
 TOP = pathlib.Path(os.path.abspath(__file__)).parent.parent
 # The program that ./build and the gate build.
 PROGRAM = str(TOP / "crates/protoref/out/protoref")
+# The language server that the gate and ./build --server build.
+SERVER = str(TOP / "crates/protoref_serve/out/protoref_serve")
 # The folder of the plain model's modules, which import each other by their bare names.
 MODEL = str(TOP / "tools/oracle/model")
 # What the program keeps in a folder: its journal, and the new text of a file until it replaces the old one.
@@ -57,6 +59,15 @@ def program(tool, named):
         print(f"{tool}: {missing}", file=sys.stderr)
         sys.exit(2)
     return os.path.abspath(found)
+
+
+def server_at(tool, named):
+    """The server that was named, else the built one; ends with a line where there is none."""
+    found = os.path.abspath(named or SERVER)
+    if not os.access(found, os.X_OK):
+        print(f"{tool}: {found} is not there; ./build --server builds it", file=sys.stderr)
+        sys.exit(2)
+    return found
 
 
 def answer_of(program, command, root, *words, **how):

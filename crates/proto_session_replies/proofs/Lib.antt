@@ -1,0 +1,9 @@
+pub mod AskedSpots
+pub mod Brought
+pub mod FaultTexts
+pub mod InLanguage
+pub mod NameReplies
+pub mod OfferLists
+pub mod RepliedLists
+pub mod SeenFiles
+pub mod SentSymbols

@@ -1,0 +1,4 @@
+pub mod Edits
+pub mod Placing
+pub mod Replies
+pub mod Symbols
