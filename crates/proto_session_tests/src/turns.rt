@@ -94,12 +94,11 @@ fn end_of(status: u8, end: &Result<(), TakeFault>) -> &'static str {
     }
 }
 
-// Ends the test unless this reply is the one of a line.
-fn expect_reply<R: Abort>(rt: &R, found: &str, line: &str) {
-    assert!(rt;
-        line.strip_prefix("< ") == Some(found),
-        "{found} in the place of {line}"
-    );
+// Whether this reply is the one of a line. A strict test ends where it is another.
+fn is_reply<R: Abort>(rt: &R, found: &str, line: &str, is_strict: bool) -> bool {
+    let is_wanted = line.strip_prefix("< ") == Some(found);
+    assert!(rt; is_wanted || !is_strict, "{found} in the place of {line}");
+    is_wanted
 }
 
 // Whether a line of a session is a message.
@@ -107,36 +106,80 @@ fn is_message(line: &str) -> bool {
     line.starts_with("> ") || line.starts_with("+ ") || line.starts_with("! ")
 }
 
-// Runs a session in a language: each message has the replies below it, and it ends as it says.
-fn run_session<R: AllocGlobal + Abort>(rt: &R, session: &str, profile: Profile) {
-    let is_lost = Cell::new(false);
-    let fails_after = Cell::new(None);
-    let shelf = Shelf {
-        is_lost: &is_lost,
-        fails_after: &fails_after,
-    };
-    let mut server = Server::new(rt.alloc(), profile, None, shelf);
+// Takes the messages of a session up to one that cannot be taken: how that ended, and whether each
+// had the replies below it.
+fn take_all<R: AllocGlobal + Abort>(
+    rt: &R,
+    server: &mut Server<Shelf>,
+    is_lost: &Cell<bool>,
+    session: &str,
+    is_strict: bool,
+) -> (Result<(), TakeFault>, bool) {
     let mut replies = Vec::new(rt.alloc());
     let mut place = 0usize;
     let mut end = Ok(());
-    let (lines, wanted) = session.rsplit_once("\n= ").expect(rt, "an end");
-    for line in lines.lines() {
+    let mut is_wanted = true;
+    for line in session.lines() {
         if line.starts_with("< ") {
-            expect_reply(rt, reply_at(replies.as_slice(), place), line);
+            let found = reply_at(replies.as_slice(), place);
+            is_wanted = is_reply(rt, found, line, is_strict) && is_wanted;
             place = place.saturating_add(1);
         }
-        if is_message(line) {
-            assert!(rt; place == replies.len() && end.is_ok(), "before {line}");
+        if is_message(line) && end.is_ok() {
+            assert!(rt; place == replies.len() || !is_strict, "before {line}");
             place = 0;
             replies = Vec::new(rt.alloc());
-            match take(rt, &mut server, &is_lost, line) {
+            match take(rt, server, is_lost, line) {
                 Ok(next) => replies = next,
                 Err(fault) => end = Err(fault),
             }
         }
     }
-    assert!(rt; place == replies.len(), "at the end of {session}");
-    let found = end_of(server.status(), &end);
+    (end, is_wanted && place == replies.len())
+}
+
+/// How a session has gone: how it ended, whether all replies were the wanted ones, the exit status,
+/// and whether the reading that was to fail did not come.
+#[derive(Drop)]
+struct Gone {
+    end: Result<(), TakeFault>,
+    is_wanted: bool,
+    status: u8,
+    waits: bool,
+}
+
+// Runs a session in a language, in which one reading may fail, after so many that do not.
+fn run<R: AllocGlobal + Abort>(
+    rt: &R,
+    session: &str,
+    profile: Profile,
+    reading: Option<u32>,
+    is_strict: bool,
+) -> Gone {
+    let is_lost = Cell::new(false);
+    let fails_after = Cell::new(reading);
+    let shelf = Shelf {
+        is_lost: &is_lost,
+        fails_after: &fails_after,
+    };
+    let mut server = Server::new(rt.alloc(), profile, None, shelf);
+    let (end, is_wanted) = take_all(rt, &mut server, &is_lost, session, is_strict);
+    let status = server.status();
+    let waits = fails_after.get().is_some();
+    Gone {
+        end,
+        is_wanted,
+        status,
+        waits,
+    }
+}
+
+// Runs a session in a language: each message has the replies below it, and it ends as it says.
+fn run_session<R: AllocGlobal + Abort>(rt: &R, session: &str, profile: Profile) {
+    let (lines, wanted) = session.rsplit_once("\n= ").expect(rt, "an end");
+    let gone = run(rt, lines, profile, None, true);
+    assert!(rt; gone.is_wanted, "other replies at the end of {session}");
+    let found = end_of(gone.status, &gone.end);
     assert!(rt; found == wanted, "{found} at the end of {session}");
 }
 
@@ -175,6 +218,7 @@ fn folders_and_texts_are_seen(rt: HostRuntime) {
     run_session(&rt, rows::TEXTS_THAT_ARE_NO_SCHEMAS, Profile::Core);
     run_session(&rt, rows::BYTES_AS_UNITS, Profile::Core);
     run_session(&rt, rows::FINDINGS, Profile::Core);
+    run_session(&rt, rows::WHAT_STANDS_THERE, Profile::Core);
 }
 
 #[test]
@@ -195,20 +239,11 @@ fn schemas_are_read_in_their_language(rt: HostRuntime) {
 // A session in which one reading fails, after so many that do not: each message is taken, and it ends
 // with status 0.
 fn survives<R: AllocGlobal + Abort>(rt: &R, session: &str, reading: u32) {
-    let is_lost = Cell::new(false);
-    let fails_after = Cell::new(Some(reading));
-    let shelf = Shelf {
-        is_lost: &is_lost,
-        fails_after: &fails_after,
-    };
-    let mut server = Server::new(rt.alloc(), Profile::Core, None, shelf);
-    for line in session.lines() {
-        if is_message(line) {
-            let taken = take(rt, &mut server, &is_lost, line);
-            assert!(rt; taken.is_ok(), "{reading}: {line}");
-        }
-    }
-    assert!(rt; server.status() == 0 && fails_after.get().is_none());
+    let gone = run(rt, session, Profile::Core, Some(reading), false);
+    assert!(rt;
+        gone.end.is_ok() && gone.status == 0 && !gone.waits,
+        "reading {reading}"
+    );
 }
 
 #[test]
@@ -222,35 +257,14 @@ fn each_reading_fails(rt: HostRuntime) {
 // Whether a session goes on to its end, and each reply is the one that is wanted. Out of memory ends
 // it, or is a reply.
 fn is_through<R: AllocGlobal + Abort>(rt: &R, session: &str) -> bool {
-    let is_lost = Cell::new(false);
-    let fails_after = Cell::new(None);
-    let shelf = Shelf {
-        is_lost: &is_lost,
-        fails_after: &fails_after,
-    };
-    let mut server = Server::new(rt.alloc(), Profile::Core, None, shelf);
-    let mut replies = Vec::new(rt.alloc());
-    let mut place = 0usize;
-    for line in session.lines() {
-        if let Some(wanted) = line.strip_prefix("< ") {
-            if reply_at(replies.as_slice(), place) != wanted {
-                return false;
-            }
-            place = place.saturating_add(1);
-        }
-        if !is_message(line) {
-            continue;
-        }
-        place = 0;
-        match take(rt, &mut server, &is_lost, line) {
-            Ok(next) => replies = next,
-            Err(fault) => {
-                assert!(rt; fault == TakeFault::NoMemory);
-                return false;
-            }
+    let gone = run(rt, session, Profile::Core, None, false);
+    match gone.end {
+        Ok(()) => gone.is_wanted,
+        Err(fault) => {
+            assert!(rt; fault == TakeFault::NoMemory);
+            false
         }
     }
-    true
 }
 
 #[test]
