@@ -91,7 +91,8 @@ pub fn import_drop(
     encoding: Encoding,
     finding: &Finding,
 ) -> Result<Option<Vec<FileEdits>>, NoMemory>
-    ensures used { finding.now.rule ≡ ImportUsed → IfOk result (AreOffered workspace.now encoding
+    ensures used { finding.now.rule ≡ ImportUsed
+        → IfOk result (AreOffered workspace.now encoding
         (drop_import (string_bytes finding.now.path) (string_bytes finding.now.name))) }
     ensures other { finding.now.rule ≢ ImportUsed → IfOk result (λ found. found ≡ None) }
 {

@@ -98,7 +98,8 @@ fn answer_of_entry(
     encoding: Encoding,
     entry: &Entry,
 ) -> Result<Answer, NoMemory>
-    ensures { (edit : Asked) (after : List FileOf) → IsMappedStep workspace.now edit entry.now after
+    ensures { (edit : Asked) (after : List FileOf)
+        → IsMappedStep workspace.now edit entry.now after
         → IfOk result (IsAnswerTo workspace.now encoding edit) }
 {
     match edits_of_entry(alloc, workspace.files(), encoding, entry)? {

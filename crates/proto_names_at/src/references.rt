@@ -98,7 +98,8 @@ fn front_of<'a>(
     words: &Words,
     word: WordMeant,
 ) -> Result<Option<&'a str>, NoMemory>
-    ensures { IfOk result (λ found. (text : List ℕ) → name_text link.now word.entry.meant.row ≡ Some text
+    ensures { IfOk result (λ found. (text : List ℕ)
+        → name_text link.now word.entry.meant.row ≡ Some text
         → (front : List ℕ) → (option_map (λ t. t.now) found ≡ Some front)
         ↔ (text ≡ front ++ dotted_text (map (word_at words.now) (word_of word.entry).behind))) }
 {

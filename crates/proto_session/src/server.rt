@@ -57,6 +57,11 @@ impl<F: Folders + Drop> Server<F> {
     {
         self.session.status()
     }
+
+    /// Frees it: what is proved of that stays in the crates of its parts.
+    pub fn release(self) {
+        self.good.release();
+    }
 }
 
 // The failure of what is no message, and nothing changes.

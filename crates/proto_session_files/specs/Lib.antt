@@ -1,3 +1,4 @@
+pub mod Changed
 pub mod Compiling
 pub mod Homes
 pub mod Laws

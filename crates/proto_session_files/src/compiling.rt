@@ -140,4 +140,11 @@ impl Good {
     pub fn new() -> Good {
         Good { workspace: None }
     }
+
+    /// Frees it.
+    pub fn release(self) {
+        if let Some(workspace) = self.workspace {
+            workspace.release();
+        }
+    }
 }

@@ -10,7 +10,7 @@ ghost use Rattle.proto_session_replies.specs.Replies.{IsFaultText};
 use proto_all_faults::laws::first_is_least;
 use proto_base::{NoMemory, Profile};
 use proto_edit::{Files, Refusal, Workspace};
-use proto_session_faults::faults_after;
+use proto_session_files::faults_after;
 use protoref_output::{place_of_fault, refusal_line, schema_line};
 use std::alloc::Global;
 

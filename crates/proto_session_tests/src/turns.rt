@@ -165,6 +165,7 @@ fn run<R: AllocGlobal + Abort>(
     let mut server = Server::new(rt.alloc(), profile, None, shelf);
     let (end, is_wanted) = take_all(rt, &mut server, &is_lost, session, is_strict);
     let status = server.status();
+    server.release();
     let waits = fails_after.get().is_some();
     Gone {
         end,

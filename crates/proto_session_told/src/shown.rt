@@ -12,8 +12,7 @@ use proto_edit::Workspace;
 use proto_files::are_read;
 use proto_lint::{Finding, RuleSet, lint};
 use proto_messages::Severity;
-use proto_session_faults::faults_after;
-use proto_session_files::bring;
+use proto_session_files::{bring, faults_after};
 use std::alloc::Global;
 
 /// What is shown at an offset of a file.

@@ -51,8 +51,11 @@ fn run<R: Files<File = File> + Clock + Input + Print + Eprint + AllocGlobal>(
     root: Option<String>,
 ) -> u8 {
     let mut server = Server::new(rt.alloc(), profile, root, HostFolders::new(rt));
-    match serve_client(rt, &mut server) {
-        Ok(()) => server.status(),
+    let served = serve_client(rt, &mut server);
+    let status = server.status();
+    server.release();
+    match served {
+        Ok(()) => status,
         Err(fault) => {
             let _ = eprintln!(rt; "protoref_serve: {fault}");
             1

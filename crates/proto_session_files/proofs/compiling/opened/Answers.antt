@@ -1,4 +1,4 @@
-use Rattle.std.proofs.Common.{◌≡◌, List, Option, Some, subst, sym, rules}
+use Rattle.std.proofs.Common.{◌≡◌, List, Some, subst, sym, rules}
 use Rattle.proto_base.specs.GivenFiles.{FileOf, files_of_as}
 use Rattle.proto_files.specs.Faults.{HasNoFault, IsLeastFault, fault_at}
 use Rattle.proto_desc.specs.Whole.{IsSortedOf, WorkspaceFaults}

@@ -14,7 +14,7 @@ use Rattle.proto_desc_extensions.proofs.WorkspaceFlaws.{all_of_checks}
 use Rattle.proto_edit.specs.Compiled.{AreCompiled}
 use Rattle.proto_all_faults.specs.AllFaults.{CheckFaultsUpTo, FaultsUpTo, FirstPhase, of_check, of_files, of_flaw, of_link, of_path, of_read}
 use Rattle.proto_all_faults.specs.Laws.{AreAllFaults}
-use Rattle.proto_session_faults.specs.Changed.{AreChanged}
+use Rattle.proto_session_files.specs.Changed.{AreChanged}
 
 -- ---- phases
 

@@ -1,8 +1,8 @@
 use Rattle.std.proofs.Common.{◌≡◌, ◌<◌, Some, arith, rules}
 use Rattle.proto_base.proofs.Common.{nat_tests}
 use Rattle.std.specs.Prelude.{slice_get}
-use Rattle.proto_session_faults.proofs.OwnFaults.{begins_in_texts}
-use Rattle.proto_session_faults.proofs.listing.begin_in_texts.Goals as goal
+use Rattle.proto_session_files.proofs.OwnFaults.{begins_in_texts}
+use Rattle.proto_session_files.proofs.listing.begin_in_texts.Goals as goal
 
 pub returns : goal.returns
 returns c = λ yes_.

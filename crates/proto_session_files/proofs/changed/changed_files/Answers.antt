@@ -1,8 +1,8 @@
 use Rattle.std.proofs.Common.{◌≡◌, ◌<◌, ◌≤◌, get_or, length, rules}
 use Rattle.proto_base.specs.GivenFiles.{files_of_as}
 use Rattle.proto_files.specs.GivenFiles.{file_at}
-use Rattle.proto_session_faults.proofs.ChangedFiles.{added_in, changed_all, changed_more, changed_none}
-use Rattle.proto_session_faults.proofs.changed.changed_files.Goals as goal
+use Rattle.proto_session_files.proofs.ChangedFiles.{added_in, changed_all, changed_more, changed_none}
+use Rattle.proto_session_files.proofs.changed.changed_files.Goals as goal
 
 pub loop-place-init : goal.loop-place-init
 loop-place-init c = changed_none c.args.profile c.args.clean.now c.args.files.now (files_of_as c.args.profile c.new-changed.result.items) (search rules)

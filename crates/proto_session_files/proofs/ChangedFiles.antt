@@ -4,7 +4,7 @@ use Rattle.proto_base.proofs.Common.{All-append, All-cons, All-nil, All-weaker, 
 use Rattle.proto_base.specs.GivenFiles.{file_of, file_of_as, files_of, files_of_as}
 use Rattle.proto_base.specs.declared.profile.Profile.{Profile}
 use Rattle.proto_files.specs.GivenFiles.{file_at, no_file}
-use Rattle.proto_session_faults.specs.Changed.{AreChanged}
+use Rattle.proto_session_files.specs.Changed.{AreChanged}
 
 abbrev Given : Type 0
 Given = String Global × Vec ℕ

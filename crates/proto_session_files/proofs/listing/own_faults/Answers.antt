@@ -3,9 +3,9 @@ use Rattle.proto_base.proofs.Common.{FileOf}
 use Rattle.proto_base.specs.GivenFiles.{files_of_as}
 use Rattle.proto_files.specs.Faults.{fault_at}
 use Rattle.proto_all_faults.specs.Laws.{AreAllFaults}
-use Rattle.proto_session_faults.specs.Changed.{AreChanged}
-use Rattle.proto_session_faults.proofs.OwnFaults.{own_are_all}
-use Rattle.proto_session_faults.proofs.listing.own_faults.Goals as goal
+use Rattle.proto_session_files.specs.Changed.{AreChanged}
+use Rattle.proto_session_files.proofs.OwnFaults.{own_are_all}
+use Rattle.proto_session_files.proofs.listing.own_faults.Goals as goal
 
 pub returns-then-begin_in_texts : goal.returns-then-begin_in_texts
 returns-then-begin_in_texts c =

@@ -3,7 +3,7 @@
 ghost use Rattle.std.specs.Prelude.{◌≡◌, ◌⊎◌, ◌<◌, ◌++◌, [], ◌∷◌, true, IfOk, IfSome, OnOk, length};
 ghost use Rattle.proto_base.specs.GivenFiles.{file_of, file_of_as, files_of, files_of_as};
 ghost use Rattle.proto_files.specs.GivenFiles.{file_at};
-ghost use Rattle.proto_session_faults.specs.Changed.{AreChanged};
+ghost use Rattle.proto_session_files.specs.Changed.{AreChanged};
 
 use proto_base::{NoMemory, Profile};
 use proto_edit::Files;

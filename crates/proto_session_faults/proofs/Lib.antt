@@ -1,2 +1,0 @@
-pub mod ChangedFiles
-pub mod OwnFaults
