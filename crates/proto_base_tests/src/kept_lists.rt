@@ -3,6 +3,7 @@
 
 use crate::expect::expect;
 use proto_base::{NoMemory, change_at, roll_back};
+use proto_file_sets::FileSet;
 use proto_names_affected::renewed;
 use proto_names_table::RefId;
 use std::process::Abort;
@@ -46,29 +47,42 @@ const fn at(file: u32, token: u32) -> RefId {
     RefId { file, token }
 }
 
+/// The set of the files for which a value is true.
+fn set_of<R: AllocGlobal + Abort>(rt: &R, members: &[bool]) -> FileSet {
+    let mut set = FileSet::new(rt.alloc(), members.len()).expect(rt, "memory");
+    for index in 0..members.len() {
+        if members[index] {
+            set.insert_at(index);
+        }
+    }
+    set
+}
+
 fn are_renewed<R: AllocGlobal + Abort>(
     rt: &R,
     old: &[RefId],
-    marks: &[bool],
+    changed: &[bool],
     fresh: &[RefId],
     all: &[RefId],
 ) -> bool {
-    let found = renewed(rt.alloc(), old, marks, fresh).expect(rt, "memory");
+    let changed = set_of(rt, changed);
+    let found = renewed(rt.alloc(), old, &changed, fresh).expect(rt, "memory");
     found.as_slice() == all
 }
 
-/// References, which files are marked, the references that these have now, and all of them then.
+/// References, whether each file is changed, the references that these have now, and all of them
+/// then.
 const RENEWED: &[(&[RefId], &[bool], &[RefId], &[RefId], &str)] = &[
-    (OLD, MARKS, FRESH, BETWEEN, "between"),
-    (OLD, MARKS, &[], UNMARKED, "gone"),
-    (&[], MARKS, FRESH, FRESH, "come"),
-    (OLD, &[], &[], OLD, "unmarked"),
-    (OLD, ALL_MARKED, LAST, LAST, "all marked"),
+    (OLD, CHANGED_FILES, FRESH, BETWEEN, "between"),
+    (OLD, CHANGED_FILES, &[], UNCHANGED, "gone"),
+    (&[], CHANGED_FILES, FRESH, FRESH, "come"),
+    (OLD, &[], &[], OLD, "unchanged"),
+    (OLD, ALL_CHANGED, LAST, LAST, "all changed"),
 ];
 
-const MARKS: &[bool] = &[false, true, true, false];
+const CHANGED_FILES: &[bool] = &[false, true, true, false];
 
-const ALL_MARKED: &[bool] = &[true, true, false, false, true, true];
+const ALL_CHANGED: &[bool] = &[true, true, false, false, true, true];
 
 const OLD: &[RefId] = &[
     RefId { file: 0, token: 3 },
@@ -91,15 +105,15 @@ const BETWEEN: &[RefId] = &[
     RefId { file: 4, token: 2 },
 ];
 
-// The old ones of files that are not marked.
-const UNMARKED: &[RefId] = &[RefId { file: 0, token: 3 }, RefId { file: 4, token: 2 }];
+// The old ones of files that are not changed.
+const UNCHANGED: &[RefId] = &[RefId { file: 0, token: 3 }, RefId { file: 4, token: 2 }];
 
 const LAST: &[RefId] = &[RefId { file: 3, token: 1 }, RefId { file: 5, token: 0 }];
 
 #[test]
 fn references_are_renewed(rt: HostRuntime) {
-    for (old, marks, fresh, all, row) in RENEWED {
-        expect(&rt, are_renewed(&rt, old, marks, fresh, all), row);
+    for (old, changed, fresh, all, row) in RENEWED {
+        expect(&rt, are_renewed(&rt, old, changed, fresh, all), row);
     }
 }
 
@@ -121,23 +135,23 @@ fn many_changes_are_taken_back(rt: HostRuntime) {
     expect(&rt, are_all_taken_back(&rt, 4096), "4,096 changes");
 }
 
-// A reference of each of so many files, the even ones of which are marked and have theirs one token further.
+// A reference of each of so many files, the even ones of which are changed and have theirs one token further.
 fn are_many_renewed<R: AllocGlobal + Abort>(rt: &R, count: u32) -> bool {
     let mut old = Vec::new(rt.alloc());
-    let mut marks = Vec::new(rt.alloc());
+    let mut changed = Vec::new(rt.alloc());
     let mut fresh = Vec::new(rt.alloc());
     let mut all = Vec::new(rt.alloc());
     for file in 0..count {
         let is_even = file % 2 == 0;
         old.push(at(file, 1)).expect(rt, "memory");
-        marks.push(is_even).expect(rt, "memory");
+        changed.push(is_even).expect(rt, "memory");
         if is_even {
             fresh.push(at(file, 2)).expect(rt, "memory");
         }
         let token = if is_even { 2 } else { 1 };
         all.push(at(file, token)).expect(rt, "memory");
     }
-    are_renewed(rt, &old, &marks, &fresh, &all)
+    are_renewed(rt, &old, &changed, &fresh, &all)
 }
 
 #[test]
@@ -158,7 +172,8 @@ fn expect_change<R: AllocGlobal + Abort>(rt: &R) -> Result<(), NoMemory> {
 
 // Fails only where memory is refused.
 fn expect_renewed<R: AllocGlobal + Abort>(rt: &R) -> Result<(), NoMemory> {
-    let found = renewed(rt.alloc(), &[at(0, 1)], &[true], &[at(0, 2), at(0, 3)])?;
+    let changed = FileSet::all(rt.alloc(), 1)?;
+    let found = renewed(rt.alloc(), &[at(0, 1)], &changed, &[at(0, 2), at(0, 3)])?;
     assert!(rt; found.as_slice() == [at(0, 2), at(0, 3)].as_slice());
     Ok(())
 }

@@ -15,7 +15,9 @@ use crate::descriptors::Descriptors;
 use proto_base::{NoMemory, SchemaFault};
 use proto_desc_affected::copy_file_summaries;
 use proto_descriptors::copy_files;
+use proto_file_sets::FileSet;
 use proto_files::Files;
+use proto_names_update::NotUpdated;
 use proto_resolved::{CleanLinked, Derived, Link};
 use std::alloc::Global;
 
@@ -55,26 +57,30 @@ impl Descriptors {
         self.renew_or_check(alloc, &clean, places, None)
     }
 
-    /// The same; marks may be told of the files that have to be re-checked.
+    /// The same; it may be told which files have to be re-checked.
     fn renew_or_check(
         &mut self,
         alloc: Global,
         clean: &CleanLinked<'_>,
         places: &[u32],
-        told: Option<&[bool]>,
+        told: Option<&FileSet>,
     ) -> Result<(), SchemaFault>
         requires places { All (λ place. place < length clean.now.files) places.now }
         requires were { WasMadeOf AreCheckedDescriptors clean.now.files places.now
-            (option_map (λ marks. marks.now) told) self.old }
+            (option_map (λ files. files.now) told) self.old }
         ensures clean { IfOk result (λ _. HasNoFault (CheckFaults clean.now.files)) }
         ensures descriptors { OnOk result (AreDescriptorsOf clean.now.files self.new) }
         ensures fault { IfErr result (IsCheckError clean.now.files) }
         ensures kept { OnErr result (self.new ≡ self.old) }
     {
-        if !self.renew(alloc, clean, places, told)? {
-            *self = check(alloc, clean.files(), clean.link())?;
+        match self.renew(alloc, clean, places, told) {
+            Ok(()) => Ok(()),
+            Err(NotUpdated::NeedsRebuild) => {
+                *self = check(alloc, clean.files(), clean.link())?;
+                Ok(())
+            }
+            Err(NotUpdated::NoMemory) => Err(SchemaFault::NoMemory),
         }
-        Ok(())
     }
 }
 
@@ -83,14 +89,14 @@ impl Derived for Descriptors {
 
     ghost IsRefused = { IsCheckError };
 
-    /// As `replace`; the marks that are told save a look at each reference of all files.
+    /// As `replace`; the files that are told save a look at each reference of all files.
     fn follow(
         &mut self,
         alloc: Global,
         files: &Files,
         link: &Link,
         places: &[u32],
-        told: Option<&[bool]>,
+        told: Option<&FileSet>,
     ) -> Result<(), SchemaFault> {
         let clean = CleanLinked::new(files, link);
         self.renew_or_check(alloc, &clean, places, told)

@@ -1,6 +1,6 @@
 //! Descriptors of edited files, made anew as far as the edit affects them.
 
-ghost use Rattle.std.specs.Prelude.{◌≡◌, ℕ, ◌<◌, true, false, length, get_or, option_map, All, IfOk, IfSome, OnErr};
+ghost use Rattle.std.specs.Prelude.{◌≡◌, ℕ, ◌<◌, true, false, length, get_or, option_map, All, IfOk, OnErr, OnOk};
 ghost use Rattle.proto_desc.specs.Checked.{CheckFaults};
 ghost use Rattle.proto_desc.specs.Edited.{AreCheckedDescriptors, AreDescriptorsOf};
 ghost use Rattle.proto_desc.specs.Renewing.{AreMade, ArePut, IsMade, IsPutAlone};
@@ -24,6 +24,8 @@ use proto_desc_affected::marks::{
 };
 use proto_desc_checks::file_flaws;
 use proto_descriptors::FileDescriptor;
+use proto_file_sets::FileSet;
+use proto_names_update::NotUpdated;
 use proto_resolved::enum_table::{EnumRow, enum_table_of};
 use proto_resolved::scenes::scene;
 use proto_resolved::{CleanLinked, Linked};
@@ -37,60 +39,56 @@ pub(crate) struct Made {
     kept: FileSummary,
 }
 
-/// Checks a file again that has no `extend` block, and describes it; none where it has a flaw.
-/// Fails only when out of memory.
+/// Checks a file again that has no `extend` block, and describes it. A rebuild is needed where it
+/// has a flaw.
 fn check_again(
     alloc: Global,
     linked: &Linked<'_>,
     table: &[IndexMap<u32, EnumRow>],
     file: u32,
-) -> Result<Option<Made>, NoMemory>
+) -> Result<Made, NotUpdated>
     requires file { file < length linked.now.files }
     requires table { HasEnumsMeant linked.now.files linked.now.link file table.now }
-    ensures { IfOk result (λ made. IfSome made (IsMade linked.now.files file)) }
+    ensures { IfOk result (IsMade linked.now.files file) }
 {
     let files = linked.files();
     let scene = scene(alloc, linked, table, file)?;
     let tree = files.tree(file);
     let flaws = file_flaws(alloc, &scene, tree)?;
     if !flaws.is_empty() {
-        return Ok(None);
+        return Err(NotUpdated::NeedsRebuild);
     }
     let descriptor = file_descriptor(alloc, &scene, files.path(file), tree)?;
     let kept = FileSummary::new(alloc, linked, file)?;
-    Ok(Some(Made { descriptor, kept }))
+    Ok(Made { descriptor, kept })
 }
 
-/// Checks the marked files again, which have no `extend` block, and describes them: for each file in
-/// the order of their paths what was made of it, or nothing where it is not marked. Answers none
-/// where one has a flaw. Fails only when out of memory. What is made is boxed, so that a file of
-/// which nothing is made takes one word.
-fn check_marked(
+/// Checks the affected files again, which have no `extend` block, and describes them: for each file
+/// in the order of their paths what was made of it, or nothing where it is not affected. A rebuild
+/// is needed where one has a flaw. What is made is boxed, so that a file of which nothing is made
+/// takes one word.
+fn check_affected(
     alloc: Global,
     linked: &Linked<'_>,
     table: &[IndexMap<u32, EnumRow>],
-    marks: &[bool],
-) -> Result<Option<Vec<Option<Box<Made>>>>, NoMemory>
-    requires marks { length marks.now ≡ length linked.now.files }
+    affected: &FileSet,
+) -> Result<Vec<Option<Box<Made>>>, NotUpdated>
     requires table { (file : ℕ) → file < length linked.now.files
-        → get_or marks.now file false ≡ true
+        → get_or affected.now file false ≡ true
         → HasEnumsMeant linked.now.files linked.now.link file table.now }
-    ensures { IfOk result (λ all.
-        IfSome all (λ made. AreMade linked.now.files marks.now made.items)) }
+    ensures { IfOk result (λ made. AreMade linked.now.files affected.now made.items) }
 {
     let mut all = Vec::with_capacity(alloc, linked.file_count())?;
     for file in 0..linked.file_count() as u32 {
-        if marks[file as usize] {
-            let Some(made) = check_again(alloc, linked, table, file)? else {
-                return Ok(None);
-            };
+        if affected.contains(file) {
+            let made = check_again(alloc, linked, table, file)?;
             let boxed = Box::new(alloc, made)?;
             all.push(Some(boxed))?;
         } else {
             all.push(None)?;
         }
     }
-    Ok(Some(all))
+    Ok(all)
 }
 
 impl Descriptors {
@@ -120,22 +118,22 @@ impl Descriptors {
         }
     }
 
-    /// Marks of the files that the edit affects. Where it is told which have to be looked at
-    /// again, these are asked, and those that refer to an enum of an edited file or have an `extend`
+    /// The files that the edit affects. Where it is told which have to be looked at again,
+    /// these are asked, and those that refer to an enum of an edited file or have an `extend`
     /// block; else all files. Fails only when out of memory.
     fn affected(
         &self,
         alloc: Global,
         clean: &CleanLinked<'_>,
         places: &[u32],
-        told: Option<&[bool]>,
-    ) -> Result<Vec<bool>, NoMemory>
+        told: Option<&FileSet>,
+    ) -> Result<FileSet, NoMemory>
         requires places { All (λ place. place < length clean.now.files) places.now }
         requires were { WasMadeOf AreCheckedDescriptors clean.now.files places.now
-            (option_map (λ marks. marks.now) told) self.now }
-        ensures len { IfOk result (λ marks. length marks.items ≡ length clean.now.files) }
-        ensures others { IfOk result (λ marks. AreOthersKept places.now clean.now.files
-            clean.now.link (files_kept self.now) marks.items) }
+            (option_map (λ files. files.now) told) self.now }
+        ensures len { IfOk result (λ affected. length affected ≡ length clean.now.files) }
+        ensures others { IfOk result (λ affected. AreOthersKept places.now clean.now.files
+            clean.now.link (files_kept self.now) affected) }
     {
         // By the law no name clashes with another.
         clean_edits_are_sound();
@@ -147,25 +145,21 @@ impl Descriptors {
     }
 
     /// Makes these the descriptors of the files, which are those that they were of but at these
-    /// places, as far as the edit affects a file. Marks may be told of the files that have
-    /// to be re-checked. Answers false where it gives up: where a file that is affected has
-    /// a flaw, or has or had an `extend` block. Fails only when out of memory. Where it does not
-    /// answer true, nothing is changed.
+    /// places, as far as the edit affects a file. It may be told which files have to be re-checked.
+    /// A rebuild is needed where a file that is affected has a flaw, or has or had an `extend`
+    /// block. Where it fails, nothing is changed.
     pub(crate) fn renew(
         &mut self,
         alloc: Global,
         clean: &CleanLinked<'_>,
         places: &[u32],
-        told: Option<&[bool]>,
-    ) -> Result<bool, NoMemory>
+        told: Option<&FileSet>,
+    ) -> Result<(), NotUpdated>
         requires places { All (λ place. place < length clean.now.files) places.now }
         requires were { WasMadeOf AreCheckedDescriptors clean.now.files places.now
-            (option_map (λ marks. marks.now) told) self.old }
-        ensures clean { IfOk result (λ done. done ≡ true
-            → HasNoFault (CheckFaults clean.now.files)) }
-        ensures descriptors { IfOk result (λ done. done ≡ true
-            → AreDescriptorsOf clean.now.files self.new) }
-        ensures given_up { IfOk result (λ done. done ≡ false → self.new ≡ self.old) }
+            (option_map (λ files. files.now) told) self.old }
+        ensures clean { OnOk result (HasNoFault (CheckFaults clean.now.files)) }
+        ensures descriptors { OnOk result (AreDescriptorsOf clean.now.files self.new) }
         ensures kept { OnErr result (self.new ≡ self.old) }
     {
         // By these laws what is kept tells the files that the edit does not affect, of these all is
@@ -175,16 +169,14 @@ impl Descriptors {
         unaffected_files_stay();
         wanted_enums_are_there::<BuildHasherDefault<FoldHasher>>();
         let files = clean.files();
-        let marks = self.affected(alloc, clean, places, told)?;
-        if !has_no_marked_extends(files, &marks, &self.kept) {
-            return Ok(false);
+        let affected = self.affected(alloc, clean, places, told)?;
+        if !has_no_marked_extends(files, &affected, &self.kept) {
+            return Err(NotUpdated::NeedsRebuild);
         }
-        let wanted = files_of_enums(alloc, files, clean.link(), &marks)?;
+        let wanted = files_of_enums(alloc, files, clean.link(), &affected)?;
         let table = enum_table_of(alloc, files, &wanted)?;
-        let Some(all) = check_marked(alloc, clean.linked(), &table, &marks)? else {
-            return Ok(false);
-        };
+        let all = check_affected(alloc, clean.linked(), &table, &affected)?;
         self.put(all);
-        Ok(true)
+        Ok(())
     }
 }

@@ -1,5 +1,4 @@
-//! The files that an edit affects, and those whose enums they mean, as marks: one for each
-//! file.
+//! The files that an edit affects, and those whose enums they mean.
 
 ghost use Rattle.std.specs.Prelude.{◌≡◌, ◌↔◌, ◌⊎◌, ◌||◌, ℕ, ◌<◌, List, [], true, false, length, get_or, map, nat_eq, option_map, slice_get, Some, IfOk, IfSome};
 ghost use Rattle.std.specs.List.{All};
@@ -19,20 +18,20 @@ use crate::laws::{links_have_what_is_kept, marks_tell_kept};
 use crate::still_enums::{is_still, still_enums};
 use indexmap::IndexMap;
 use proto_base::NoMemory;
+use proto_file_sets::FileSet;
 use proto_files::{Files, are_read};
 use proto_names::{DeclaredNames, Link, Meant, RefId, SymbolId};
 use proto_names_affected::marking::mark_places;
-use proto_names_rules::marks::is_marked;
 use proto_resolved::Linked;
 use std::alloc::Global;
 
-/// Whether a name stands in no file that is marked as edited.
-fn is_elsewhere(link: &Link, edited: &[bool], name: SymbolId) -> bool
+/// Whether a name stands in no edited file.
+fn is_elsewhere(link: &Link, edited: &FileSet, name: SymbolId) -> bool
     ensures { result ≡ true → (places : List ℕ) → ArePlacesMarked edited.now places
         → IsElsewhere places link.now name.row }
 {
     match link.file_of(name) {
-        Some(file) => !is_marked(edited, file),
+        Some(file) => !edited.contains(file),
         None => true,
     }
 }
@@ -68,7 +67,7 @@ fn is_type_still(
 /// that is to the file what is kept of it.
 fn is_meant_still(
     link: &Link,
-    edited: &[bool],
+    edited: &FileSet,
     still: &IndexMap<usize, bool>,
     file: &FileSummary,
     kept: &TypeUse,
@@ -89,7 +88,7 @@ fn is_meant_still(
 /// Whether the references of a file mean what is kept of them.
 fn are_meant_still(
     link: &Link,
-    edited: &[bool],
+    edited: &FileSet,
     still: &IndexMap<usize, bool>,
     kept: &FileSummary,
     meant: &[Meant],
@@ -111,11 +110,11 @@ fn are_meant_still(
     true
 }
 
-/// Whether a file is not marked as edited, and its references mean what is kept of them.
+/// Whether a file is not edited, and its references mean what is kept of them.
 #[tactic(auto, using(crate::proofs::MeantStill::kept_still))]
 fn is_kept_still(
     link: &Link,
-    edited: &[bool],
+    edited: &FileSet,
     still: &IndexMap<usize, bool>,
     kept: &FileSummary,
     file: u32,
@@ -126,16 +125,16 @@ fn is_kept_still(
         → file < length files → get_or ks file nothing_kept ≡ file_summary_of kept.now
         → IsKeptStill places files link.now ks file }
 {
-    !is_marked(edited, file) && are_meant_still(link, edited, still, kept, link.meant_in(file))
+    !edited.contains(file) && are_meant_still(link, edited, still, kept, link.meant_in(file))
 }
 
-/// Whether a file is not marked as unsure, or is not edited and its references mean what is kept of
+/// Whether a file is not unsure, or is not edited and its references mean what is kept of
 /// them.
 fn is_left_out(
     link: &Link,
-    edited: &[bool],
+    edited: &FileSet,
     still: &IndexMap<usize, bool>,
-    unsure: &[bool],
+    unsure: &FileSet,
     kept: &FileSummary,
     file: u32,
 ) -> bool
@@ -145,13 +144,13 @@ fn is_left_out(
         → file < length files → get_or ks file nothing_kept ≡ file_summary_of kept.now
         → IsKeptStill places files link.now ks file) }
 {
-    if !is_marked(unsure, file) {
+    if !unsure.contains(file) {
         return true;
     }
     is_kept_still(link, edited, still, kept, file)
 }
 
-/// Marks of those of the unsure files that are edited, at these places, or of which a reference, by
+/// Those of the unsure files that are edited, at these places, or of which a reference, by
 /// the link now, does not mean what is kept of it, or means what stands in an edited file. If the
 /// file has no `extend` block, a message may stand there, where it was one, and an enum, where it
 /// is to the file what is kept of it. Fails only when out of memory.
@@ -160,27 +159,28 @@ fn unsure_to_check(
     linked: &Linked<'_>,
     places: &[u32],
     kept: &[FileSummary],
-    unsure: &[bool],
-) -> Result<Vec<bool>, NoMemory>
+    unsure: &FileSet,
+) -> Result<FileSet, NoMemory>
     requires places { All (λ place. place < length linked.now.files) places.now }
     requires paired { length kept.now ≡ length linked.now.files }
-    ensures len { IfOk result (λ marks. length marks.items ≡ length linked.now.files) }
-    ensures others { IfOk result (λ marks. AreUnsureKept places.now linked.now.files
-        linked.now.link (file_summaries_of kept.now) unsure.now marks.items) }
+    ensures len { IfOk result (λ affected. length affected ≡ length linked.now.files) }
+    ensures others { IfOk result (λ affected. AreUnsureKept places.now linked.now.files
+        linked.now.link (file_summaries_of kept.now) unsure.now affected) }
 {
     let link = linked.link();
-    let mut edited = vec![in alloc; false; linked.file_count()]?;
+    let mut edited = FileSet::new(alloc, linked.file_count())?;
     mark_places(&mut edited, places);
     let still = still_enums(alloc, linked, kept, places)?;
-    let mut marks = Vec::with_capacity(alloc, linked.file_count())?;
+    let mut affected = FileSet::new(alloc, linked.file_count())?;
     for file in 0..linked.file_count() as u32 {
-        let stays = is_left_out(link, &edited, &still, unsure, &kept[file as usize], file);
-        marks.push(!stays)?;
+        if !is_left_out(link, &edited, &still, unsure, &kept[file as usize], file) {
+            affected.insert(file);
+        }
     }
-    Ok(marks)
+    Ok(affected)
 }
 
-/// Marks of the files that an edit of the files at these places affects: these, and each of
+/// The files that an edit of the files at these places affects: these, and each of
 /// which a reference, by the link now, does not mean what is kept of it, or means what stands in an
 /// edited file. If the file has no `extend` block, a message may stand there, where it was one, and
 /// an enum, where it is to the file what is kept of it. Fails only when out of memory.
@@ -189,14 +189,14 @@ pub fn files_to_check(
     linked: &Linked<'_>,
     places: &[u32],
     kept: &[FileSummary],
-) -> Result<Vec<bool>, NoMemory>
+) -> Result<FileSet, NoMemory>
     requires places { All (λ place. place < length linked.now.files) places.now }
     requires paired { length kept.now ≡ length linked.now.files }
-    ensures len { IfOk result (λ marks. length marks.items ≡ length linked.now.files) }
-    ensures others { IfOk result (λ marks. AreOthersKept places.now linked.now.files
-        linked.now.link (file_summaries_of kept.now) marks.items) }
+    ensures len { IfOk result (λ affected. length affected ≡ length linked.now.files) }
+    ensures others { IfOk result (λ affected. AreOthersKept places.now linked.now.files
+        linked.now.link (file_summaries_of kept.now) affected) }
 {
-    let unsure = vec![in alloc; true; linked.file_count()]?;
+    let unsure = FileSet::all(alloc, linked.file_count())?;
     unsure_to_check(alloc, linked, places, kept, &unsure)
 }
 
@@ -210,21 +210,21 @@ fn had_extend(kept: &[FileSummary], file: u32) -> bool
     }
 }
 
-/// Marks a file that refers to a name, unless that is a message's and the file had no `extend`
-/// block.
-fn mark_user(marks: &mut Vec<bool>, link: &Link, kept: &[FileSummary], name: SymbolId, user: RefId)
-    ensures stay { MarksStay marks.old.items marks.new.items }
-    ensures marked { IsUserMarked link.now (file_summaries_of kept.now) marks.new.items name.row user }
+/// Puts a file into the set that refers to a name, unless that is a message's and the file had no
+/// `extend` block.
+fn mark_user(marks: &mut FileSet, link: &Link, kept: &[FileSummary], name: SymbolId, user: RefId)
+    ensures stay { MarksStay marks.old marks.new }
+    ensures marked { IsUserMarked link.now (file_summaries_of kept.now) marks.new name.row user }
 {
     if !is_message(link.kind_of(name)) || had_extend(kept, user.file) {
         mark_file(marks, Some(user.file));
     }
 }
 
-/// Marks so the files that refer to a name.
-fn mark_users_of_name(marks: &mut Vec<bool>, link: &Link, kept: &[FileSummary], name: SymbolId)
-    ensures stay { MarksStay marks.old.items marks.new.items }
-    ensures marked { AreUsersMarked link.now (file_summaries_of kept.now) marks.new.items name.row }
+/// Puts so into the set the files that refer to a name.
+fn mark_users_of_name(marks: &mut FileSet, link: &Link, kept: &[FileSummary], name: SymbolId)
+    ensures stay { MarksStay marks.old marks.new }
+    ensures marked { AreUsersMarked link.now (file_summaries_of kept.now) marks.new name.row }
 {
     for user in link.references(name) {
         mark_user(marks, link, kept, name, *user);
@@ -233,15 +233,15 @@ fn mark_users_of_name(marks: &mut Vec<bool>, link: &Link, kept: &[FileSummary], 
 
 /// The same of the name at a place among these, if there is one.
 fn mark_users_at(
-    marks: &mut Vec<bool>,
+    marks: &mut FileSet,
     link: &Link,
     kept: &[FileSummary],
     names: &DeclaredNames<'_>,
     place: usize,
 )
-    ensures stay { MarksStay marks.old.items marks.new.items }
+    ensures stay { MarksStay marks.old marks.new }
     ensures marked { IfSome (slice_get names.now.rows.now place)
-        (AreUsersMarked link.now (file_summaries_of kept.now) marks.new.items) }
+        (AreUsersMarked link.now (file_summaries_of kept.now) marks.new) }
 {
     if let Some(name) = names.get(place) {
         mark_users_of_name(marks, link, kept, name);
@@ -249,9 +249,9 @@ fn mark_users_at(
 }
 
 /// The same of each name that a file declares.
-fn mark_users_of_file(marks: &mut Vec<bool>, link: &Link, kept: &[FileSummary], file: u32)
-    ensures stay { MarksStay marks.old.items marks.new.items }
-    ensures marked { All (AreUsersMarked link.now (file_summaries_of kept.now) marks.new.items)
+fn mark_users_of_file(marks: &mut FileSet, link: &Link, kept: &[FileSummary], file: u32)
+    ensures stay { MarksStay marks.old marks.new }
+    ensures marked { All (AreUsersMarked link.now (file_summaries_of kept.now) marks.new)
         (get_or link.now.rows file []) }
 {
     let names = link.declared_in(file);
@@ -261,39 +261,39 @@ fn mark_users_of_file(marks: &mut Vec<bool>, link: &Link, kept: &[FileSummary], 
 }
 
 /// The same of each name that the files at these places declare.
-fn mark_users(marks: &mut Vec<bool>, link: &Link, kept: &[FileSummary], places: &[u32])
-    ensures stay { MarksStay marks.old.items marks.new.items }
+fn mark_users(marks: &mut FileSet, link: &Link, kept: &[FileSummary], places: &[u32])
+    ensures stay { MarksStay marks.old marks.new }
     ensures marked { AreUsersOfFilesMarked
-        places.now link.now (file_summaries_of kept.now) marks.new.items }
+        places.now link.now (file_summaries_of kept.now) marks.new }
 {
     for place in places {
         mark_users_of_file(marks, link, kept, *place);
     }
 }
 
-/// Marks of the files that an edit of the files at these places affects, by the marks of
-/// those that have to be re-checked, which are told. Of these, and of the files that refer to a
-/// name of an edited file, where it is no message's or they had an `extend` block, it is asked what
-/// their references mean; no other file is asked. Fails only when out of memory.
+/// The files that an edit of the files at these places affects, by those that have to be
+/// re-checked, which are told. Of these, and of the files that refer to a name of an edited file,
+/// where it is no message's or they had an `extend` block, it is asked what their references mean;
+/// no other file is asked. Fails only when out of memory.
 pub fn told_files_to_check(
     alloc: Global,
     linked: &Linked<'_>,
     places: &[u32],
     kept: &[FileSummary],
-    told: &[bool],
-) -> Result<Vec<bool>, NoMemory>
+    told: &FileSet,
+) -> Result<FileSet, NoMemory>
     requires places { All (λ place. place < length linked.now.files) places.now }
     requires paired { length kept.now ≡ length linked.now.files }
     requires told { length told.now ≡ length linked.now.files }
-    ensures len { IfOk result (λ marks. length marks.items ≡ length linked.now.files) }
-    ensures others { IfOk result (λ marks. AreOthersKeptAsTold places.now linked.now.files
-        linked.now.link (file_summaries_of kept.now) told.now marks.items) }
+    ensures len { IfOk result (λ affected. length affected ≡ length linked.now.files) }
+    ensures others { IfOk result (λ affected. AreOthersKeptAsTold places.now linked.now.files
+        linked.now.link (file_summaries_of kept.now) told.now affected) }
 {
     // By these laws a file that is not asked means what it meant, and each reference is in the
     // lists that are walked here.
     marks_tell_kept();
     links_have_what_is_kept();
-    let mut unsure = Vec::from_slice(alloc, told)?;
+    let mut unsure = told.copy(alloc)?;
     mark_users(&mut unsure, linked.link(), kept, places);
     unsure_to_check(alloc, linked, places, kept, &unsure)
 }
@@ -307,36 +307,36 @@ fn has_or_had_extend(files: &Files, kept: &FileSummary, file: u32) -> bool
     kept.has_extend || has_extend_at(files, file)
 }
 
-/// Whether no marked file has an `extend` block, and none had one, by what is kept of them. Takes
-/// no memory.
-pub fn has_no_marked_extends(files: &Files, marks: &[bool], kept: &[FileSummary]) -> bool
+/// Whether no file of the set has an `extend` block, and none had one, by what is kept of them.
+/// Takes no memory.
+pub fn has_no_marked_extends(files: &Files, marks: &FileSet, kept: &[FileSummary]) -> bool
     requires paired { length kept.now ≡ length files.now }
     ensures { (result ≡ true) ↔ HasNoMarkedExtends files.now (file_summaries_of kept.now) marks.now }
 {
     are_read(files);
     for file in 0..files.len() as u32 {
-        if is_marked(marks, file) && has_or_had_extend(files, &kept[file as usize], file) {
+        if marks.contains(file) && has_or_had_extend(files, &kept[file as usize], file) {
             return false;
         }
     }
     true
 }
 
-/// Marks a file, if there is one.
-fn mark_file(wanted: &mut Vec<bool>, file: Option<u32>)
-    ensures stay { MarksStay wanted.old.items wanted.new.items }
-    ensures marked { IfSome file (λ f. f < length wanted.old.items → IsMarked wanted.new.items f) }
+/// Puts a file into the set, if there is one.
+#[tactic(auto, using(proto_names_affected::proofs::Inserted::inserted_stay, proto_names_affected::proofs::Inserted::inserted_marked))]
+fn mark_file(wanted: &mut FileSet, file: Option<u32>)
+    ensures stay { MarksStay wanted.old wanted.new }
+    ensures marked { IfSome file (λ f. f < length wanted.old → IsMarked wanted.new f) }
 {
-    let Some(file) = file else { return };
-    if let Some(mark) = wanted.get_mut(file as usize) {
-        *mark = true;
+    if let Some(file) = file {
+        wanted.insert(file);
     }
 }
 
-/// Marks the file that declares what a reference means, unless that is a message's.
-fn mark_enum(wanted: &mut Vec<bool>, link: &Link, meant: Meant)
-    ensures stay { MarksStay wanted.old.items wanted.new.items }
-    ensures marked { IsEnumMarked link.now wanted.new.items meant }
+/// Puts the file into the set that declares what a reference means, unless that is a message's.
+fn mark_enum(wanted: &mut FileSet, link: &Link, meant: Meant)
+    ensures stay { MarksStay wanted.old wanted.new }
+    ensures marked { IsEnumMarked link.now wanted.new meant }
 {
     let name = meant.symbol();
     if !is_message(link.kind_of(name)) {
@@ -344,29 +344,28 @@ fn mark_enum(wanted: &mut Vec<bool>, link: &Link, meant: Meant)
     }
 }
 
-/// Marks the files that declare what these references mean, messages left out.
-fn mark_enums(wanted: &mut Vec<bool>, link: &Link, meant: &[Meant])
-    ensures stay { MarksStay wanted.old.items wanted.new.items }
-    ensures marked { All (IsEnumMarked link.now wanted.new.items) meant.now }
+/// Puts the files into the set that declare what these references mean, messages left out.
+fn mark_enums(wanted: &mut FileSet, link: &Link, meant: &[Meant])
+    ensures stay { MarksStay wanted.old wanted.new }
+    ensures marked { All (IsEnumMarked link.now wanted.new) meant.now }
 {
     for one in meant {
         mark_enum(wanted, link, *one);
     }
 }
 
-/// Marks of the files whose enums references of marked files mean. Fails only when out of
-/// memory.
+/// The files whose enums references of these files mean. Fails only when out of memory.
 pub fn files_of_enums(
     alloc: Global,
     files: &Files,
     link: &Link,
-    marks: &[bool],
-) -> Result<Vec<bool>, NoMemory>
-    ensures { IfOk result (λ wanted. AreEnumsMarked files.now link.now marks.now wanted.items) }
+    marks: &FileSet,
+) -> Result<FileSet, NoMemory>
+    ensures { IfOk result (λ wanted. AreEnumsMarked files.now link.now marks.now wanted) }
 {
-    let mut wanted = vec![in alloc; false; files.len()]?;
+    let mut wanted = FileSet::new(alloc, files.len())?;
     for file in 0..files.len() as u32 {
-        if is_marked(marks, file) {
+        if marks.contains(file) {
             mark_enums(&mut wanted, link, link.meant_in(file));
         }
     }

@@ -18,23 +18,23 @@ use crate::capturing::{bytes_before, extend, meaning};
 use crate::scope::{Around, Declared, scope_words};
 use crate::shown::fits;
 use proto_base::NoMemory;
+use proto_file_sets::FileSet;
 use proto_files::{Files, Words};
 use proto_names::{Link, Meant};
 use proto_names_outline::file_listing::list_file;
 use proto_names_outline::listing::{Listing, Use};
 use proto_names_outline::wanted::package;
 use proto_names_rules::below;
-use proto_names_rules::marks::is_marked;
 use proto_resolved::CleanLinked;
 use std::alloc::Global;
 use std::collections::HashSet;
 
-/// What is seen of a link: marks of files, and the packages of these files, each with its fronts,
+/// What is seen of a link: some files, and the packages of these files, each with its fronts,
 /// as text.
 #[derive(Drop)]
 struct Seen<'a> {
     link: &'a Link,
-    marks: &'a [bool],
+    files: &'a FileSet,
     packages: HashSet<String>,
 }
 
@@ -57,13 +57,13 @@ fn add_fronts(
     Ok(())
 }
 
-/// The packages of the files that are marked, with their fronts.
-fn packages(alloc: Global, files: &Files, marks: &[bool]) -> Result<HashSet<String>, NoMemory>
-    ensures { IfOk result (λ packages. TellsPackages files.now marks.now (contains_text packages)) }
+/// The packages of the files of a set, with their fronts.
+fn packages(alloc: Global, files: &Files, set: &FileSet) -> Result<HashSet<String>, NoMemory>
+    ensures { IfOk result (λ packages. TellsPackages files.now set.now (contains_text packages)) }
 {
     let mut packages = HashSet::new(alloc);
     for file in 0..files.len() as u32 {
-        if is_marked(marks, file) {
+        if set.contains(file) {
             let words = Words::new(files, file);
             let tokens = package(alloc, files.tree(file))?;
             add_fronts(&mut packages, alloc, &words, &tokens)?;
@@ -74,7 +74,7 @@ fn packages(alloc: Global, files: &Files, marks: &[bool]) -> Result<HashSet<Stri
 
 /// Whether a name with this text fits and is seen.
 fn is_seen(seen: &Seen, is_long: bool, name: &str) -> bool
-    ensures { result ≡ sees_text seen.now.link.now seen.now.marks.now
+    ensures { result ≡ sees_text seen.now.link.now seen.now.files.now
         (contains_text seen.now.packages) is_long name.now }
 {
     let Some(id) = seen.link.symbol(name) else {
@@ -87,7 +87,7 @@ fn is_seen(seen: &Seen, is_long: bool, name: &str) -> bool
         return false;
     }
     match seen.link.file_of(id) {
-        Some(file) => is_marked(seen.marks, file),
+        Some(file) => seen.files.contains(file),
         None => seen.packages.contains(name),
     }
 }
@@ -102,7 +102,7 @@ fn is_seen_in(
     word: &str,
 ) -> Result<bool, NoMemory>
     ensures { IfOk result (λ b. b ≡ (nat_le around.entry.least (length front.now)
-        && sees_text seen.now.link.now seen.now.marks.now (contains_text seen.now.packages)
+        && sees_text seen.now.link.now seen.now.files.now (contains_text seen.now.packages)
         around.entry.is_long (below front.now word.now))) }
 {
     if front.len() < around.least {
@@ -116,7 +116,7 @@ fn is_seen_in(
 /// that fits is seen under the word.
 fn is_seen_from(alloc: Global, seen: &Seen, around: Around, word: &str) -> Result<bool, NoMemory>
     ensures { IfOk result (λ b. b ≡ shown_from
-        (λ front. sees_text seen.now.link.now seen.now.marks.now
+        (λ front. sees_text seen.now.link.now seen.now.files.now
         (contains_text seen.now.packages) around.entry.is_long (below front word.now))
         around.entry.least [] (map string_bytes around.entry.scope.now)) }
 {
@@ -141,7 +141,7 @@ fn is_overtaken(
     requires ordered { (k : ℕ) (d : ListedOf) → k < length declared.now.all.now
         → needs (get_or declared.now.all.now k d).above ≤ k }
     requires within { needs used.now.scope ≤ length declared.now.all.now }
-    ensures { IfOk result (λ b. b ≡ overtakes_use seen.now.link.now seen.now.marks.now
+    ensures { IfOk result (λ b. b ≡ overtakes_use seen.now.link.now seen.now.files.now
         (contains_text seen.now.packages) (word_at declared.now.words.now) declared.now.all.now
         used.now meaning.now) }
 {
@@ -172,7 +172,7 @@ fn first_in_list(
 ) -> Result<Option<u32>, NoMemory>
     requires { IsSound listing.now }
     ensures { IfOk result (λ first. first ≡ first_passing
-        (overtakes_by seen.now.link.now seen.now.marks.now (contains_text seen.now.packages)
+        (overtakes_by seen.now.link.now seen.now.files.now (contains_text seen.now.packages)
         (word_at words.now) listing.now.declared.items) listing.now.used.items meant.now) }
 {
     let all = listing.declared.as_slice();
@@ -186,25 +186,25 @@ fn first_in_list(
     Ok(None)
 }
 
-/// The first reference of a file that is overtaken where the file sees what is marked, by its first
+/// The first reference of a file that is overtaken where the file sees those of a set, by its first
 /// token: with the imports by which it sees this, it would be found further inward than it is now.
 pub fn first_overtaken(
     alloc: Global,
     linked: &CleanLinked<'_>,
     file: u32,
-    marks: &[bool],
+    sees: &FileSet,
 ) -> Result<Option<u32>, NoMemory>
     requires { file < length linked.now.files }
     ensures { IfOk result (λ first. (reads : List ReadOf) → AreRead linked.now.files reads →
-        (v : Workspace) → SeesMarked linked.now.files reads v file marks.now
+        (v : Workspace) → SeesMarked linked.now.files reads v file sees.now
         → IsFirstOvertaken linked.now.files reads v file first) }
 {
     let files = linked.files();
     let link = linked.link();
-    let packages = packages(alloc, files, marks)?;
+    let packages = packages(alloc, files, sees)?;
     let seen = Seen {
         link,
-        marks,
+        files: sees,
         packages,
     };
     let words = Words::new(files, file);

@@ -9,8 +9,8 @@ ghost use Rattle.proto_edit_captures.specs.FoundTargets.{IsTargetOf};
 
 use crate::parts::word;
 use crate::rename_target::RenameTarget;
+use proto_files::{Files, are_read};
 use proto_names_rules::Kind;
-use proto_resolved::CleanLinked;
 use proto_tree::{is_listed, may_name_value};
 
 /// Whether a symbol of this kind may not be named by the word: a message, an enum or a service by a
@@ -26,11 +26,12 @@ pub fn is_keyword(kind: Kind, word: &str) -> bool
 }
 
 /// Whether this is the simple name of the target.
-pub fn has_name(linked: &CleanLinked<'_>, target: RenameTarget, name: &str) -> bool
-    requires { IsTargetOf linked.now.files target }
-    ensures { (reads : List ReadOf) → AreRead linked.now.files reads → IsTrue result
-        ↔ (text_of linked.now.files reads (at target.entry.file target.entry.token) ≡ name.now) }
+pub fn has_name(files: &Files, target: RenameTarget, name: &str) -> bool
+    requires { IsTargetOf files.now target }
+    ensures { (reads : List ReadOf) → AreRead files.now reads → IsTrue result
+        ↔ (text_of files.now reads (at target.entry.file target.entry.token) ≡ name.now) }
 {
-    let files = linked.files();
+    // Each file has tokens and a tree.
+    are_read(files);
     word(files, target.file, target.token) == name
 }

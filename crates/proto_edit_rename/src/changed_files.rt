@@ -5,20 +5,20 @@ ghost use Rattle.proto_names.specs.Linking.{name_text};
 ghost use Rattle.proto_edit_rename.specs.ChangedFiles.{AreChangedFiles, HasReferencesMarked, with_references, with_row, with_rows};
 ghost use Rattle.proto_edit_rename.specs.StandingTokens.{goes_on};
 
-use crate::changing::mark;
 use crate::standing::words_behind;
 use proto_base::NoMemory;
 use proto_edit_captures::RenameTarget;
+use proto_file_sets::FileSet;
 use proto_names::{DeclaredNames, Link, RefId, SymbolId};
 use proto_resolved::CleanLinked;
 use std::alloc::Global;
 
-/// Marks the files of these references.
-fn mark_references(marks: &mut Vec<bool>, references: &[RefId])
-    ensures { marks.new.items ≡ with_references marks.old.items references.now }
+/// Puts the files of these references into the set.
+fn mark_references(changed: &mut FileSet, references: &[RefId])
+    ensures { changed.new ≡ with_references changed.old references.now }
 {
     for reference in references {
-        mark(marks, reference.file as usize);
+        changed.insert(reference.file);
     }
 }
 
@@ -32,14 +32,14 @@ fn goes_on(link: &Link, name: &str, id: SymbolId) -> bool
     }
 }
 
-/// Marks the files of the references to a name, if it is this one or goes on from it.
-fn mark_name(marks: &mut Vec<bool>, link: &Link, name: &str, id: SymbolId)
-    ensures { marks.new.items ≡ with_row link.now name.now marks.old.items id.row }
+/// Puts the files of the references to a name into the set, if it is this one or goes on from it.
+fn mark_name(changed: &mut FileSet, link: &Link, name: &str, id: SymbolId)
+    ensures { changed.new ≡ with_row link.now name.now changed.old id.row }
 {
     if !goes_on(link, name, id) {
         return;
     }
-    mark_references(marks, link.references(id));
+    mark_references(changed, link.references(id));
 }
 
 /// One of these names.
@@ -54,67 +54,59 @@ fn declared_name(declared: &DeclaredNames, place: usize) -> SymbolId
 }
 
 /// The same of all these names.
-fn mark_names(marks: &mut Vec<bool>, link: &Link, name: &str, declared: &DeclaredNames)
-    ensures { marks.new.items ≡ with_rows link.now name.now marks.old.items declared.now.rows.now }
+fn mark_names(changed: &mut FileSet, link: &Link, name: &str, declared: &DeclaredNames)
+    ensures { changed.new ≡ with_rows link.now name.now changed.old declared.now.rows.now }
 {
     for place in 0..declared.len() {
-        mark_name(marks, link, name, declared_name(declared, place));
+        mark_name(changed, link, name, declared_name(declared, place));
     }
 }
 
-/// Marks the files of the references to the name with this text, if there is one.
-fn mark_named(marks: &mut Vec<bool>, link: &Link, name: &str)
-    ensures as_many { length marks.new.items ≡ length marks.old.items }
-    ensures kept { (file : ℕ) → file < length marks.old.items
-        → get_or marks.old.items file false ≡ true → get_or marks.new.items file false ≡ true }
+/// Puts the files of the references to the name with this text into the set, if there is one.
+fn mark_named(changed: &mut FileSet, link: &Link, name: &str)
+    ensures as_many { length changed.new ≡ length changed.old }
+    ensures kept { (file : ℕ) → file < length changed.old
+        → get_or changed.old file false ≡ true → get_or changed.new file false ≡ true }
     ensures users { (row : ℕ) → name_text link.now row ≡ Some name.now
-        → HasReferencesMarked link.now marks.new.items row }
+        → HasReferencesMarked link.now changed.new row }
 {
     match link.symbol(name) {
-        Some(id) => mark_references(marks, link.references(id)),
+        Some(id) => mark_references(changed, link.references(id)),
         None => {}
     }
 }
 
 /// The same of an enum, if there is one.
-fn mark_users(marks: &mut Vec<bool>, link: &Link, enum_name: Option<&str>)
-    ensures as_many { length marks.new.items ≡ length marks.old.items }
-    ensures kept { (file : ℕ) → file < length marks.old.items
-        → get_or marks.old.items file false ≡ true → get_or marks.new.items file false ≡ true }
+fn mark_users(changed: &mut FileSet, link: &Link, enum_name: Option<&str>)
+    ensures as_many { length changed.new ≡ length changed.old }
+    ensures kept { (file : ℕ) → file < length changed.old
+        → get_or changed.old file false ≡ true → get_or changed.new file false ≡ true }
     ensures users { (row : ℕ) (name : List ℕ) → option_map (λ x. x.now) enum_name.entry ≡ Some name
-        → name_text link.now row ≡ Some name → HasReferencesMarked link.now marks.new.items row }
+        → name_text link.now row ≡ Some name → HasReferencesMarked link.now changed.new row }
 {
     match enum_name {
-        Some(name) => mark_named(marks, link, name),
+        Some(name) => mark_named(changed, link, name),
         None => {}
     }
 }
 
-/// So many marks, none of which is set.
-fn blank_marks(alloc: Global, count: usize) -> Result<Vec<bool>, NoMemory>
-    ensures { IfOk result (λ marks. length marks.items ≡ count) }
-{
-    let marks = vec![in alloc; false; count]?;
-    Ok(marks)
-}
-
-/// Marks of the files in which a rename of the target may change words. The enum is that of a
+/// The files in which a rename of the target may change words. The enum is that of a
 /// value.
 pub(crate) fn changed_files(
     alloc: Global,
     linked: &CleanLinked<'_>,
     target: RenameTarget,
     enum_name: Option<&str>,
-) -> Result<Vec<bool>, NoMemory>
+) -> Result<FileSet, NoMemory>
     requires { target.file < length linked.now.files }
-    ensures { IfOk result (λ marks. AreChangedFiles linked.now.link target.entry
-        (option_map (λ x. x.now) enum_name.entry) (length linked.now.files) marks.items) }
+    ensures { IfOk result (λ changed. AreChangedFiles linked.now.link target.entry
+        (option_map (λ x. x.now) enum_name.entry) (length linked.now.files) changed) }
 {
     let link = linked.link();
-    let mut marks = blank_marks(alloc, linked.file_count())?;
-    mark(&mut marks, target.file as usize);
+    let mut changed = FileSet::new(alloc, linked.file_count())?;
+    changed.insert(target.file);
     let declared = link.declared_in(target.file);
-    mark_names(&mut marks, link, target.name, &declared);
-    mark_users(&mut marks, link, enum_name);
-    Ok(marks)
+    mark_names(&mut changed, link, target.name, &declared);
+    mark_users(&mut changed, link, enum_name);
+    Ok(changed)
 }

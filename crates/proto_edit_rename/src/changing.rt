@@ -103,7 +103,7 @@ fn marks_of(alloc: Global, count: usize, places: &[u32]) -> Result<Vec<bool>, No
     Ok(marks)
 }
 
-pub(crate) fn mark(marks: &mut Vec<bool>, place: usize)
+fn mark(marks: &mut Vec<bool>, place: usize)
     ensures { marks.new.items ≡ slice_set marks.old.items place true }
 {
     if place < marks.len() {

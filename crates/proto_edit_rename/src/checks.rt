@@ -28,14 +28,14 @@ pub(crate) fn check_word(
     ensures word { IfOk result (λ _. is_run to.now ≡ true) }
     ensures err { IfErr result (IsRenameRefusal linked.now.files target.entry.name.now to.now) }
 {
-    linked.files();
+    let files = linked.files();
     if !is_word(to) {
         return Err(Refusal::NotAnIdentifier);
     }
     if is_keyword(target.kind, to) {
         return Err(Refusal::KeywordName);
     }
-    if has_name(linked, target, to) {
+    if has_name(files, target, to) {
         return Err(Refusal::SameName);
     }
     Ok(())

@@ -11,8 +11,8 @@ use crate::enum_names::enum_name;
 use crate::standing::standing_in;
 use proto_base::NoMemory;
 use proto_edit_captures::RenameTarget;
+use proto_file_sets::FileSet;
 use proto_files::{Files, Words};
-use proto_names_rules::marks::is_marked;
 use proto_resolved::CleanLinked;
 use std::alloc::Global;
 use std::marker::Model;
@@ -25,8 +25,8 @@ pub(crate) struct RenameScope<'a> {
     target: RenameTarget<'a>,
     enum_name: Option<String>,
     old: &'a str,
-    /// Marks of the files in which the rename may change words.
-    marks: Vec<bool>,
+    /// The files in which the rename may change words.
+    changed: FileSet,
 }
 
 impl<'a> Model for RenameScope<'a> {
@@ -38,7 +38,7 @@ impl<'a> Model for RenameScope<'a> {
     ghost view = { λ s. record { files = s.linked.now.files; target = s.target } };
 
     ghost invariant = { λ s. IsRenameScope s.linked.now s.target
-        (option_map string_bytes s.enum_name) s.old.now s.marks.items };
+        (option_map string_bytes s.enum_name) s.old.now s.changed };
 }
 
 impl<'a> RenameScope<'a> {
@@ -55,13 +55,13 @@ impl<'a> RenameScope<'a> {
     {
         let enum_name = enum_name(alloc, linked, target)?;
         let old = Words::new(linked.files(), target.file).get(target.token);
-        let marks = changed_files(alloc, linked, target, enum_name.as_deref())?;
+        let changed = changed_files(alloc, linked, target, enum_name.as_deref())?;
         Ok(RenameScope {
             linked,
             target,
             enum_name,
             old,
-            marks,
+            changed,
         })
     }
 
@@ -125,8 +125,8 @@ pub(crate) fn places_in(alloc: Global, scope: &RenameScope, file: u32) -> Result
     ensures { IfOk result (λ found.
         ArePlacesIn scope.now.files scope.now.target file found.items) }
 {
-    // Most files are not marked, and nothing of them is looked at.
-    if !is_marked(&scope.marks, file) {
+    // In most files nothing changes, and nothing of them is looked at.
+    if !scope.changed.contains(file) {
         return Ok(Vec::new(alloc));
     }
     let mut places = standing_in(alloc, scope.linked, scope.target, file)?;

@@ -1,6 +1,6 @@
 -- The first reference that needs an import is the first that means a name of a file that is not marked.
 use Rattle.std.proofs.Common.{◌≡◌, ℕ, zero, suc, ◌+◌, ◌<◌, Bool, true, false, not, List, [], ◌∷◌, ◌++◌, length, get_or, map, take, Option, Some, None, option_map, refl, sym, ap, subst, ◌∙◌, inl, inr, arith, find, slice_index_or, AllPairs, Contains, option_and_then}
-use Rattle.proto_base.proofs.Common.{Vec, both_ways, cases_Bool, cond-false, cond-true, get_or_default, none-some, same_Some, contains_cases, contains_head, contains_later, contains_map, from_map}
+use Rattle.proto_base.proofs.Common.{both_ways, cases_Bool, cond-false, cond-true, get_or_default, none-some, same_Some, contains_cases, contains_head, contains_later, contains_map, from_map}
 use Rattle.proto_case.specs.Camel.{entry_name}
 use Rattle.proto_files.proofs.Common.{HasNoFault, ReadOf, AreRead, FileOf}
 use Rattle.proto_names_imports.specs.Links.{LinkFaults, link_skeleton, names_of_files, text_of, uses_of, used_named}
@@ -220,9 +220,9 @@ module _ (files : List FileOf) (reads : List ReadOf) (are : AreRead files reads)
 -- ---- all files
 
 module _ (files : List FileOf) (reads : List ReadOf) (are : AreRead files reads) (clean : HasNoFault (LinkFaults files)) (l : LinkOf) (link : IsLinkOf files l) (k : ℕ) (path : List ℕ)
-    (seen : List (Vec Bool)) (sees_are : AreSeenIn files (with_dropped files reads k path) seen) where
+    (seen : List (List Bool)) (sees_are : AreSeenIn files (with_dropped files reads k path) seen) where
   abbrev marks_of : ℕ → List Bool
-  marks_of file = get_or (map (λ v. v.items) seen) file []
+  marks_of file = get_or seen file []
 
   -- a use that needs the import, by its file
   needed_in : (u : Used At) → IsNeededIn files reads k path u → (f : ℕ) × (x : Used ℕ) × (f < length files) × Contains (uses_of reads f) x × (used_in f x ≡ u)

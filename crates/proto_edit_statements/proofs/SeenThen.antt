@@ -26,8 +26,8 @@ module _ (files : List FileOf) (reads : List ReadOf) (are : AreRead files reads)
   files_are : (names_of_files files reads).files ≡ length files
   files_are = length-map reads names_in ∙ are.same
 
-  module _ (after : List (Vec FileImport)) (now : Vec FileImport) (set : after ≡ slice_set items file now) (seen : List (Vec Bool)) (len : length seen ≡ length after)
-      (exact : (w : Workspace) → w.files ≡ length after → w.imports ≡ all_imports 0 (map (λ v. v.items) after) → (f : ℕ) → f < length after → MarksSeen w f (get_or (map (λ v. v.items) seen) f [])) where
+  module _ (after : List (Vec FileImport)) (now : Vec FileImport) (set : after ≡ slice_set items file now) (seen : List (List Bool)) (len : length seen ≡ length after)
+      (exact : (w : Workspace) → w.files ≡ length after → w.imports ≡ all_imports 0 (map (λ v. v.items) after) → (f : ℕ) → f < length after → MarksSeen w f (get_or seen f [])) where
     long : length after ≡ length files
     long = ap (λ (z : List (Vec FileImport)). length z) set ∙ length-set items file now ∙ imports.len
 
@@ -37,7 +37,7 @@ module _ (files : List FileOf) (reads : List ReadOf) (are : AreRead files reads)
     seen_by : (others : List Import) → ((i : Import) → Contains (all_imports 0 (lists_of after)) i ↔ Contains others i) → AreSeenIn files (with_imports (names_of_files files reads) others) seen
     seen_by others same = (
       len ∙ long,
-      λ f l. same_marks (names_of_files files reads) (all_imports 0 (lists_of after)) others same f (get_or (map (λ v. v.items) seen) f [])
+      λ f l. same_marks (names_of_files files reads) (all_imports 0 (lists_of after)) others same f (get_or seen f [])
           (exact (with_imports (names_of_files files reads) (all_imports 0 (lists_of after))) (files_are ∙ sym long) refl f (subst (λ n. f < n) (sym long) l)),
     )
 

@@ -29,10 +29,10 @@ pub record AreImportsOf (files : List FileOf) (imports : List (Vec FileImport)) 
       → all_imports 0 (map (λ v. v.items) imports) ≡ link_imports files reads
 
 -- for each file, what it sees by these imports is marked
-abbrev pub AreSeenIn : List FileOf → Workspace → List (Vec Bool) → Type 0
+abbrev pub AreSeenIn : List FileOf → Workspace → List (List Bool) → Type 0
 AreSeenIn files w seen = (length seen ≡ length files)
     × ((file : ℕ) → file < length files
-    → MarksSeen w file (get_or (map (λ v. v.items) seen) file []))
+    → MarksSeen w file (get_or seen file []))
 
 -- a name of a file that is not marked
 abbrev pub hidden_in : List Bool → Option ℕ → Bool

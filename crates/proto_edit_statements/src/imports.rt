@@ -7,6 +7,7 @@ ghost use Rattle.proto_edit_rules.specs.Statements.{IsPlaceOf};
 ghost use Rattle.proto_edit_rules.specs.DropImport.{with_dropped};
 
 use proto_base::NoMemory;
+use proto_file_sets::FileSet;
 use proto_files::all_paths;
 use proto_names::all_written;
 use proto_names_imports::import::{FileImport, ImportError, resolve_imports};
@@ -52,7 +53,7 @@ pub(crate) fn seen_without(
     linked: &CleanLinked<'_>,
     file: u32,
     to: u32,
-) -> Result<Vec<Vec<bool>>, NoMemory>
+) -> Result<Vec<FileSet>, NoMemory>
     requires { file < length linked.now.files }
     ensures { IfOk result (λ seen. (reads : List ReadOf) → AreRead linked.now.files reads
         → (path : List ℕ) → IsPlaceOf linked.now.files path to → AreSeenIn linked.now.files

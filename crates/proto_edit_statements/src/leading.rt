@@ -24,6 +24,6 @@ pub(crate) fn leads(
         ↔ Leads (all_imports 0 (map (λ v. v.items) imports.now)) from to) }
 {
     let next = all_targets(alloc, imports)?;
-    let marks = reached_files(alloc, &next, from)?;
-    Ok(marks[to as usize])
+    let reached = reached_files(alloc, &next, from)?;
+    Ok(reached.contains(to))
 }

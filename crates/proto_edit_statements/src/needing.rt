@@ -5,26 +5,27 @@ ghost use Rattle.proto_files.specs.FilesRead.{ReadOf, AreRead};
 ghost use Rattle.proto_edit_statements.specs.Steps.{AreSeenIn, IsFirstNeeded, first_hidden, is_hidden};
 ghost use Rattle.proto_edit_rules.specs.DropImport.{with_dropped};
 
+use proto_file_sets::FileSet;
 use proto_names::{Link, RefId, SymbolId};
-use proto_names_rules::marks::is_marked;
 use proto_resolved::CleanLinked;
 
-/// Whether a name is of a file that is not marked.
-fn is_hidden(link: &Link, marks: &[bool], symbol: SymbolId) -> bool
-    ensures { result ≡ is_hidden link.now marks.now symbol.row }
+/// Whether a name is of a file that is not in the set.
+fn is_hidden(link: &Link, sees: &FileSet, symbol: SymbolId) -> bool
+    ensures { result ≡ is_hidden link.now sees.now symbol.row }
 {
     match link.file_of(symbol) {
-        Some(file) => !is_marked(marks, file),
+        Some(file) => !sees.contains(file),
         None => false,
     }
 }
 
-/// The first token of the first reference of a file that means a name of a file that is not marked.
-fn first_hidden(link: &Link, file: u32, marks: &[bool]) -> Option<u32>
-    ensures { result ≡ first_hidden link.now file marks.now }
+/// The first token of the first reference of a file that means a name of a file that is not in
+/// the set.
+fn first_hidden(link: &Link, file: u32, sees: &FileSet) -> Option<u32>
+    ensures { result ≡ first_hidden link.now file sees.now }
 {
     for meant in link.meant_in(file) {
-        if is_hidden(link, marks, meant.symbol()) {
+        if is_hidden(link, sees, meant.symbol()) {
             return Some(meant.token());
         }
     }
@@ -32,8 +33,8 @@ fn first_hidden(link: &Link, file: u32, marks: &[bool]) -> Option<u32>
 }
 
 /// The first reference, by file and first token, that means a name of a file that its own would not
-/// see. For each file the files that it would see are marked.
-pub(crate) fn first_needed(linked: &CleanLinked<'_>, seen: &[Vec<bool>]) -> Option<RefId>
+/// see. For each file, those that it would see are given.
+pub(crate) fn first_needed(linked: &CleanLinked<'_>, seen: &[FileSet]) -> Option<RefId>
     requires { length seen.now ≡ length linked.now.files }
     ensures { (reads : List ReadOf) → AreRead linked.now.files reads → (k : ℕ) (path : List ℕ)
         → AreSeenIn linked.now.files (with_dropped linked.now.files reads k path) seen.now

@@ -13,7 +13,6 @@ ghost use Rattle.proto_names_outline.specs.Listing.{wanted_of};
 ghost use Rattle.proto_names_imports.specs.ImportSteps.{IsFileIndex};
 ghost use Rattle.proto_files.specs.FilesRead.{ReadOf, AreRead, Each, read_at};
 ghost use Rattle.proto_names_imports.specs.Links.{link_imports, names_of_files, text_of};
-ghost use Rattle.proto_names.specs.LinkOfFiles.{IsLinkOf};
 ghost use Rattle.proto_lint_names.specs.Readings.{read_of_file, reading_of, word_in};
 ghost use Rattle.proto_lint_names.specs.Placed.{found_by};
 ghost use Rattle.proto_lint_rules.specs.Rules.{is_chosen};
@@ -22,16 +21,18 @@ ghost use Rattle.proto_lint.specs.Imports.{ImportsOf, import_finds, import_no_pu
 ghost use Rattle.proto_lint.specs.ImportTables.{AreImportTablesOf, LeadsToMarked, MarksUsed, public_target, public_targets};
 
 use crate::linting::Linter;
-use crate::uses::{share_a_mark, used_files};
+use crate::uses::used_files;
 use indexmap::IndexMap;
 use proto_base::NoMemory;
+use proto_file_sets::FileSet;
 use proto_files::{Files, Words, all_paths};
 use proto_lint_names::{FileFindings, LintFile, Rule, RuleSet, Verdict};
-use proto_names::{Link, are_read};
+use proto_names::are_read;
 use proto_names_imports::first_places::{first_places, place_of};
 use proto_names_imports::walk::reached_files;
 use proto_names_outline::wanted;
 use proto_names_outline::wanted::Wanted;
+use proto_resolved::Linked;
 use proto_text::string_value;
 use proto_tree::{File, Import, Item};
 use std::alloc::Global;
@@ -153,25 +154,23 @@ impl Imports {
         })
     }
 
-    /// Whether public imports of any number lead from the file with this path to one that is
-    /// marked.
+    /// Whether public imports of any number lead from the file with this path to one of a set.
     fn leads(
         &self,
         alloc: Global,
         files: &Files,
         path: &str,
-        marks: &[bool],
+        set: &FileSet,
     ) -> Result<bool, NoMemory>
         requires imports { AreImportTablesOf files.now self.now }
-        requires marks { length marks.now ≡ length files.now }
         ensures { IfOk result (λ leads. (reads : List ReadOf) → AreRead files.now reads
             → (leads ≡ true) ↔ LeadsToMarked (link_imports files.now reads)
-            (file_with_path (paths_of files.now) path.now) marks.now) }
+            (file_with_path (paths_of files.now) path.now) set.now) }
     {
         match place_of(&self.files, path) {
             Some(file) => {
                 let seen = reached_files(alloc, &self.public, file)?;
-                Ok(share_a_mark(&seen, marks))
+                Ok(seen.intersects(set))
             }
             None => Ok(false),
         }
@@ -232,34 +231,31 @@ fn import_statements<'a>(alloc: Global, file: &'a File) -> Result<Vec<&'a Import
     Ok(imports)
 }
 
-/// The marks of the files that imports of a file are used for, if the rules ask for them.
-fn marks_for(
+/// The files that imports of a file are used for, if the rules ask for them.
+fn files_used_for(
     alloc: Global,
     rules: &RuleSet,
-    files: &Files,
-    link: &Link,
+    linked: &Linked<'_>,
     file: u32,
-) -> Result<Vec<bool>, NoMemory>
-    requires file { file < length files.now }
-    requires link { IsLinkOf files.now link.now }
-    ensures { IfOk result (λ marks. is_chosen rules.now.chosen rule.ImportUsed
-        ≡ true → MarksUsed files.now file marks.items) }
+) -> Result<FileSet, NoMemory>
+    requires { file < length linked.now.files }
+    ensures { IfOk result (λ used. is_chosen rules.now.chosen rule.ImportUsed
+        ≡ true → MarksUsed linked.now.files file used) }
 {
     if rules.has(Rule::ImportUsed) {
-        let marks = used_files(alloc, files, link, file)?;
-        Ok(marks)
+        used_files(alloc, linked, file)
     } else {
-        Ok(Vec::new(alloc))
+        FileSet::new(alloc, 0)
     }
 }
 
-/// What the rules of imports know of a file: the workspace, the file as they read it, and marks of
-/// the files that its imports are used for, if the rules ask for them.
+/// What the rules of imports know of a file: the workspace, the file as they read it, and the files
+/// that its imports are used for, if the rules ask for them.
 #[derive(Drop)]
 struct FileImports<'a> {
     linter: &'a Linter<'a>,
     reading: &'a LintFile<'a>,
-    marks: Vec<bool>,
+    used: FileSet,
 }
 
 impl<'a> Model for FileImports<'a> {
@@ -267,14 +263,14 @@ impl<'a> Model for FileImports<'a> {
 
     ghost view = { λ i. record {
       rules = i.linter.now.rules.now.chosen;
-      files = i.linter.now.files.now;
+      files = i.linter.now.linked.now.files;
       read = reading_of i.reading.now;
       file = i.reading.now.file;
     } };
 
-    ghost invariant = { λ i. AreImportTablesOf i.linter.now.files.now i.linter.now.imports
+    ghost invariant = { λ i. AreImportTablesOf i.linter.now.linked.now.files i.linter.now.imports
         × (is_chosen i.linter.now.rules.now.chosen rule.ImportUsed ≡ true
-        → MarksUsed i.linter.now.files.now i.reading.now.file i.marks.items) };
+        → MarksUsed i.linter.now.linked.now.files i.reading.now.file i.used) };
 }
 
 impl<'a> FileImports<'a> {
@@ -283,27 +279,20 @@ impl<'a> FileImports<'a> {
         linter: &'a Linter<'a>,
         reading: &'a LintFile<'a>,
     ) -> Result<FileImports<'a>, NoMemory>
-        requires file { reading.now.file < length linter.now.files.now }
-        requires imports { AreImportTablesOf linter.now.files.now linter.now.imports }
-        requires link { IsLinkOf linter.now.files.now linter.now.link.now }
+        requires file { reading.now.file < length linter.now.linked.now.files }
+        requires imports { AreImportTablesOf linter.now.linked.now.files linter.now.imports }
         ensures { IfOk result (λ i. i ≡ record {
           rules = linter.entry.now.rules.now.chosen;
-          files = linter.entry.now.files.now;
+          files = linter.entry.now.linked.now.files;
           read = reading_of reading.entry.now;
           file = reading.entry.now.file;
         }) }
     {
-        let Linter {
-            files,
-            link,
-            rules,
-            ..
-        } = linter;
-        let marks = marks_for(alloc, rules, files, link, reading.file)?;
+        let used = files_used_for(alloc, linter.rules, linter.linked, reading.file)?;
         Ok(FileImports {
             linter,
             reading,
-            marks,
+            used,
         })
     }
 
@@ -322,14 +311,14 @@ impl<'a> FileImports<'a> {
         let FileImports {
             linter,
             reading,
-            marks,
+            used,
         } = self;
         let rule = Rule::ImportUsed;
         if linter.rules.has(rule) && !import.is_public() {
             let path = string_value(alloc, reading.text(import.path))?;
             let is_used = linter
                 .imports
-                .leads(alloc, linter.files, path.as_str(), marks)?;
+                .leads(alloc, linter.linked.files(), path.as_str(), used)?;
             let passes = passes(reading, is_used);
             found.add_unless(
                 reading,
@@ -383,20 +372,18 @@ pub fn add_imports(
     linter: &Linter,
     reading: &LintFile,
 ) -> Result<(), NoMemory>
-    requires file { reading.now.file < length linter.now.files.now }
-    requires reading { (reads : List ReadOf) → AreRead linter.now.files.now reads
-        → reading_of reading.now ≡ read_of_file linter.now.files.now reads reading.now.file }
-    requires imports { AreImportTablesOf linter.now.files.now linter.now.imports }
-    requires link { IsLinkOf linter.now.files.now linter.now.link.now }
-    ensures { OnOk result ((reads : List ReadOf) → AreRead linter.now.files.now reads
-        → found.new ≡ found.old
-        ++ imports_finds linter.now.rules.now.chosen (names_of_files linter.now.files.now reads)
-        (paths_of linter.now.files.now) (reading_of reading.now) reading.now.file
+    requires file { reading.now.file < length linter.now.linked.now.files }
+    requires reading { (reads : List ReadOf) → AreRead linter.now.linked.now.files reads
+        → reading_of reading.now ≡ read_of_file linter.now.linked.now.files reads reading.now.file }
+    requires imports { AreImportTablesOf linter.now.linked.now.files linter.now.imports }
+    ensures { OnOk result ((reads : List ReadOf) → AreRead linter.now.linked.now.files reads
+        → found.new ≡ found.old ++ imports_finds linter.now.rules.now.chosen
+        (names_of_files linter.now.linked.now.files reads) (paths_of linter.now.linked.now.files)
+        (reading_of reading.now) reading.now.file
         (read_at reads reading.now.file).tree) }
 {
-    // Each file has tokens and a tree.
-    are_read(linter.files);
-    let statements = import_statements(alloc, linter.files.tree(reading.file))?;
+    let files = linter.linked.files();
+    let statements = import_statements(alloc, files.tree(reading.file))?;
     let imports = FileImports::new(alloc, linter, reading)?;
     imports.add_statements(alloc, found, &statements)
 }

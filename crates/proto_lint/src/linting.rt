@@ -17,14 +17,14 @@ use proto_lint_names::{
     FileFindings, Finding, LintFile, Messages, RuleSet, Walk, add_blocks, add_findings,
     messages_of, sorted_findings,
 };
-use proto_names::{Link, are_read};
+use proto_names::Link;
+use proto_resolved::Linked;
 use std::alloc::Global;
 
 /// A workspace with what the rules look up in it.
 #[derive(Drop)]
 pub(crate) struct Linter<'a> {
-    pub(crate) files: &'a Files,
-    pub(crate) link: &'a Link,
+    pub(crate) linked: &'a Linked<'a>,
     pub(crate) rules: &'a RuleSet,
     heads: Heads<'a>,
     pub(crate) imports: Imports,
@@ -35,23 +35,20 @@ impl<'a> Linter<'a> {
     /// Looks up what the rules need to know of all files.
     fn new(
         alloc: Global,
-        files: &'a Files,
-        link: &'a Link,
+        linked: &'a Linked<'a>,
         rules: &'a RuleSet,
     ) -> Result<Linter<'a>, NoMemory>
-        requires { IsLinkOf files.now link.now }
         ensures linter { IfOk result IsLinter }
-        ensures files { IfOk result (λ l. l.files.now ≡ files.now) }
+        ensures linked { IfOk result (λ l. l.linked.now ≡ linked.now) }
         ensures rules { IfOk result (λ l. l.rules.now ≡ rules.now) }
     {
-        are_read(files);
-        let messages = messages_of(alloc, files, link)?;
+        let files = linked.files();
+        let messages = messages_of(alloc, linked)?;
         let imports = Imports::new(alloc, files)?;
         // The heads come last: they are the dearest to drop.
         let heads = Heads::new(alloc, files)?;
         Ok(Linter {
-            files,
-            link,
+            linked,
             rules,
             heads,
             imports,
@@ -62,19 +59,20 @@ impl<'a> Linter<'a> {
     /// What the rules find in a file.
     fn finds_in(&self, alloc: Global, file: u32) -> Result<FileFindings, NoMemory>
         requires linter { IsLinter self.now }
-        requires file { file < length self.now.files.now }
-        ensures { IfOk result (λ found. (reads : List ReadOf) → AreRead self.now.files.now reads
-            → found ≡ file_finds self.now.rules.now.chosen self.now.files.now reads file) }
+        requires file { file < length self.now.linked.now.files }
+        ensures { IfOk result (λ found. (reads : List ReadOf)
+            → AreRead self.now.linked.now.files reads
+            → found ≡ file_finds self.now.rules.now.chosen self.now.linked.now.files reads file) }
     {
         let Linter {
-            files,
-            link,
+            linked,
             rules,
             heads,
             messages,
             ..
         } = self;
-        let reading = LintFile::of(files, link, file);
+        let files = linked.files();
+        let reading = LintFile::of(linked, file);
         let mut found = FileFindings::new(alloc);
         add_head(&mut found, rules, heads, file)?;
         add_imports(alloc, &mut found, self, &reading)?;
@@ -91,14 +89,16 @@ impl<'a> Linter<'a> {
     /// What the rules find, file after file.
     fn findings(&self, alloc: Global) -> Result<Vec<Finding>, NoMemory>
         requires { IsLinter self.now }
-        ensures { IfOk result (λ found. (reads : List ReadOf) → AreRead self.now.files.now reads
+        ensures { IfOk result (λ found. (reads : List ReadOf)
+            → AreRead self.now.linked.now.files reads
             → map finding_of found.items
-            ≡ findings self.now.rules.now.chosen self.now.files.now reads) }
+            ≡ findings self.now.rules.now.chosen self.now.linked.now.files reads) }
     {
         let mut all = Vec::new(alloc);
-        for file in 0..self.files.len() as u32 {
+        let files = self.linked.files();
+        for file in 0..self.linked.file_count() as u32 {
             let found = self.finds_in(alloc, file)?;
-            add_findings(alloc, &mut all, self.files.path(file), found)?;
+            add_findings(alloc, &mut all, files.path(file), found)?;
         }
         Ok(all)
     }
@@ -116,7 +116,8 @@ pub fn lint(
     ensures { IfOk result (λ found. (reads : List ReadOf) → AreRead files.now reads
         → IsListingOf (findings rules.now.chosen files.now reads) (map finding_of found.items)) }
 {
-    let linter = Linter::new(alloc, files, link, rules)?;
+    let linked = Linked::new(files, link);
+    let linter = Linter::new(alloc, &linked, rules)?;
     let found = linter.findings(alloc);
     // Dropped before `?`, which would be one more exit that drops it.
     drop(linter);

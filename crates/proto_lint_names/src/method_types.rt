@@ -3,7 +3,6 @@
 ghost use Rattle.std.specs.Prelude.{◌≡◌, ◌++◌, List, map, IfOk, OnOk};
 ghost use Rattle.proto_tree.specs.File.{item_tree, tree_of_file};
 ghost use Rattle.proto_files.specs.FilesRead.{AreRead, ReadOf};
-ghost use Rattle.proto_names.specs.LinkOfFiles.{IsLinkOf};
 ghost use Rattle.proto_lint_names.specs.Readings.{reading_of};
 ghost use Rattle.proto_lint_names.specs.BlockFinds.{all_messages};
 ghost use Rattle.proto_lint_names.specs.Walks.{outer_messages};
@@ -11,8 +10,7 @@ ghost use Rattle.proto_lint_names.specs.Walks.{outer_messages};
 use crate::reading::LintFile;
 use crate::shared::{Messages, add_messages};
 use proto_base::NoMemory;
-use proto_files::Files;
-use proto_names::Link;
+use proto_resolved::Linked;
 use proto_tree::{File, Item};
 use std::alloc::Global;
 
@@ -47,33 +45,24 @@ fn add_file_messages<'a>(
 
 /// The full names of the inputs and outputs of all methods, in order; empty where a reference means
 /// none. Fails only when out of memory.
-fn all_messages<'a>(
-    alloc: Global,
-    files: &'a Files,
-    link: &'a Link,
-) -> Result<Vec<&'a str>, NoMemory>
-    requires { IsLinkOf files.now link.now }
-    ensures { IfOk result (λ all. (reads : List ReadOf)
-        → AreRead files.now reads → map (λ s. s.now) all.items ≡ all_messages files.now reads) }
+fn all_messages<'a>(alloc: Global, linked: &Linked<'a>) -> Result<Vec<&'a str>, NoMemory>
+    ensures { IfOk result (λ all. (reads : List ReadOf) → AreRead linked.now.files reads
+        → map (λ s. s.now) all.items ≡ all_messages linked.now.files reads) }
 {
+    let files = linked.files();
     let mut all = Vec::new(alloc);
-    for file in 0..files.len() as u32 {
-        let reading = LintFile::of(files, link, file);
+    for file in 0..linked.file_count() as u32 {
+        let reading = LintFile::of(linked, file);
         add_file_messages(&mut all, &reading, files.tree(file))?;
     }
     Ok(all)
 }
 
 /// The messages of all methods of a workspace. Fails only when out of memory.
-pub fn messages_of<'a>(
-    alloc: Global,
-    files: &'a Files,
-    link: &'a Link,
-) -> Result<Messages<'a>, NoMemory>
-    requires { IsLinkOf files.now link.now }
+pub fn messages_of<'a>(alloc: Global, linked: &Linked<'a>) -> Result<Messages<'a>, NoMemory>
     ensures { IfOk result (λ m. (reads : List ReadOf)
-        → AreRead files.now reads → m ≡ all_messages files.now reads) }
+        → AreRead linked.now.files reads → m ≡ all_messages linked.now.files reads) }
 {
-    let all = all_messages(alloc, files, link)?;
+    let all = all_messages(alloc, linked)?;
     Messages::new(alloc, all)
 }

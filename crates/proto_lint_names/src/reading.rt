@@ -4,12 +4,12 @@ ghost use Rattle.std.specs.Prelude.{◌≡◌, ◌<◌, List, length};
 ghost use Rattle.proto_text.specs.Texts.{offset_at};
 ghost use Rattle.proto_tree.specs.References.{first_of};
 ghost use Rattle.proto_files.specs.FilesRead.{AreRead, ReadOf};
-ghost use Rattle.proto_names.specs.LinkOfFiles.{IsLinkOf};
 ghost use Rattle.proto_lint_names.specs.Readings.{read_of_file, meant_name, reading_of, word_in};
 
 use proto_ast::custom_name;
-use proto_files::{Files, Words, offset_of};
+use proto_files::{Words, offset_of};
 use proto_names::Link;
+use proto_resolved::Linked;
 use proto_text::Token;
 use proto_tree::Reference;
 
@@ -26,19 +26,19 @@ pub struct LintFile<'a> {
 
 impl<'a> LintFile<'a> {
     /// The reading of a file of a workspace, by its number.
-    pub fn of(files: &'a Files, link: &'a Link, file: u32) -> LintFile<'a>
-        requires file { file < length files.now }
-        requires link { IsLinkOf files.now link.now }
+    pub fn of(linked: &Linked<'a>, file: u32) -> LintFile<'a>
+        requires { file < length linked.now.files }
         ensures file { result.file ≡ file }
-        ensures read { (reads : List ReadOf) → AreRead files.now reads
-            → reading_of result ≡ read_of_file files.now reads file }
+        ensures read { (reads : List ReadOf) → AreRead linked.now.files reads
+            → reading_of result ≡ read_of_file linked.now.files reads file }
     {
+        let files = linked.files();
         let tokens = files.tokens(file);
         let words = Words::new(files, file);
         LintFile {
             tokens,
             words,
-            link,
+            link: linked.link(),
             has_custom: custom_name(files.tree(file)).is_some(),
             file,
         }

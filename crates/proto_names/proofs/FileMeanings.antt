@@ -1,6 +1,6 @@
 -- The references of a file by its listing are those of its tree.
 use Rattle.std.proofs.Common.{◌≡◌, ℕ, ◌<◌, Bool, List, [], ◌∷◌, length, get_or, map, refl, sym, ◌∙◌, ap, subst, arith, All, Contains}
-use Rattle.proto_base.proofs.Common.{Vec, map-append, get_or-map as get_or-map_within, All-map, Contains-get_or, contains_map}
+use Rattle.proto_base.proofs.Common.{Vec, map-append, get_or-map as get_or-map_within, get_or_default, All-map, Contains-get_or, contains_map}
 use Rattle.std.proofs.Math.ListN.{get_or-map}
 use Rattle.proto_text.proofs.Common.{one_token_list, words, word_at, Lexeme, lexeme_at, AreTokens}
 use Rattle.proto_tree.proofs.Common.{ReadsIn, dotted}
@@ -126,11 +126,11 @@ module _ (files : List FileOf) (reads : List ReadOf) (are : AreRead files reads)
       (subst (λ z. IsReferenceError (names_of_files files reads) (reference z) file l.used.items error) same_words
       (subst (λ z. IsReferenceError (names_of_files files reads) (reference ls) file z error) e a))
 
--- what is said of each file is said of one by its marks and its rows
-pub linked_at : (t : Table) (seen : List (Vec Bool)) (rows : List (Vec ℕ)) (files : List FileOf) (reads : List ReadOf) → AreLinked t seen rows files reads → (file : ℕ) → file < length files → length seen ≡ length files → length rows ≡ length files
-    → (v : Vec Bool) → v ≡ get_or seen file v → (r : Vec ℕ) → r ≡ get_or rows file r → (marks : List Bool) → marks ≡ v.items → (own : List ℕ) → own ≡ r.items → IsFileLinked t marks own files reads file
-linked_at t seen rows files reads linked file l n m v v_is r r_is marks marks_are own own_are =
-    let marks_at = get_or-map_within (λ z. z.items) seen file v [] (omega (arith, l, n)) ∙ ap (λ z. z.items) (sym v_is) ∙ sym marks_are in
+-- what is said of each file is said of one by what it sees and its rows
+pub linked_at : (t : Table) (seen : List (List Bool)) (rows : List (Vec ℕ)) (files : List FileOf) (reads : List ReadOf) → AreLinked t seen rows files reads → (file : ℕ) → file < length files → length seen ≡ length files → length rows ≡ length files
+    → (sees : List Bool) → sees ≡ get_or seen file sees → (r : Vec ℕ) → r ≡ get_or rows file r → (own : List ℕ) → own ≡ r.items → IsFileLinked t sees own files reads file
+linked_at t seen rows files reads linked file l n m sees sees_is r r_is own own_are =
+    let sees_at = sym (sees_is ∙ get_or_default seen file sees [] (omega (arith, l, n))) in
     let rows_at = get_or-map_within (λ z. z.items) rows file r [] (omega (arith, l, m)) ∙ ap (λ z. z.items) (sym r_is) ∙ sym own_are in
-    subst (λ z. IsFileLinked t marks z files reads file) rows_at
-    (subst (λ z. IsFileLinked t z (get_or (map (λ z. z.items) rows) file []) files reads file) marks_at (linked file l))
+    subst (λ z. IsFileLinked t sees z files reads file) rows_at
+    (subst (λ z. IsFileLinked t z (get_or (map (λ z. z.items) rows) file []) files reads file) sees_at (linked file l))

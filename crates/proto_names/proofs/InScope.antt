@@ -1,10 +1,10 @@
 -- What a reference means in a scope, word by word of its tokens.
-use Rattle.std.proofs.Common.{◌≡◌, ◌≢◌, ℕ, zero, suc, ◌+◌, ◌<◌, ◌≤◌, Bool, false, List, [], ◌∷◌, ◌++◌, length, get_or, take, drop, map, Bor, Option, Some, None, IfSome, option_map, if◌then◌else◌, refl, sym, ◌∙◌, ap, subst, inl, inr, arith, ◌==◌, take-append-drop, length-take-le}
-use Rattle.proto_base.proofs.Common.{cases_eq, cond-false, false_from_ne_true, length-map, map-map}
+use Rattle.std.proofs.Common.{◌≡◌, ◌≢◌, ℕ, zero, suc, ◌+◌, ◌<◌, ◌≤◌, Bool, true, false, List, [], ◌∷◌, ◌++◌, length, get_or, take, drop, map, Bor, Option, Some, None, IfSome, if◌then◌else◌, refl, sym, ◌∙◌, ap, subst, inl, inr, arith, ◌==◌, take-append-drop, length-take-le}
+use Rattle.proto_base.proofs.Common.{cases_Bool, cases_eq, cond-false, cond-true, false_from_ne_true, length-map, map-map}
 use Rattle.proto_text.proofs.Common.{word_at, Lexeme}
 use Rattle.proto_tree.specs.declared.tree.Behind.{Behind}
-use Rattle.proto_names_rules.proofs.Common.{under, front, joined, ArePlain, Reference, Workspace, fits_at_first, greatest, hits_at, hit, shows, meaning, meaning_at, typed, MarksSeen, greatest_is}
-use Rattle.proto_names_table.proofs.Common.{IsIndexOf, under_all, IsAsked, IsTypeAt, HitsAt, IsHit, names_of, IsTable, Step, one_step, shows_to, under_all_named, is_empty_list, empty_is, relative_is, relative_none, joined_more, plain_take, outermost}
+use Rattle.proto_names_rules.proofs.Common.{under, joined, ArePlain, Reference, Workspace, fits_at_first, greatest, hits_at, hit, shows, meaning, meaning_at, typed, MarksSeen, greatest_is}
+use Rattle.proto_names_table.proofs.Common.{IsIndexOf, IsAsked, IsTypeAt, names_of, IsTable, Step, one_step, shows_to, under_all_named, is_empty_list, empty_is, joined_more, plain_take, outermost}
 use Rattle.proto_names.specs.Scopes.{IsScopeFront}
 use Rattle.proto_names_table.specs.declared.table.Table.{Table}
 use Rattle.proto_names.proofs.Scopes.{plain_parts}
@@ -69,8 +69,14 @@ take_within (x ∷ xs) (suc j) (suc k) l = ap (λ z. x ∷ z) (take_within xs j 
 abbrev pub in_front : Reference → ℕ → Reference
 in_front r k = record { file = r.file; scope = take k r.scope; is_absolute = r.is_absolute; wants_message = r.wants_message; words = r.words }
 
+-- an absolute reference means what its words name, whatever its scope
+meaning_absolute : (w : Workspace) (r : Reference) → r.is_absolute ≡ true → meaning w r ≡ typed w r.file r.words
+meaning_absolute w r absolute =
+    ap (meaning_at w r) (cond-true r.is_absolute None (greatest (hits_at w r) (length r.scope)) absolute)
+    ∙ cond-true r.is_absolute (typed w r.file r.words) None absolute
+
 module _ (t : Table) (ok : IsTable t) (seen : List Bool) (w : Workspace) (r : Reference) (index : IsIndexOf t w.symbols) (marks : MarksSeen w r.file seen)
-    (first : List ℕ) (ws : List (List ℕ)) (pw : ArePlain (first ∷ ws)) (words : r.words ≡ first ∷ ws) (plain : ArePlain r.scope) (number : ℕ) (f : IsScopeFront t r.scope number) (relative : r.is_absolute ≡ false) where
+    (first : List ℕ) (ws : List (List ℕ)) (pw : ArePlain (first ∷ ws)) (words : r.words ≡ first ∷ ws) (plain : ArePlain r.scope) (number : ℕ) (f : IsScopeFront t r.scope number) where
   -- a longer front is no name, so no name stands below it
   none_below : (j : ℕ) → f.words < j → j ≤ length r.scope → hits_at w r j ≡ false
   none_below j a b = false_from_ne_true (hits_at w r j) (λ q.
@@ -84,32 +90,30 @@ module _ (t : Table) (ok : IsTable t) (seen : List Bool) (w : Workspace) (r : Re
   shorter : length (take f.words r.scope) ≡ f.words
   shorter = length-take-le f.words r.scope f.within
 
-  same_hit : hit w r ≡ greatest (hits_at w (in_front r f.words)) f.words
-  same_hit =
+  same_hit : r.is_absolute ≡ false → hit w r ≡ greatest (hits_at w (in_front r f.words)) f.words
+  same_hit relative =
       cond-false r.is_absolute None (greatest (hits_at w r) (length r.scope)) relative
       ∙ greatest_cut (hits_at w r) (hits_at w (in_front r f.words)) f.words (length r.scope) f.within
       (λ j l. ap (λ z. shows w r.file (fits_at_first r.words) (z ++ take 1 r.words)) (sym (take_within r.scope j f.words l))) none_below
 
-  same_meaning : meaning w r ≡ meaning w (in_front r f.words)
-  same_meaning =
-      ap (meaning_at w r) same_hit ∙ go (greatest (hits_at w (in_front r f.words)) f.words) refl
+  relative_same : r.is_absolute ≡ false → meaning w r ≡ meaning w (in_front r f.words)
+  relative_same relative =
+      ap (meaning_at w r) (same_hit relative) ∙ go (greatest (hits_at w (in_front r f.words)) f.words) refl
       ∙ ap (meaning_at w (in_front r f.words)) (sym (cond-false r.is_absolute None (greatest (hits_at w (in_front r f.words)) (length (take f.words r.scope))) relative ∙ ap (greatest (hits_at w (in_front r f.words))) shorter))
     where
       go : (o : Option ℕ) → greatest (hits_at w (in_front r f.words)) f.words ≡ o → meaning_at w r o ≡ meaning_at w (in_front r f.words) o
       go None e = refl
       go (Some k) e = let g = greatest_is (hits_at w (in_front r f.words)) f.words k e in ap (λ z. typed w r.file (z ++ r.words)) (sym (take_within r.scope k f.words g.within))
 
-  asked : IsAsked t seen number w (in_front r f.words)
-  asked = record { index = index; marks = marks; scope_plain = plain_take r.scope f.words plain; scope_is = f.front_is }
+  absolute_same : r.is_absolute ≡ true → meaning w r ≡ meaning w (in_front r f.words)
+  absolute_same absolute = meaning_absolute w r absolute ∙ sym (meaning_absolute w (in_front r f.words) absolute)
 
-  module _ (b : Bool) (last : b ≡ is_empty_list ws) where
-    pub scoped_is : (start : ℕ) → ((path : List (List ℕ)) → ArePlain path → front (names_of t) number ≡ joined path → IsHit t seen b path first start) → (o : Option ℕ) → IsTypeAt t seen (under_all (get_or (names_of t) start []) ws) o
-        → option_map (λ k. get_or (names_of t) k []) o ≡ option_map joined (meaning w r)
-    scoped_is start found o h =
-        relative_is t ok seen number w (in_front r f.words) asked first ws b last pw words relative start (found (take f.words r.scope) asked.scope_plain f.front_is) o h
-        ∙ ap (option_map joined) (sym same_meaning)
+  -- the reference means there what it means in its scope
+  pub meaning_in_front : meaning w r ≡ meaning w (in_front r f.words)
+  meaning_in_front = elim (cases_Bool r.is_absolute) [
+    | inl absolute ↦ absolute_same absolute
+    | inr relative ↦ relative_same relative
+  ]
 
-    pub scoped_none : ((path : List (List ℕ)) → ArePlain path → front (names_of t) number ≡ joined path → (k row : ℕ) → k ≤ length path → HitsAt t seen b path first k row → ⊥) → None ≡ option_map joined (meaning w r)
-    scoped_none none =
-        relative_none t ok seen number w (in_front r f.words) asked first ws b last pw words relative (none (take f.words r.scope) asked.scope_plain f.front_is)
-        ∙ ap (option_map joined) (sym same_meaning)
+  pub asked_in_front : IsAsked t seen number w (in_front r f.words)
+  asked_in_front = record { index = index; marks = marks; scope_plain = plain_take r.scope f.words plain; scope_is = f.front_is }

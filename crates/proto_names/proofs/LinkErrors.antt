@@ -1,5 +1,5 @@
 -- The errors of the imports and of the references are the least fault of the files; and what references are read by.
-use Rattle.std.proofs.Common.{◌≡◌, ℕ, ◌<◌, Bool, List, [], length, get_or, map, Result, Ok, Err, sym, subst, IfErr, IsErrAnd}
+use Rattle.std.proofs.Common.{◌≡◌, ℕ, ◌<◌, Bool, List, [], length, get_or, Result, Ok, Err, sym, subst, IfErr, IsErrAnd}
 use Rattle.proto_base.proofs.Common.{Vec, kind_number as number_of_kind}
 use Rattle.proto_base.specs.declared.fault.FaultKind.{FaultKind}
 use Rattle.proto_files.proofs.Common.{FileOf, paths_of, AreWorkspaceFiles, ReadOf, AreRead, IsAtToken}
@@ -48,8 +48,8 @@ module _ (files : List FileOf) (reads : List ReadOf) (are_read : AreRead files r
       (subst (λ (k : ℕ). FaultStandsAt files reads (fault (at b.file b.token) k) x) n s))
 
 -- what the table, the marks and the rows are says that the references can be read by them
-are_linked : (files : List FileOf) (reads : List ReadOf) (t : Table) (seen : List (Vec Bool)) (rows : List (Vec ℕ))
-    → ((k : ℕ) → k < length files → MarksSeen (names_of_files files reads) k (get_or (map (λ v. v.items) seen) k [])) → AreNamesOf files reads t rows → AreLinked t seen rows files reads
+are_linked : (files : List FileOf) (reads : List ReadOf) (t : Table) (seen : List (List Bool)) (rows : List (Vec ℕ))
+    → ((k : ℕ) → k < length files → MarksSeen (names_of_files files reads) k (get_or seen k [])) → AreNamesOf files reads t rows → AreLinked t seen rows files reads
 are_linked files reads t seen rows marks names k l = record {
   index = names.index;
   marks = marks k l;
@@ -59,9 +59,9 @@ are_linked files reads t seen rows marks names k l = record {
 }
 
 -- so it is with the marks of what files see, where they were handed on
-pub linked_by_sight : (files : List FileOf) (reads : List ReadOf) (t : Table) (seen given : List (Vec Bool)) (rows : List (Vec ℕ)) → given ≡ seen → IsSightOf files reads (map (λ v. v.items) seen) → AreNamesOf files reads t rows → AreLinked t given rows files reads
+pub linked_by_sight : (files : List FileOf) (reads : List ReadOf) (t : Table) (seen given : List (List Bool)) (rows : List (Vec ℕ)) → given ≡ seen → IsSightOf files reads seen → AreNamesOf files reads t rows → AreLinked t given rows files reads
 linked_by_sight files reads t seen given rows e sight names =
-    are_linked files reads t given rows (subst (λ (vs : List (Vec Bool)). (k : ℕ) → k < length files → MarksSeen (names_of_files files reads) k (get_or (map (λ v. v.items) vs) k [])) (sym e) sight.marks) names
+    are_linked files reads t given rows (subst (λ (vs : List (List Bool)). (k : ℕ) → k < length files → MarksSeen (names_of_files files reads) k (get_or vs k [])) (sym e) sight.marks) names
 
 -- what holds of the error that is known holds of whatever error there is
 pub error_is : {T E : Type 0} (r : Result T E) (Q : E → Type 0) (e : E) → IsErrAnd r (λ x. x ≡ e) → Q e → IfErr r Q

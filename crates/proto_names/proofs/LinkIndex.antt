@@ -1,6 +1,6 @@
 -- The table of a link of files is an index of their names, and answers what their references mean.
 use Rattle.std.proofs.Common.{◌≡◌, ℕ, zero, suc, ◌<◌, Bool, List, [], ◌∷◌, length, get_or, map, slice_get, Option, Some, None, option_map, is_some, refl, sym, ◌∙◌, ap, subst, arith, Contains}
-use Rattle.proto_base.proofs.Common.{Vec, get_or-map, length-map, none-some, same_Some}
+use Rattle.proto_base.proofs.Common.{get_or-map, get_or_default, length-map, none-some, same_Some}
 use Rattle.proto_files.proofs.Common.{FileOf, file_at, ReadOf, AreRead, read_at}
 use Rattle.proto_text.proofs.Common.{one_token_list, word_at, AreTokens, Lexeme, lexeme_at}
 use Rattle.proto_text.specs.declared.lexer.Token.{Token}
@@ -42,10 +42,10 @@ pub none_meant : (m : Option (List (List ℕ))) → None ≡ option_map joined m
 none_meant None h = refl
 none_meant (Some x) h = absurd (none-some (joined x) h)
 
--- the marks of a file are those of the link
-pub marks_at : (l : LinkOf) (all : List (Vec Bool)) → map (λ v. v.items) all ≡ l.seen → (vs : List (Vec Bool)) → vs ≡ all → (file : ℕ) → file < length vs → (v : Vec Bool) → v ≡ get_or vs file v → (marks : List Bool) → marks ≡ v.items → marks ≡ get_or l.seen file []
-marks_at l all same vs vs_are file within v v_is marks marks_are =
-    marks_are ∙ ap (λ z. z.items) v_is ∙ sym (get_or-map (λ z. z.items) vs file v [] within) ∙ ap (λ (z : List (Vec Bool)). get_or (map (λ x. x.items) z) file []) vs_are ∙ ap (λ (z : List (List Bool)). get_or z file []) same
+-- the files that a file sees are those of the link
+pub seen_at : (l : LinkOf) (all : List (List Bool)) → all ≡ l.seen → (vs : List (List Bool)) → vs ≡ all → (file : ℕ) → file < length vs → (seen : List Bool) → seen ≡ get_or vs file seen → seen ≡ get_or l.seen file []
+seen_at l all same vs vs_are file within seen seen_is =
+    seen_is ∙ get_or_default vs file seen [] within ∙ ap (λ (z : List (List Bool)). get_or z file []) (vs_are ∙ same)
 
 -- what is answered of a reference's words is answered of the reference in the files
 module _ (t : Table) (l : LinkOf) (same : map name_of_row t.rows.items ≡ l.names) (files : List FileOf) (reads : List ReadOf) (are : AreRead files reads) (file : ℕ) (within : file < length files)

@@ -66,7 +66,7 @@ reference_there row mss r c =
 
 -- ---- the parts
 
-module _ (files : List FileOf) (places : List ℕ) (t : Table) (imports : List (Vec FileImport)) (rows : List (Vec ℕ)) (seen : List (Vec Bool)) (meant : List (Vec Meant)) (references : List (Vec RefId))
+module _ (files : List FileOf) (places : List ℕ) (t : Table) (imports : List (Vec FileImport)) (rows : List (Vec ℕ)) (seen : List (List Bool)) (meant : List (Vec Meant)) (references : List (Vec RefId))
     (table : IsTable t) (link_was : WasLink IsLinkOf files places (link_of_parts t imports rows seen meant references)) where
   abbrev pub parts : LinkOf
   parts = link_of_parts t imports rows seen meant references
@@ -101,7 +101,7 @@ module _ (files : List FileOf) (places : List ℕ) (t : Table) (imports : List (
   meant_count = sym (length-map meant (λ v. v.items)) ∙ of_before.link.lists ∙ many
 
   pub seen_count : length seen ≡ length files
-  seen_count = sym (length-map seen (λ v. v.items)) ∙ of_before.link.by.files ∙ length-map was names_in ∙ link_was.1.read.same ∙ many
+  seen_count = of_before.link.by.files ∙ length-map was names_in ∙ link_was.1.read.same ∙ many
 
   -- ---- what is below the table's count
 
@@ -129,7 +129,7 @@ module _ (files : List FileOf) (places : List ℕ) (t : Table) (imports : List (
     names = to_lists before was t rows (table_names before was link_was.1.read parts t rows of_before);
   }
 
-  pub was_sight : WasSight places files (map (λ v. v.items) imports) (map (λ v. v.items) seen)
+  pub was_sight : WasSight places files (map (λ v. v.items) imports) seen
   was_sight = record {
     before = before;
     was = was;

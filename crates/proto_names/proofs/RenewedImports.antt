@@ -16,7 +16,7 @@ use Rattle.proto_names.proofs.RenewedMeanings.{same_sight}
 use Rattle.proto_names.proofs.ValuesAtPlaces.{all_with}
 use Rattle.proto_names.specs.Sight.{AreLinkImports, IsSightOf, WasSight}
 
-module _ (files : List FileOf) (places : List ℕ) (imports : List (Vec FileImport)) (seen : List (Vec Bool)) (was : WasSight places files (map (λ v. v.items) imports) (map (λ v. v.items) seen)) where
+module _ (files : List FileOf) (places : List ℕ) (imports : List (Vec FileImport)) (seen : List (List Bool)) (was : WasSight places files (map (λ v. v.items) imports) seen) where
   many : length was.before ≡ length files
   many = sym (length-map was.before (λ (f : FileOf). f.path)) ∙ ap length was.same.paths ∙ length-map files (λ (f : FileOf). f.path)
 
@@ -24,7 +24,7 @@ module _ (files : List FileOf) (places : List ℕ) (imports : List (Vec FileImpo
   imports_count = sym (length-map imports (λ v. v.items)) ∙ was.listed.count ∙ many
 
   pub sight_count : length seen ≡ length files
-  sight_count = sym (length-map seen (λ v. v.items)) ∙ was.sight.count ∙ many
+  sight_count = was.sight.count ∙ many
 
   were_imports : WereImports places files (map (λ v. v.items) imports) was.before was.was
   were_imports = record { same = was.same; were_read = was.were_read; imports = was.listed.same }
@@ -52,7 +52,7 @@ module _ (files : List FileOf) (places : List ℕ) (imports : List (Vec FileImpo
     pub imports_stay : AreLinkImports files reads (map (λ v. v.items) imports)
     imports_stay = record { count = was.listed.count ∙ many; same = was.listed.same ∙ same }
 
-    pub sight_stays : IsSightOf files reads (map (λ v. v.items) seen)
+    pub sight_stays : IsSightOf files reads seen
     sight_stays = record {
       sound = sound was.before was.was files reads keep was.sight.sound;
       between = λ i c.
@@ -89,12 +89,12 @@ module _ (files : List FileOf) (places : List ℕ) (imports : List (Vec FileImpo
       pub imports_are : AreLinkImports files reads (map (λ v. v.items) imports_now)
       imports_are = record { count = length-map imports_now (λ v. v.items) ∙ now_count; same = these files reads (map (λ v. v.items) imports_now) listed }
 
-      pub sight_is : IsAcyclic (all_imports 0 (map (λ v. v.items) imports_now)) → (given : List (Vec FileImport)) (seen_now : List (Vec Bool)) → given ≡ imports_now → length seen_now ≡ length given
-          → ((w : Workspace) → w.files ≡ length given → w.imports ≡ all_imports 0 (map (λ v. v.items) given) → (k : ℕ) → k < length given → MarksSeen w k (get_or (map (λ v. v.items) seen_now) k []))
-          → IsSightOf files reads (map (λ v. v.items) seen_now)
+      pub sight_is : IsAcyclic (all_imports 0 (map (λ v. v.items) imports_now)) → (given : List (Vec FileImport)) (seen_now : List (List Bool)) → given ≡ imports_now → length seen_now ≡ length given
+          → ((w : Workspace) → w.files ≡ length given → w.imports ≡ all_imports 0 (map (λ v. v.items) given) → (k : ℕ) → k < length given → MarksSeen w k (get_or seen_now k []))
+          → IsSightOf files reads seen_now
       sight_is acyclic given seen_now e len exact = record {
         sound = sound files reads (map (λ v. v.items) imports_now) listed acyclic;
         between = files_between files reads are imports_now now_count now_within imports_are.same;
-        count = length-map seen_now (λ v. v.items) ∙ len ∙ ap length e ∙ now_count;
-        marks = marks_seen files reads are imports_now given (map (λ v. v.items) seen_now) e now_count imports_are.same exact;
+        count = len ∙ ap length e ∙ now_count;
+        marks = marks_seen files reads are imports_now given seen_now e now_count imports_are.same exact;
       }

@@ -1,10 +1,12 @@
 -- What the references of a file mean, looked up again: its rows and marks among those of all files, and one change more in the lists and in the log.
-use Rattle.std.proofs.Common.{◌≡◌, ◌≢◌, ℕ, ◌<◌, false, true, Bool, List, [], ◌∷◌, ◌++◌, length, get_or, map, slice_set, refl, sym, ◌∙◌, ap, subst, arith, All}
+use Rattle.std.proofs.Common.{◌≡◌, ◌≢◌, ℕ, ◌<◌, ◌==◌, ◌&&◌, ◌||◌, false, true, Bool, List, [], ◌∷◌, ◌++◌, length, get_or, map, slice_set, refl, sym, ◌∙◌, ap, subst, inl, inr, arith, All}
 use Rattle.std.proofs.lemmas.List.{length-set, get_or-set_same, get_or-set_other, set-get_or, set-set}
-use Rattle.proto_base.proofs.Common.{All-push, All-set, Vec, get_or-map, length-map, map-set}
+use Rattle.proto_base.proofs.Common.{All-push, All-set, Vec, both_ways, cases_lt, get_or-map, get_or_past, length-map, list_any, map-set}
+use Rattle.std.proofs.lemmas.Bool.{eq-eqb}
 use Rattle.proto_case.specs.Camel.{entry_name}
+use Rattle.proto_names_rules.specs.Names.{reaches, sees}
 use Rattle.proto_files.proofs.Common.{FileOf, ReadOf, read_at}
-use Rattle.proto_names_imports.proofs.Common.{IsListing, text_of}
+use Rattle.proto_names_imports.proofs.Common.{IsListing, names_of_files, text_of}
 use Rattle.proto_base.specs.Undone.{AreWithin, IsNoted, undone}
 use Rattle.proto_base.specs.declared.changes.Change.{Change}
 use Rattle.proto_names_outline.proofs.Common.{items_in, length-read, package_first, whole}
@@ -14,17 +16,27 @@ use Rattle.proto_names.specs.Common.{IsFileLinked, Meant, declared_names}
 use Rattle.proto_names.specs.Renewal.{AreMeantBelow, AreOfMarked}
 use Rattle.proto_names_table.specs.declared.table.Table.{Table}
 
--- ---- rows and marks of one file
+-- ---- rows of one file, and what it sees
 
 pub rows_at : (rows : List (Vec ℕ)) (file : ℕ) → file < length rows → (r : Vec ℕ) → r ≡ get_or rows file r → (own : List ℕ) → own ≡ r.items → get_or (map (λ v. v.items) rows) file [] ≡ own
 rows_at rows file within r r_is own own_is = get_or-map (λ (v : Vec ℕ). v.items) rows file r [] within ∙ ap (λ (v : Vec ℕ). v.items) (sym r_is) ∙ sym own_is
 
-module _ (t : Table) (seen : List (Vec Bool)) (rows : List (Vec ℕ)) (files : List FileOf) (reads : List ReadOf) (file : ℕ)
-    (linked : IsFileLinked t (get_or (map (λ v. v.items) seen) file []) (get_or (map (λ v. v.items) rows) file []) files reads file) where
-  pub linked_by : (marks : List Bool) → marks ≡ get_or (map (λ v. v.items) seen) file [] → (own : List ℕ) → get_or (map (λ v. v.items) rows) file [] ≡ own → IsFileLinked t marks own files reads file
+module _ (t : Table) (seen : List (List Bool)) (rows : List (Vec ℕ)) (files : List FileOf) (reads : List ReadOf) (file : ℕ)
+    (linked : IsFileLinked t (get_or seen file []) (get_or (map (λ v. v.items) rows) file []) files reads file) where
+  pub linked_by : (marks : List Bool) → marks ≡ get_or seen file [] → (own : List ℕ) → get_or (map (λ v. v.items) rows) file [] ≡ own → IsFileLinked t marks own files reads file
   linked_by marks marks_are own own_is =
       subst (λ (z : List ℕ). IsFileLinked t marks z files reads file) own_is
       (subst (λ (z : List Bool). IsFileLinked t z (get_or (map (λ v. v.items) rows) file []) files reads file) (sym marks_are) linked)
+
+  -- a file sees itself, so it has a list of the files that it sees
+  pub sees_within : file < length seen
+  sees_within = elim (cases_lt file (length seen)) [
+    | inl l ↦ l
+    | inr past ↦
+        let w = names_of_files files reads in
+        let itself : sees w file file ≡ true = ap (λ b. b || list_any (λ i. (i.from == file) && reaches w.imports w.files i.to file) w.imports) (eq-eqb file file refl) in
+        absurd (both_ways (get_or (get_or seen file []) file false) (ap (λ (s : List Bool). get_or s file false) (get_or_past seen file [] (omega (arith, past)))) (linked.marks file ∙ itself))
+  ]
 
   pub rows_listed : (own : List ℕ) → get_or (map (λ v. v.items) rows) file [] ≡ own → (l : Listing) → IsListing (read_at reads file) l → length own ≡ length l.declared.items
   rows_listed own own_is l is =

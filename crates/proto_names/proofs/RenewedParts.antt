@@ -30,7 +30,7 @@ use Rattle.proto_names_update.specs.Relinked.{HasToLook, WasLink}
 use Rattle.proto_names_table.proofs.Common.{IsTable, pick}
 use Rattle.proto_names_table.specs.declared.table.Table.{Table}
 
-module _ (files : List FileOf) (places : List ℕ) (old : Table) (imports : List (Vec FileImport)) (rows : List (Vec ℕ)) (seen : List (Vec Bool)) (meant : List (Vec Meant)) (references : List (Vec RefId))
+module _ (files : List FileOf) (places : List ℕ) (old : Table) (imports : List (Vec FileImport)) (rows : List (Vec ℕ)) (seen : List (List Bool)) (meant : List (Vec Meant)) (references : List (Vec RefId))
     (table_was : IsTable old) (link_was : WasLink IsLinkOf files places (link_of_parts old imports rows seen meant references))
     (t : Table) (now : List (Vec ℕ)) (renewed : AreRowsRenewed places files old t rows now) where
   abbrev l : LinkOf
@@ -158,15 +158,15 @@ module _ (files : List FileOf) (places : List ℕ) (old : Table) (imports : List
 
     -- ---- which files have to be re-resolved
 
-    module _ (table : IsTable t) (others : List ℕ) (seen_now : List (Vec Bool)) (sight_is : (reads : List ReadOf) → AreRead files reads → IsSightOf files reads (map (λ v. v.items) seen_now))
-        (kept : StayBut others (map (λ v. v.items) seen) (map (λ v. v.items) seen_now)) (others_marked : All (IsSightMarked marks t (map (λ v. v.items) now) (map (λ v. v.items) meant) (map (λ v. v.items) seen) (map (λ v. v.items) seen_now)) others) where
+    module _ (table : IsTable t) (others : List ℕ) (seen_now : List (List Bool)) (sight_is : (reads : List ReadOf) → AreRead files reads → IsSightOf files reads seen_now)
+        (kept : StayBut others seen seen_now) (others_marked : All (IsSightMarked marks t (map (λ v. v.items) now) (map (λ v. v.items) meant) seen seen_now) others) where
       is_of : IsTableOf files_before reads_before l old rows
       is_of = of_before files places old imports rows seen meant references table_was link_was
 
       -- a file that sees others than before is marked, unless it is kept in sight
-      same_marks : AreSightsMarked marks t now l.meant l.seen (map (λ v. v.items) seen_now)
+      same_marks : AreSightsMarked marks t now l.meant l.seen seen_now
       same_marks file left = elim (is_place others file) [
-        | inl there ↦ elim (All-contains (IsSightMarked marks t (map (λ v. v.items) now) l.meant l.seen (map (λ v. v.items) seen_now)) others file others_marked there) [
+        | inl there ↦ elim (All-contains (IsSightMarked marks t (map (λ v. v.items) now) l.meant l.seen seen_now) others file others_marked there) [
           | inl marked ↦ absurd (both_ways (get_or marks file false) left marked)
           | inr in_sight ↦ inr in_sight
         ]
@@ -174,16 +174,16 @@ module _ (files : List FileOf) (places : List ℕ) (old : Table) (imports : List
       ]
 
       names_of_now : (reads : List ReadOf) → AreRead files reads → AreNamesRenewed places files_before reads_before old files reads t now
-      names_of_now reads are = names_renewed table reads are (map (λ v. v.items) seen_now) (sight_is reads are)
+      names_of_now reads are = names_renewed table reads are seen_now (sight_is reads are)
 
       pub parts_have_to_look : (reads : List ReadOf) → AreRead files reads → HasToLook word_key places files_before reads_before files reads marks
-      parts_have_to_look reads are = changes_have_to_look places marks files_before reads_before l old rows files reads t now is_of (names_of_now reads are) changes_marked (map (λ v. v.items) seen_now) (sight_is reads are) same_marks
+      parts_have_to_look reads are = changes_have_to_look places marks files_before reads_before l old rows files reads t now is_of (names_of_now reads are) changes_marked seen_now (sight_is reads are) same_marks
 
       -- ---- the link
 
       module _ (meant_now : List (Vec Meant)) (again : (reads : List ReadOf) → AreRead files reads → AreMeantAgain marks t files reads (map (λ v. v.items) meant) (map (λ v. v.items) meant_now))
           (reads : List ReadOf) (are : AreRead files reads) where
-        sight : IsSightOf files reads (map (λ v. v.items) seen_now)
+        sight : IsSightOf files reads seen_now
         sight = sight_is reads are
 
         names : AreNamesRenewed places files_before reads_before old files reads t now
@@ -193,13 +193,13 @@ module _ (files : List FileOf) (places : List ℕ) (old : Table) (imports : List
         look = parts_have_to_look reads are
 
         pub parts_are_clean : HasNoFault (LinkFaults files)
-        parts_are_clean = renewed_are_clean places marks files_before reads_before l old rows files reads t now (map (λ v. v.items) meant_now) is_of names (map (λ v. v.items) seen_now) sight look (again reads are)
+        parts_are_clean = renewed_are_clean places marks files_before reads_before l old rows files reads t now (map (λ v. v.items) meant_now) is_of names seen_now sight look (again reads are)
 
         pub parts_are_link : (references_now : List (Vec RefId)) → length references_now ≡ length t.rows.items → AreReferencesOf (map (λ v. v.items) references_now) (map (λ v. v.items) meant_now)
             → (imports_now : List (Vec FileImport)) → AreLinkImports files reads (map (λ v. v.items) imports_now) → IsLinkOf files (link_of_parts t imports_now now seen_now meant_now references_now)
         parts_are_link references_now paired referred imports_now imports_are =
             let new = link_of_parts t imports_now now seen_now meant_now references_now in
-            let made : IsMadeOf files reads t now (map (λ v. v.items) seen_now) (map (λ v. v.items) meant_now) new = record {
+            let made : IsMadeOf files reads t now seen_now (map (λ v. v.items) meant_now) new = record {
               names = refl;
               imports = imports_are;
               declared = refl;
@@ -208,4 +208,4 @@ module _ (files : List FileOf) (places : List ℕ) (old : Table) (imports : List
               paired = length-map references_now (λ v. v.items) ∙ paired ∙ sym (length-map t.rows.items name_of_row);
               references = λ row. referred row ∙ references_by_row row (map (λ v. v.items) meant_now);
             } in
-            renewed_link_of places marks files_before reads_before l old rows files reads t now (map (λ v. v.items) meant_now) is_of names (map (λ v. v.items) seen_now) sight look (again reads are) new made
+            renewed_link_of places marks files_before reads_before l old rows files reads t now (map (λ v. v.items) meant_now) is_of names seen_now sight look (again reads are) new made

@@ -34,10 +34,10 @@ IsFileLinked t seen rows files reads file =
     IsReadBy t seen rows (declared_names files reads file) file (names_of_files files reads)
 
 -- the table, and for each file its marks and its rows, are those of the files
-abbrev pub AreLinked : Table → List (Vec Bool) → List (Vec ℕ) → List FileOf → List ReadOf → Type 0
+abbrev pub AreLinked : Table → List (List Bool) → List (Vec ℕ) → List FileOf → List ReadOf → Type 0
 AreLinked t seen rows files reads =
     (k : ℕ) → k < length files
-    → IsFileLinked t (get_or (map (λ v. v.items) seen) k [])
+    → IsFileLinked t (get_or seen k [])
     (get_or (map (λ v. v.items) rows) k []) files reads k
 
 -- these are what the references of the file mean

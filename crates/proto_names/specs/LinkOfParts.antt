@@ -9,7 +9,7 @@ link_of p = record {
   names = map name_of_row p.declarations.table.rows.items;
   imports = map (λ v. v.items) p.graph.imports.items;
   rows = map (λ v. v.items) p.declarations.rows.items;
-  seen = map (λ v. v.items) p.graph.seen.items;
+  seen = p.graph.seen.items;
   meant = map (λ v. v.items) p.resolutions.meant.items;
   references = map (λ v. v.items) p.resolutions.references.items;
 }

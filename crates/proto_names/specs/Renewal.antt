@@ -22,13 +22,13 @@ use Rattle.proto_names_update.specs.Relinked.{WasLink}
 use Rattle.proto_names_table.specs.declared.table.Table.{Table}
 
 -- the link of these parts
-abbrev pub link_of_parts : Table → List (Vec FileImport) → List (Vec ℕ) → List (Vec Bool)
+abbrev pub link_of_parts : Table → List (Vec FileImport) → List (Vec ℕ) → List (List Bool)
     → List (Vec Meant) → List (Vec RefId) → LinkOf
 link_of_parts t imports rows seen meant references = record {
   names = map name_of_row t.rows.items;
   imports = map (λ v. v.items) imports;
   rows = map (λ v. v.items) rows;
-  seen = map (λ v. v.items) seen;
+  seen = seen;
   meant = map (λ v. v.items) meant;
   references = map (λ v. v.items) references;
 }
@@ -37,13 +37,13 @@ link_of_parts t imports rows seen meant references = record {
 -- files of which these are the same but at these places; these are the marks of what each file sees
 -- now, and all but those of these others are as they were
 pub record IsSightRenewed (places : List ℕ) (files : List FileOf) (d : Declarations)
-    (r : Resolutions) (saw seen : List (Vec Bool)) (others : List ℕ) : Type 0 where
+    (r : Resolutions) (saw seen : List (List Bool)) (others : List ℕ) : Type 0 where
   pub imports_before : List (Vec FileImport)
   pub link : WasLink IsLinkOf files places (link_of_parts d.table imports_before d.rows.items saw
       r.meant.items r.references.items)
   pub sight : (reads : List ReadOf) → AreRead files reads
-      → IsSightOf files reads (map (λ v. v.items) seen)
-  pub kept : StayBut others (map (λ v. v.items) saw) (map (λ v. v.items) seen)
+      → IsSightOf files reads seen
+  pub kept : StayBut others saw seen
 
 -- the names of the files at these places are renewed in the table, and these are the rows of each
 -- file's declarations before and now

@@ -43,6 +43,6 @@ StayBut others before now =
     (file : ℕ) → (Contains others file → ⊥) → get_or now file [] ≡ get_or before file []
 
 -- the marks of all files as they were: those that were put away, if they were
-abbrev pub undone_seen : Option (Vec (Vec Bool)) → List (Vec Bool) → List (Vec Bool)
+abbrev pub undone_seen : Option (Vec (List Bool)) → List (List Bool) → List (List Bool)
 undone_seen None seen = seen
 undone_seen (Some was) seen = was.items

@@ -14,6 +14,7 @@ ghost use Rattle.proto_names_table.specs.Tables.{IsTable};
 use crate::parts::Declarations;
 use crate::references::{ReferenceError, meanings};
 use proto_base::NoMemory;
+use proto_file_sets::FileSet;
 use proto_files::{Files, Words, are_read};
 use proto_names_outline::listing::Listing;
 use proto_names_table::Meant;
@@ -25,7 +26,7 @@ use std::alloc::Global;
 pub(crate) fn all_meanings(
     alloc: Global,
     files: &Files,
-    seen: &[Vec<bool>],
+    seen: &[FileSet],
     declarations: &Declarations,
     listings: &[Listing],
 ) -> Result<Vec<Vec<Meant>>, ReferenceError>
@@ -82,7 +83,7 @@ pub(crate) fn file_meanings(
     files: &Files,
     file: u32,
     table: &Table,
-    seen: &[bool],
+    seen: &FileSet,
     rows: &[usize],
     listing: &Listing,
 ) -> Result<Vec<Meant>, ReferenceError>

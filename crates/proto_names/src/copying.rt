@@ -3,6 +3,7 @@
 ghost use Rattle.std.specs.Prelude.{◌≡◌, map, IfOk};
 
 use proto_base::NoMemory;
+use proto_file_sets::FileSet;
 use std::alloc::Global;
 
 /// The same lists in the same order. Fails only when out of memory.
@@ -15,6 +16,17 @@ pub(crate) fn copied<T: Copy>(alloc: Global, lists: &[Vec<T>]) -> Result<Vec<Vec
         let mut own = Vec::with_capacity(alloc, list.len())?;
         own.extend_from_slice(list)?;
         copy.push(own)?;
+    }
+    Ok(copy)
+}
+
+/// The same sets in the same order. Fails only when out of memory.
+pub(crate) fn copied_sets(alloc: Global, sets: &[FileSet]) -> Result<Vec<FileSet>, NoMemory>
+    ensures { IfOk result (λ copy. copy.items ≡ sets.now) }
+{
+    let mut copy = Vec::with_capacity(alloc, sets.len())?;
+    for set in sets {
+        copy.push(set.copy(alloc)?)?;
     }
     Ok(copy)
 }

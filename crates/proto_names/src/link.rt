@@ -22,6 +22,7 @@ ghost use Rattle.proto_names_table.specs.Tables.{IsTable};
 use crate::parts::LinkParts;
 use crate::resolve::row_in_scope;
 use proto_base::NoMemory;
+use proto_file_sets::FileSet;
 use proto_files::{Files, Words};
 use proto_names_rules::Kind;
 use proto_names_table::table::{Row, Table};
@@ -107,8 +108,8 @@ fn own_row(rows: &[Row], index: usize) -> Option<&Row>
     }
 }
 
-/// Whether a name of the table has this text, in a file that is marked.
-fn shows(table: &Table, seen: &[bool], name: &str) -> bool
+/// Whether a name of the table has this text, in a file of the set.
+fn shows(table: &Table, seen: &FileSet, name: &str) -> bool
     requires { IsTable table.now }
     ensures { result ≡ shows_text seen.now name.now (map name_of_row table.now.rows.items) }
 {

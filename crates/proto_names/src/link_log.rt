@@ -10,6 +10,7 @@ ghost use Rattle.proto_names_table.specs.Tables.{IsTable, IsUnchanged};
 
 use crate::parts::{Declarations, ImportGraph, LinkParts, Resolutions};
 use proto_base::{Change, roll_back};
+use proto_file_sets::FileSet;
 use proto_names_affected::renewed_references::cut_references;
 use proto_names_imports::import::FileImport;
 use proto_names_table::{Meant, RefId};
@@ -22,7 +23,7 @@ pub(crate) struct GraphLog {
     /// Of the imports of each file.
     pub(crate) imports: Vec<Change<Vec<FileImport>>>,
     /// What each file saw, if that was replaced.
-    pub(crate) seen: Option<Vec<Vec<bool>>>,
+    pub(crate) seen: Option<Vec<FileSet>>,
 }
 
 /// What was changed of declarations since the log began.

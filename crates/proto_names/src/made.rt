@@ -12,6 +12,7 @@ ghost use Rattle.proto_names.specs.LinkOfFiles.{IsLinkOf};
 
 use crate::link::Link;
 use proto_base::SchemaFault;
+use proto_file_sets::FileSet;
 use proto_files::Files;
 use std::alloc::Global;
 
@@ -24,7 +25,7 @@ pub trait Derived {
     ghost IsRefused: { List FileOf → SchemaFaultOf → Type 0 };
 
     /// Makes it that of the files, of which this is the link, where it was that of files with other
-    /// bytes at these places. If marks are told, they are of the files that have to be looked at
+    /// bytes at these places. If files are told, they are those that have to be looked at
     /// again: what a reference of any other file means is what it meant. After a refusal it is as
     /// it was.
     fn follow(
@@ -33,7 +34,7 @@ pub trait Derived {
         files: &Files,
         link: &Link,
         places: &[u32],
-        told: Option<&[bool]>,
+        told: Option<&FileSet>,
     ) -> Result<(), SchemaFault>
         requires places { All (λ place. place < length files.now) places.now }
         requires link { IsLinkOf files.now link.now }
@@ -61,7 +62,7 @@ impl Derived for Nothing {
         _files: &Files,
         _link: &Link,
         _places: &[u32],
-        _told: Option<&[bool]>,
+        _told: Option<&FileSet>,
     ) -> Result<(), SchemaFault>
         ensures { OnErr result ⊥ }
     {

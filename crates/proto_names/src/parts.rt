@@ -5,8 +5,9 @@ ghost use Rattle.std.specs.Prelude.{◌≡◌, map, IfOk};
 ghost use Rattle.proto_names.specs.LinkOfParts.{link_of};
 ghost use Rattle.proto_names_table.specs.Tables.{AreAlike, IsTable};
 
-use crate::copying::copied;
+use crate::copying::{copied, copied_sets};
 use proto_base::NoMemory;
+use proto_file_sets::FileSet;
 use proto_names_imports::import::FileImport;
 use proto_names_table::table::Table;
 use proto_names_table::{Meant, RefId};
@@ -17,8 +18,8 @@ use std::alloc::Global;
 pub(crate) struct ImportGraph {
     /// For each file, its imports, by the numbers of the files that they name.
     pub(crate) imports: Vec<Vec<FileImport>>,
-    /// For each file, the marks of the files that it sees.
-    pub(crate) seen: Vec<Vec<bool>>,
+    /// For each file, the files that it sees.
+    pub(crate) seen: Vec<FileSet>,
 }
 
 /// The names that files declare.
@@ -48,15 +49,15 @@ pub(crate) struct LinkParts {
 }
 
 impl ImportGraph {
-    /// The same imports and marks. Fails only when out of memory.
+    /// The same imports, and the same files seen. Fails only when out of memory.
     fn copy(&self, alloc: Global) -> Result<ImportGraph, NoMemory>
         ensures imports { IfOk result (λ copy. map (λ v. v.items) copy.imports.items
             ≡ map (λ v. v.items) self.now.imports.items) }
-        ensures seen { IfOk result (λ copy. map (λ v. v.items) copy.seen.items
-            ≡ map (λ v. v.items) self.now.seen.items) }
+        ensures seen { IfOk result (λ copy. copy.seen.items
+            ≡ self.now.seen.items) }
     {
         let imports = copied(alloc, &self.imports)?;
-        let seen = copied(alloc, &self.seen)?;
+        let seen = copied_sets(alloc, &self.seen)?;
         Ok(ImportGraph { imports, seen })
     }
 }

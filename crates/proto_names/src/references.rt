@@ -1,23 +1,24 @@
 //! What the references of a file mean, by the table of names, or the first that is faulty.
 
-ghost use Rattle.std.specs.Prelude.{◌≡◌, ◌<◌, ◌≤◌, ℕ, List, [], length, get_or, map, option_map, is_some, Some, None, IfOk, IfErr};
+ghost use Rattle.std.specs.Prelude.{◌≡◌, ◌<◌, ◌≤◌, ℕ, List, length, map, Some, None, IfOk, IfErr};
 ghost use Rattle.std.specs.List.{All};
 ghost use Rattle.proto_names_outline.specs.Listing.{needs};
 ghost use Rattle.proto_text.specs.Texts.{word_at};
 ghost use Rattle.proto_tree.specs.References.{dotted, first_of};
-ghost use Rattle.proto_names_rules.specs.Joined.{joined, ArePlain};
-ghost use Rattle.proto_names_rules.specs.Names.{Reference as NameReference, Workspace, meaning};
+ghost use Rattle.proto_names_rules.specs.Joined.{ArePlain};
+ghost use Rattle.proto_names_rules.specs.Names.{Workspace};
 ghost use Rattle.proto_names.specs.Referring.{first_token_of_use, reference_by, kind_flaw, row_flaw, AreMeant, IsReadBy, IsReferenceError};
-ghost use Rattle.proto_names_table.specs.Resolved.{IsAsked};
-ghost use Rattle.proto_names_table.specs.Tables.{names_of, IsTable};
+ghost use Rattle.proto_names_table.specs.Tables.{IsTable};
 
+use crate::resolve::resolved_row;
 use proto_base::{NoMemory, OrNoMemory, word_key};
+use proto_file_sets::FileSet;
 use proto_files::Words;
 use proto_names_outline::listing::{Above, Use};
 use proto_names_rules::Kind;
 use proto_names_table::Meant;
 use proto_names_table::table::Table;
-use proto_tree::{Dotted, Reference};
+use proto_tree::Reference;
 use std::alloc::Global;
 
 /// What is wrong with a reference.
@@ -47,7 +48,7 @@ pub(crate) type ReferenceError = OrNoMemory<BadReference>;
 pub(crate) fn meanings(
     alloc: Global,
     table: &Table,
-    seen: &[bool],
+    seen: &FileSet,
     words: &Words,
     file: u32,
     rows: &[usize],
@@ -72,7 +73,7 @@ pub(crate) fn meanings(
             Above::Outermost => 0,
             Above::Below(k) => rows[k] + 1,
         };
-        let row = row_meant(alloc, table, seen, words, scope, used.reference)?;
+        let row = resolved_row(table, seen, words, scope, used.reference);
         let token = token_of(used.reference);
         let word = words.get(used.reference.words.first);
         let first = word_key(word);
@@ -84,47 +85,6 @@ pub(crate) fn meanings(
         }
     }
     Ok(meant)
-}
-
-/// The row of the name that a reference means, in a scope by its number.
-fn row_meant(
-    alloc: Global,
-    table: &Table,
-    seen: &[bool],
-    words: &Words,
-    scope: usize,
-    reference: &Reference,
-) -> Result<Option<usize>, NoMemory>
-    requires table { IsTable table.now }
-    requires within { scope ≤ length table.now.rows.items }
-    requires plain { ArePlain (map (word_at words.now) (dotted reference.now.words)) }
-    ensures { IfOk result (λ o. (w : Workspace) (r : NameReference)
-        → IsAsked table.now seen.now scope w r → r.words ≡ map
-        (word_at words.now) (dotted reference.now.words) → r.is_absolute ≡ is_some reference.now.dot
-        → option_map (λ k. get_or (names_of table.now) k []) o ≡ option_map joined (meaning w r)) }
-{
-    let first = words.get(reference.words.first);
-    let rest = words_behind(alloc, words, &reference.words)?;
-    Ok(match reference.dot {
-        Some(_) => table.absolute(first, &rest, seen),
-        None => table.relative(scope, first, &rest, seen),
-    })
-}
-
-/// The texts of the words behind the first.
-fn words_behind<'a>(
-    alloc: Global,
-    words: &Words<'a>,
-    tokens: &Dotted,
-) -> Result<Vec<&'a str>, NoMemory>
-    ensures { IfOk result (λ texts. map (λ t. t.now) texts.items
-        ≡ map (λ b. word_at words.now b.item) tokens.now.rest) }
-{
-    let mut texts = Vec::new(alloc);
-    for behind in tokens.rest.as_slice() {
-        texts.push(words.get(behind.item))?;
-    }
-    Ok(texts)
 }
 
 /// The token that a reference begins with.

@@ -1,15 +1,16 @@
-//! What one reference means in a scope, by its tokens. Takes no memory.
+//! What one reference resolves to in a scope, by its tokens. Takes no memory.
 
-ghost use Rattle.std.specs.Prelude.{◌≡◌, ◌≢◌, ◌<◌, ℕ, [], length, get_or, map, option_map, is_some, IfSome, IfNone};
+ghost use Rattle.std.specs.Prelude.{◌≡◌, ◌≢◌, ◌<◌, ◌≤◌, ℕ, [], length, get_or, map, option_map, is_some, IfSome, IfNone};
 ghost use Rattle.proto_text.specs.Texts.{word_at};
 ghost use Rattle.proto_tree.specs.References.{dotted};
 ghost use Rattle.proto_names_rules.specs.Joined.{joined, ArePlain};
 ghost use Rattle.proto_names_rules.specs.Names.{Reference as NameReference, Workspace, meaning};
-ghost use Rattle.proto_names_table.specs.Resolved.{IsIndexOf, IsTypeAt, under_all};
+ghost use Rattle.proto_names_table.specs.Resolved.{IsAsked, IsIndexOf, IsTypeAt, under_all};
 ghost use Rattle.proto_names_rules.specs.Marks.{MarksSeen};
 ghost use Rattle.proto_names_table.specs.Tables.{names_of, IsTable};
 
 use crate::scope::scope_number;
+use proto_file_sets::FileSet;
 use proto_files::Words;
 use proto_names_table::table::Table;
 use proto_tree::{Behind, Reference};
@@ -18,7 +19,7 @@ use proto_tree::{Behind, Reference};
 /// a name.
 pub(crate) fn row_in_scope(
     table: &Table,
-    seen: &[bool],
+    seen: &FileSet,
     words: &Words,
     scope: &str,
     reference: &Reference,
@@ -33,6 +34,29 @@ pub(crate) fn row_in_scope(
         → option_map (λ k. get_or (names_of table.now) k []) result
         ≡ option_map joined (meaning w r) }
 {
+    let number = scope_number(table, scope);
+    resolved_row(table, seen, words, number, reference)
+}
+
+/// The row of what a reference resolves to in a scope, which is the number of a name, where these
+/// files are seen; none where it resolves to nothing. Takes no memory.
+pub fn resolved_row(
+    table: &Table,
+    seen: &FileSet,
+    words: &Words,
+    scope: usize,
+    reference: &Reference,
+) -> Option<usize>
+    requires table { IsTable table.now }
+    requires within { scope ≤ length table.now.rows.items }
+    requires plain { ArePlain (map (word_at words.now) (dotted reference.now.words)) }
+    ensures within { IfSome result (λ k. k < length table.now.rows.items) }
+    ensures meant { (w : Workspace) (r : NameReference) → IsAsked table.now seen.now scope w r
+        → r.words ≡ map (word_at words.now) (dotted reference.now.words)
+        → r.is_absolute ≡ is_some reference.now.dot
+        → option_map (λ k. get_or (names_of table.now) k []) result
+        ≡ option_map joined (meaning w r) }
+{
     let first = words.get(reference.words.first);
     let rest = reference.words.rest.as_slice();
     match reference.dot {
@@ -41,8 +65,7 @@ pub(crate) fn row_in_scope(
             visible_type(table, top, words, rest, seen)
         }
         None => {
-            let number = scope_number(table, scope);
-            let start = table.search(number, first, rest.is_empty(), seen)?;
+            let start = table.search(scope, first, rest.is_empty(), seen)?;
             visible_type(table, start, words, rest, seen)
         }
     }
@@ -54,7 +77,7 @@ fn visible_type(
     start: usize,
     words: &Words,
     rest: &[Behind<u32>],
-    seen: &[bool],
+    seen: &FileSet,
 ) -> Option<usize>
     requires table { IsTable table.now }
     requires within { start < length table.now.rows.items }

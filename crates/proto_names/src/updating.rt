@@ -1,6 +1,6 @@
 //! A link that is changed in place to that of its files, once some of them are edited.
 
-ghost use Rattle.std.specs.Prelude.{◌≡◌, ◌≢◌, ◌<◌, ℕ, Bool, List, [], true, false, length, get_or, map, None, IfOk, IfSome, OnOk};
+ghost use Rattle.std.specs.Prelude.{◌≡◌, ◌≢◌, ◌<◌, ℕ, Bool, List, [], true, false, length, get_or, map, None, IfOk, OnOk};
 ghost use Rattle.std.specs.Global.{Vec as VecOf};
 ghost use Rattle.std.specs.List.{All};
 ghost use Rattle.proto_files.specs.Faults.{HasNoFault};
@@ -28,6 +28,7 @@ use crate::parts::{Declarations, LinkParts, Resolutions};
 use crate::references::ReferenceError;
 use proto_base::laws::added_are_cut;
 use proto_base::{Change, NoMemory, change_all_at, change_at};
+use proto_file_sets::FileSet;
 use proto_files::{Files, are_read};
 use proto_names_affected::changed_files::{Linked, marks_of_changes, outer_rows_at};
 use proto_names_affected::outer_rows::KindRow;
@@ -35,6 +36,7 @@ use proto_names_affected::renewed_references::{grow_references, renew_references
 use proto_names_affected::sight::{Sighted, mark_by_sight};
 use proto_names_outline::file_listing::list_file;
 use proto_names_table::{Meant, RefId};
+use proto_names_update::NotUpdated;
 use proto_names_update::renewed_names::renew_names;
 use std::alloc::Global;
 
@@ -45,10 +47,10 @@ struct Edited<'a> {
     files: &'a Files,
     /// The places of those that are edited.
     places: &'a [u32],
-    /// For each file, the marks of the files that it saw.
-    saw: &'a [Vec<bool>],
-    /// For each file, the marks of the files that it sees now.
-    seen: &'a [Vec<bool>],
+    /// For each file, the files that it saw.
+    saw: &'a [FileSet],
+    /// For each file, the files that it sees now.
+    seen: &'a [FileSet],
     /// The places of the files that see others than before.
     others: &'a [u32],
 }
@@ -57,23 +59,23 @@ struct Edited<'a> {
 #[derive(Clone, Copy)]
 struct Resolver<'a> {
     files: &'a Files,
-    /// For each file, the marks of the files that it sees.
-    seen: &'a [Vec<bool>],
+    /// For each file, the files that it sees.
+    seen: &'a [FileSet],
     declarations: &'a Declarations,
 }
 
 impl Declarations {
     /// Puts the names of the edited files into the table, in place of those that they had, and
-    /// notes their rows. Answers the outer rows that each edited file declared before; none where
-    /// the link needs a rebuild, as `renew_names` says. Fails only when out of memory. Where it
-    /// answers no rows, some names may be changed, and the log tells which.
+    /// notes their rows. Answers the outer rows that each edited file declared before; the link
+    /// needs a rebuild where `renew_names` says so. Where it answers no rows, some names may be
+    /// changed, and the log tells which.
     fn update(
         &mut self,
         alloc: Global,
         files: &Files,
         places: &[u32],
         log: &mut DeclarationLog,
-    ) -> Result<Option<Vec<Vec<KindRow>>>, NoMemory>
+    ) -> Result<Vec<Vec<KindRow>>, NotUpdated>
         requires table { IsTable self.old.table }
         requires fits { DeclarationsFit log.old self.old }
         requires places { All (λ place. place < length files.now) places.now }
@@ -86,27 +88,23 @@ impl Declarations {
         ensures fits { DeclarationsFit log.new self.new }
         ensures undone { undone_declarations log.new self.new
             ≡ undone_declarations log.old self.old }
-        ensures before { IfOk result (λ o. IfSome o (λ before. map (λ v. v.items) before.items
+        ensures before { IfOk result (λ before. map (λ v. v.items) before.items
             ≡ map (outer_rows_of self.old.table (map (λ v. v.items) self.old.rows.items))
-            places.now)) }
-        ensures renewed { IfOk result (λ o. IfSome o (λ _. AreRowsRenewed places.now files.now
-            self.old.table self.new.table self.old.rows.items self.new.rows.items)) }
+            places.now) }
+        ensures renewed { OnOk result (AreRowsRenewed places.now files.now
+            self.old.table self.new.table self.old.rows.items self.new.rows.items) }
     {
         let before = outer_rows_at(alloc, &self.table, places, &self.rows)?;
-        match renew_names(
+        let renewed = renew_names(
             alloc,
             &mut self.table,
             &mut log.table,
             files,
             places,
             &self.rows,
-        )? {
-            Some(renewed) => {
-                change_all_at(&mut self.rows, &mut log.rows, places, renewed)?;
-                Ok(Some(before))
-            }
-            None => Ok(None),
-        }
+        )?;
+        change_all_at(&mut self.rows, &mut log.rows, places, renewed)?;
+        Ok(before)
     }
 }
 
@@ -128,7 +126,7 @@ fn resolve_file(
         resolver.declarations.now.rows.items }
     requires linked { (reads : List ReadOf) → AreRead resolver.files.now reads
         → IsFileLinked resolver.declarations.now.table
-        (get_or (map (λ v. v.items) resolver.seen.now) file [])
+        (get_or resolver.seen.now file [])
         (get_or (map (λ v. v.items) resolver.declarations.now.rows.items) file [])
         resolver.files.now reads file }
     ensures undone { undone log.new.items meant.new.items ≡ undone log.old.items meant.old.items }
@@ -157,7 +155,7 @@ fn resolve_file(
         resolver.files,
         file,
         &resolver.declarations.table,
-        seen_by(resolver.seen, place),
+        &resolver.seen[place],
         &resolver.declarations.rows[place],
         &listing,
     );
@@ -171,28 +169,17 @@ fn resolve_file(
     }
 }
 
-/// The marks of the files that a file sees.
-fn seen_by(seen: &[Vec<bool>], file: usize) -> &[bool]
-    ensures { result.now ≡ get_or (map (λ v. v.items) seen.now) file [] }
-{
-    match seen.get(file) {
-        Some(marks) => marks.as_slice(),
-        None => &[],
-    }
-}
-
-/// Resolves the references of the marked files again. Answers false where one is faulty. Fails only
-/// when out of memory. Where it does not answer true, some files may be resolved, and the log tells
-/// which.
+/// Resolves the references of the affected files again. Answers false where one is faulty. Fails
+/// only when out of memory. Where it does not answer true, some files may be resolved, and the log
+/// tells which.
 fn resolve_again(
     alloc: Global,
     resolver: Resolver,
-    marks: &[bool],
+    affected: &FileSet,
     meant: &mut Vec<Vec<Meant>>,
     log: &mut Vec<Change<Vec<Meant>>>,
 ) -> Result<bool, NoMemory>
     requires table { IsTable resolver.declarations.now.table }
-    requires marks { length marks.now ≡ length resolver.files.now }
     requires paired { length resolver.declarations.now.rows.items ≡ length resolver.files.now }
     requires meant { length meant.old.items ≡ length resolver.files.now }
     requires within { All (λ v. All
@@ -201,7 +188,7 @@ fn resolve_again(
     requires linked { (reads : List ReadOf) → AreRead resolver.files.now reads → (file : ℕ)
         → file < length resolver.files.now
         → IsFileLinked resolver.declarations.now.table
-        (get_or (map (λ v. v.items) resolver.seen.now) file [])
+        (get_or resolver.seen.now file [])
         (get_or (map (λ v. v.items) resolver.declarations.now.rows.items) file [])
         resolver.files.now reads file }
     ensures undone { undone log.new.items meant.new.items ≡ undone log.old.items meant.old.items }
@@ -212,15 +199,16 @@ fn resolve_again(
         log.old.items meant.old.items
         → AreMeantBelow (length resolver.entry.declarations.now.table.rows.items)
         log.new.items meant.new.items }
-    ensures marked { AreOfMarked marks.now log.old.items → AreOfMarked marks.now log.new.items }
+    ensures marked { AreOfMarked affected.now log.old.items
+        → AreOfMarked affected.now log.new.items }
     ensures meant { IfOk result (λ done. done ≡ true → (reads : List ReadOf)
         → AreRead resolver.entry.files.now reads
-        → AreMeantAgain marks.now resolver.entry.declarations.now.table resolver.entry.files.now
+        → AreMeantAgain affected.now resolver.entry.declarations.now.table resolver.entry.files.now
         reads (map (λ v. v.items) meant.old.items) (map (λ v. v.items) meant.new.items)) }
 {
     are_read(resolver.files);
     for file in 0..resolver.files.len() as u32 {
-        if marks[file as usize] {
+        if affected.contains(file) {
             if !resolve_file(alloc, resolver, file, meant, log)? {
                 return Ok(false);
             }
@@ -229,25 +217,25 @@ fn resolve_again(
     Ok(true)
 }
 
-/// Marks those of the files that see others than before which have to be re-resolved for that.
-/// Fails only when out of memory.
+/// Puts those of the files that see others than before into the set that have to be re-resolved for
+/// that. Fails only when out of memory.
 fn mark_others(
     alloc: Global,
-    marks: &mut Vec<bool>,
+    affected: &mut FileSet,
     edited: Edited,
     declarations: &Declarations,
     meant: &[Vec<Meant>],
 ) -> Result<(), NoMemory>
     requires table { IsTable declarations.now.table }
-    requires others { All (λ file. file < length marks.old.items) edited.others.now }
-    requires rows { length declarations.now.rows.items ≡ length marks.old.items }
-    requires meant { length meant.now ≡ length marks.old.items }
-    requires saw { length edited.saw.now ≡ length marks.old.items }
-    requires seen { length edited.seen.now ≡ length marks.old.items }
-    ensures stay { OnOk result (MarksStay marks.old.items marks.new.items) }
-    ensures marked { OnOk result (All (IsSightMarked marks.new.items declarations.now.table
+    requires others { All (λ file. file < length affected.old) edited.others.now }
+    requires rows { length declarations.now.rows.items ≡ length affected.old }
+    requires meant { length meant.now ≡ length affected.old }
+    requires saw { length edited.saw.now ≡ length affected.old }
+    requires seen { length edited.seen.now ≡ length affected.old }
+    ensures stay { OnOk result (MarksStay affected.old affected.new) }
+    ensures marked { OnOk result (All (IsSightMarked affected.new declarations.now.table
         (map (λ v. v.items) declarations.now.rows.items) (map (λ v. v.items) meant.now)
-        (map (λ v. v.items) edited.entry.saw.now) (map (λ v. v.items) edited.entry.seen.now))
+        edited.entry.saw.now edited.entry.seen.now)
         edited.entry.others.now) }
 {
     let sighted = Sighted {
@@ -257,11 +245,11 @@ fn mark_others(
         before: edited.saw,
         sees: edited.seen,
     };
-    mark_by_sight(alloc, marks, sighted, edited.others)
+    mark_by_sight(alloc, affected, sighted, edited.others)
 }
 
-/// The marks of what each file saw: those that were replaced, if they were.
-fn seen_before<'a>(saw: &'a Option<Vec<Vec<bool>>>, seen: &'a [Vec<bool>]) -> &'a [Vec<bool>]
+/// What each file saw: what was replaced, if it was.
+fn seen_before<'a>(saw: &'a Option<Vec<FileSet>>, seen: &'a [FileSet]) -> &'a [FileSet]
     ensures { result.now ≡ undone_seen saw.now seen.now }
 {
     match saw {
@@ -270,7 +258,7 @@ fn seen_before<'a>(saw: &'a Option<Vec<Vec<bool>>>, seen: &'a [Vec<bool>]) -> &'
     }
 }
 
-/// The marks of the files that have to be re-resolved, where the declarations are those of the
+/// The files that have to be re-resolved, where the declarations are those of the
 /// edited files, given the outer rows that each of these declared before. Fails only when out of
 /// memory.
 fn affected_files(
@@ -279,7 +267,7 @@ fn affected_files(
     declarations: &Declarations,
     resolutions: &Resolutions,
     before: &[Vec<KindRow>],
-) -> Result<Vec<bool>, NoMemory>
+) -> Result<FileSet, NoMemory>
     requires table { IsTable declarations.now.table }
     requires places { All (λ place. place < length edited.files.now) edited.places.now }
     requires others { All (λ file. file < length edited.files.now) edited.others.now }
@@ -291,16 +279,16 @@ fn affected_files(
     requires references { All
         (λ v. All (λ r. r.file < length resolutions.now.meant.items) v.items)
         resolutions.now.references.items }
-    ensures len { IfOk result (λ marks. length marks.items ≡ length edited.entry.files.now) }
-    ensures changes { IfOk result (λ marks. AreChangesMarked declarations.now.table marks.items
+    ensures len { IfOk result (λ affected. length affected ≡ length edited.entry.files.now) }
+    ensures changes { IfOk result (λ affected. AreChangesMarked declarations.now.table affected
         edited.entry.places.now (map (λ v. v.items) resolutions.now.references.items)
         (map (λ v. v.items) resolutions.now.meant.items) (map (λ v. v.items) before.now)
         (map (outer_rows_of declarations.now.table
         (map (λ v. v.items) declarations.now.rows.items)) edited.entry.places.now)) }
-    ensures sight { IfOk result (λ marks. All (IsSightMarked marks.items declarations.now.table
+    ensures sight { IfOk result (λ affected. All (IsSightMarked affected declarations.now.table
         (map (λ v. v.items) declarations.now.rows.items)
         (map (λ v. v.items) resolutions.now.meant.items)
-        (map (λ v. v.items) edited.entry.saw.now) (map (λ v. v.items) edited.entry.seen.now))
+        edited.entry.saw.now edited.entry.seen.now)
         edited.entry.others.now) }
 {
     let now = outer_rows_at(
@@ -314,23 +302,28 @@ fn affected_files(
         references: &resolutions.references,
         meant: &resolutions.meant,
     };
-    let mut marks = marks_of_changes(alloc, linked, edited.places, before, &now)?;
-    mark_others(alloc, &mut marks, edited, declarations, &resolutions.meant)?;
-    Ok(marks)
+    let mut affected = marks_of_changes(alloc, linked, edited.places, before, &now)?;
+    mark_others(
+        alloc,
+        &mut affected,
+        edited,
+        declarations,
+        &resolutions.meant,
+    )?;
+    Ok(affected)
 }
 
 /// Changes declarations and resolutions to those of the edited files, as far as they are other
-/// ones, given what each file sees now. Answers the marks of the files that were re-resolved; none
-/// where the link needs a rebuild: where a file declares what calls for that, or a reference has a
-/// fault. Fails only when out of memory. Where it answers no marks, some may be changed, and the
-/// log tells which.
+/// ones, given what each file sees now. Answers the files that were re-resolved; the link needs a
+/// rebuild where a file declares what calls for that, or a reference has a fault. Where it answers
+/// no files, some may be changed, and the log tells which.
 fn update_names(
     alloc: Global,
     edited: Edited,
     declarations: &mut Declarations,
     resolutions: &mut Resolutions,
     log: &mut NamesLog,
-) -> Result<Option<Vec<bool>>, NoMemory>
+) -> Result<FileSet, NotUpdated>
     requires places { All (λ place. place < length edited.files.now) edited.places.now }
     requires others { All (λ file. file < length edited.files.now) edited.others.now }
     requires table { IsTable declarations.old.table }
@@ -348,32 +341,28 @@ fn update_names(
         ≡ undone_declarations log.old.declarations declarations.old }
     ensures unresolved { undone_resolutions log.new.resolutions resolutions.new
         ≡ undone_resolutions log.old.resolutions resolutions.old }
-    ensures paired { IfOk result (λ o. IfSome o (λ _. length resolutions.new.references.items
-        ≡ length declarations.new.table.rows.items)) }
-    ensures link { IfOk result (λ o. IfSome o (λ _. (imports : List (VecOf FileImportOf))
+    ensures paired { OnOk result (length resolutions.new.references.items
+        ≡ length declarations.new.table.rows.items) }
+    ensures link { OnOk result ((imports : List (VecOf FileImportOf))
         → ((reads : List ReadOf) → AreRead edited.entry.files.now reads
         → AreLinkImports edited.entry.files.now reads (map (λ v. v.items) imports))
         → IsLinkOf edited.entry.files.now (link_of_parts declarations.new.table imports
         declarations.new.rows.items edited.entry.seen.now resolutions.new.meant.items
-        resolutions.new.references.items))) }
-    ensures clean { IfOk result
-        (λ o. IfSome o (λ _. HasNoFault (LinkFaults edited.entry.files.now))) }
-    ensures told { IfOk result (λ o. IfSome o (λ marks.
-        (imports : List (VecOf FileImportOf))
+        resolutions.new.references.items)) }
+    ensures clean { OnOk result (HasNoFault (LinkFaults edited.entry.files.now)) }
+    ensures told { IfOk result (λ affected. (imports : List (VecOf FileImportOf))
         → TellWhatToLook edited.entry.places.now edited.entry.files.now (link_of_parts
         declarations.old.table imports declarations.old.rows.items edited.entry.saw.now
-        resolutions.old.meant.items resolutions.old.references.items) marks.items)) }
+        resolutions.old.meant.items resolutions.old.references.items) affected) }
 {
     let Edited { files, places, .. } = edited;
     are_read(files);
     let _count = files.len();
     added_are_cut::<Vec<RefId>>();
-    let Some(before) = declarations.update(alloc, files, places, &mut log.declarations)? else {
-        return Ok(None);
-    };
+    let before = declarations.update(alloc, files, places, &mut log.declarations)?;
     let names = declarations.table.rows.len();
     grow_references(alloc, &mut resolutions.references, names)?;
-    let marks = affected_files(alloc, edited, declarations, resolutions, &before)?;
+    let affected = affected_files(alloc, edited, declarations, resolutions, &before)?;
     let resolver = Resolver {
         files,
         seen: edited.seen,
@@ -382,36 +371,35 @@ fn update_names(
     if !resolve_again(
         alloc,
         resolver,
-        &marks,
+        &affected,
         &mut resolutions.meant,
         &mut log.resolutions.meant,
     )? {
-        return Ok(None);
+        return Err(NotUpdated::NeedsRebuild);
     }
     renew_references(
         alloc,
         &mut resolutions.references,
         &mut log.resolutions.references,
-        &marks,
+        &affected,
         &log.resolutions.meant,
         &resolutions.meant,
     )?;
-    Ok(Some(marks))
+    Ok(affected)
 }
 
 impl LinkParts {
     /// Changes the parts to those of the edited files, as far as they are other ones. Answers the
-    /// marks of the files that were re-resolved; none where the link needs a rebuild: where a file
-    /// declares what calls for that, or an import or a reference has a fault. Fails only when out
-    /// of memory. Where it answers no marks, some of the parts may be changed, and the log tells
-    /// which.
+    /// files that were re-resolved; the link needs a rebuild where a file declares what calls for
+    /// that, or an import or a reference has a fault. Where it answers no files, some of the parts
+    /// may be changed, and the log tells which.
     pub(crate) fn update(
         &mut self,
         alloc: Global,
         files: &Files,
         places: &[u32],
         log: &mut LinkLog,
-    ) -> Result<Option<Vec<bool>>, NoMemory>
+    ) -> Result<FileSet, NotUpdated>
         requires places { All (λ place. place < length files.now) places.now }
         requires table { IsTable self.old.declarations.table }
         requires paired { length self.old.resolutions.references.items
@@ -435,36 +423,28 @@ impl LinkParts {
             ≡ self.old.graph.imports.items }
         ensures seen { undone_seen log.new.graph.seen self.new.graph.seen.items
             ≡ self.old.graph.seen.items }
-        ensures paired { IfOk result (λ o. IfSome o (λ _.
-            length self.new.resolutions.references.items
-            ≡ length self.new.declarations.table.rows.items)) }
-        ensures link { IfOk result (λ o. IfSome o (λ _. IsLinkOf files.now (link_of self.new))) }
-        ensures clean { IfOk result (λ o. IfSome o (λ _. HasNoFault (LinkFaults files.now))) }
-        ensures read { IfOk result
-            (λ o. IfSome o (λ _. (reads : List ReadOf) × AreRead files.now reads)) }
-        ensures told { IfOk result (λ o. IfSome o (λ marks.
-            TellWhatToLook places.now files.now (link_of self.old) marks.items)) }
+        ensures paired { OnOk result (length self.new.resolutions.references.items
+            ≡ length self.new.declarations.table.rows.items) }
+        ensures link { OnOk result (IsLinkOf files.now (link_of self.new)) }
+        ensures clean { OnOk result (HasNoFault (LinkFaults files.now)) }
+        ensures read { OnOk result ((reads : List ReadOf) × AreRead files.now reads) }
+        ensures told { IfOk result (TellWhatToLook places.now files.now (link_of self.old)) }
     {
         are_read(files);
-        let updated = self.graph.update(alloc, files, places, &mut log.graph)?;
-        match updated {
-            Some(others) => {
-                let edited = Edited {
-                    files,
-                    places,
-                    saw: seen_before(&log.graph.seen, &self.graph.seen),
-                    seen: &self.graph.seen,
-                    others: &others,
-                };
-                update_names(
-                    alloc,
-                    edited,
-                    &mut self.declarations,
-                    &mut self.resolutions,
-                    &mut log.names,
-                )
-            }
-            None => Ok(None),
-        }
+        let others = self.graph.update(alloc, files, places, &mut log.graph)?;
+        let edited = Edited {
+            files,
+            places,
+            saw: seen_before(&log.graph.seen, &self.graph.seen),
+            seen: &self.graph.seen,
+            others: &others,
+        };
+        update_names(
+            alloc,
+            edited,
+            &mut self.declarations,
+            &mut self.resolutions,
+            &mut log.names,
+        )
     }
 }

@@ -29,12 +29,13 @@ use crate::made::{Derived, Nothing};
 use crate::parts::{Declarations, ImportGraph, LinkParts, Resolutions};
 use crate::read_files::{all_spelled, all_written, listings};
 use crate::references::{ReferenceError, ReferenceFlaw};
-use proto_base::{FaultKind, NoMemory, SchemaFault};
+use proto_base::{FaultKind, SchemaFault};
 use proto_files::{Files, all_paths, are_read, fault_at_token};
 use proto_names_imports::import::{FileImport, ImportError, ImportFlaw, resolve_imports};
 use proto_names_imports::sight::all_seen;
 use proto_names_outline::listing::Listing;
 use proto_names_table::filling::{NameError, declare_all};
+use proto_names_update::NotUpdated;
 use std::alloc::Global;
 use std::mem;
 
@@ -80,7 +81,7 @@ fn linked_graph(alloc: Global, files: &Files) -> Result<ImportGraph, SchemaFault
     ensures imports { IfOk result (λ graph. (reads : List ReadOf) → AreRead files.now reads
         → AreLinkImports files.now reads (map (λ v. v.items) graph.imports.items)) }
     ensures sight { IfOk result (λ graph. (reads : List ReadOf) → AreRead files.now reads
-        → IsSightOf files.now reads (map (λ v. v.items) graph.seen.items)) }
+        → IsSightOf files.now reads graph.seen.items) }
     ensures fault { IfErr result (IsLinkError files.now) }
 {
     // Its contract says that there are at most 4,096.
@@ -151,7 +152,7 @@ fn linked_references(
     requires table { IsTable declarations.now.table }
     requires listings { AreListings files.now listings.now }
     requires sight { (reads : List ReadOf) → AreRead files.now reads
-        → IsSightOf files.now reads (map (λ v. v.items) graph.now.seen.items) }
+        → IsSightOf files.now reads graph.now.seen.items }
     requires paired { length declarations.now.rows.items ≡ length files.now }
     requires rows { Each (λ k v. (d : Listing)
         → length v.items ≡ length (get_or listings.now k d).declared.items)
@@ -289,12 +290,12 @@ impl Link {
         let mut log = LinkLog::new(alloc, &self.parts);
         let updated = self.parts.update(alloc, files, places, &mut log);
         let answer = match updated {
-            Ok(Some(marks)) => match made.follow(alloc, files, self, places, Some(&marks)) {
+            Ok(affected) => match made.follow(alloc, files, self, places, Some(&affected)) {
                 Ok(()) => return Renewal::Done,
                 Err(fault) => Renewal::Refused(fault),
             },
-            Ok(None) => Renewal::Rebuild,
-            Err(NoMemory) => Renewal::Refused(SchemaFault::NoMemory),
+            Err(NotUpdated::NeedsRebuild) => Renewal::Rebuild,
+            Err(NotUpdated::NoMemory) => Renewal::Refused(SchemaFault::NoMemory),
         };
         self.parts.roll_back(log);
         answer

@@ -1,4 +1,5 @@
 mod Changes
+pub mod Inserted
 mod KindRows
 mod LastWords
 mod Marks

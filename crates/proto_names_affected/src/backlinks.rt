@@ -5,6 +5,7 @@ ghost use Rattle.std.specs.List.{filter};
 ghost use Rattle.proto_names_affected.specs.Merged.{is_of_marked_file, ReferencesAreRising, references_before, references_from, merged};
 
 use proto_base::NoMemory;
+use proto_file_sets::FileSet;
 use proto_names_table::RefId;
 use std::alloc::Global;
 
@@ -13,7 +14,7 @@ use std::alloc::Global;
 pub fn renewed(
     alloc: Global,
     old: &[RefId],
-    marks: &[bool],
+    marks: &FileSet,
     fresh: &[RefId],
 ) -> Result<Vec<RefId>, NoMemory>
     ensures merged { IfOk result (λ v. v.items
@@ -26,23 +27,13 @@ pub fn renewed(
     let mut found = Vec::new(alloc);
     let mut rest = fresh;
     for reference in old {
-        if !is_marked(marks, *reference) {
+        if !marks.contains(reference.file) {
             rest = put_before(&mut found, rest, reference.file)?;
             found.push(*reference)?;
         }
     }
     found.extend_from_slice(rest)?;
     Ok(found)
-}
-
-/// Whether the file of a reference is marked.
-fn is_marked(marks: &[bool], reference: RefId) -> bool
-    ensures { result ≡ is_of_marked_file marks.now reference }
-{
-    match marks.get(reference.file as usize) {
-        Some(is_marked) => *is_marked,
-        None => false,
-    }
 }
 
 /// Puts those of the references that stand before a file behind others; answers the rest.

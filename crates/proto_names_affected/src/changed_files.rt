@@ -1,6 +1,6 @@
 //! The files that have to be re-resolved once some are edited.
 
-ghost use Rattle.std.specs.Prelude.{◌≡◌, ◌<◌, List, length, map, IfOk, OnOk};
+ghost use Rattle.std.specs.Prelude.{◌≡◌, ◌<◌, length, map, IfOk, OnOk};
 ghost use Rattle.std.specs.List.{All};
 ghost use Rattle.proto_names_affected.specs.ChangedFiles.{AreChangesMarked, IsChangeMarked, outer_rows_of};
 ghost use Rattle.proto_names_affected.specs.Marking.{MarksStay};
@@ -9,6 +9,7 @@ ghost use Rattle.proto_names_table.specs.Tables.{IsTable};
 use crate::marking::{mark_beginners, mark_places, mark_users};
 use crate::outer_rows::{KindRow, last_word_keys, outer_rows, rows_below_no_type, rows_not_among};
 use proto_base::NoMemory;
+use proto_file_sets::FileSet;
 use proto_names_table::table::Table;
 use proto_names_table::{Meant, RefId};
 use std::alloc::Global;
@@ -43,7 +44,7 @@ pub struct Linked<'a> {
     pub meant: &'a [Vec<Meant>],
 }
 
-/// Marks of the files that have to be re-resolved, one for each file: those at these places;
+/// The files that have to be re-resolved: those at these places;
 /// those with a reference to a name that one of these declares no more, or with another kind; and
 /// those in which a reference begins with a word that has the key of the last word of a name that
 /// one of these did not declare, or with another kind, unless the name stands right below a type's:
@@ -55,7 +56,7 @@ pub fn marks_of_changes(
     places: &[u32],
     before: &[Vec<KindRow>],
     now: &[Vec<KindRow>],
-) -> Result<Vec<bool>, NoMemory>
+) -> Result<FileSet, NoMemory>
     requires table { IsTable linked.table.now }
     requires places { All (λ place. place < length linked.meant.now) places.now }
     requires before { length before.now ≡ length places.now }
@@ -64,14 +65,14 @@ pub fn marks_of_changes(
         now.now }
     requires references { All (λ v. All (λ r. r.file < length linked.meant.now) v.items)
         linked.references.now }
-    ensures len { IfOk result (λ marks. length marks.items ≡ length linked.entry.meant.now) }
+    ensures len { IfOk result (λ marks. length marks ≡ length linked.entry.meant.now) }
     ensures marked { IfOk result (λ marks. AreChangesMarked
-        linked.entry.table.now marks.items places.now
+        linked.entry.table.now marks places.now
         (map (λ v. v.items) linked.entry.references.now)
         (map (λ v. v.items) linked.entry.meant.now)
         (map (λ v. v.items) before.now) (map (λ v. v.items) now.now)) }
 {
-    let mut marks = vec![in alloc; false; linked.meant.len()]?;
+    let mut marks = FileSet::new(alloc, linked.meant.len())?;
     mark_places(&mut marks, places);
     for k in 0..places.len() {
         mark_change(alloc, &mut marks, linked, &before[k], &now[k])?;
@@ -79,21 +80,21 @@ pub fn marks_of_changes(
     Ok(marks)
 }
 
-/// Marks the files that have to be re-resolved for what one file declared and declares.
+/// Puts the files into the set that have to be re-resolved for what one file declared and declares.
 fn mark_change(
     alloc: Global,
-    marks: &mut Vec<bool>,
+    marks: &mut FileSet,
     linked: Linked,
     before: &[KindRow],
     now: &[KindRow],
 ) -> Result<(), NoMemory>
     requires table { IsTable linked.table.now }
-    requires meant { length linked.meant.now ≡ length marks.old.items }
+    requires meant { length linked.meant.now ≡ length marks.old }
     requires within { All (λ p. p.row < length linked.table.now.rows.items) now.now }
-    requires references { All (λ v. All (λ r. r.file < length marks.old.items) v.items)
+    requires references { All (λ v. All (λ r. r.file < length marks.old) v.items)
         linked.references.now }
-    ensures stay { OnOk result (MarksStay marks.old.items marks.new.items) }
-    ensures marked { OnOk result (IsChangeMarked linked.entry.table.now marks.new.items
+    ensures stay { OnOk result (MarksStay marks.old marks.new) }
+    ensures marked { OnOk result (IsChangeMarked linked.entry.table.now marks.new
         (map (λ v. v.items) linked.entry.references.now)
         (map (λ v. v.items) linked.entry.meant.now) before.now now.now) }
 {

@@ -1,14 +1,14 @@
 //! The references of marked files, by the rows of the names that they mean.
 
 ghost use Rattle.std.specs.Prelude.{◌≡◌, ◌≤◌, ◌<◌, ◌^◌, [], ◌∷◌, length, get_or, map, nat_eq, if◌then◌else◌, false, IfOk, OnOk};
-ghost use Rattle.std.specs.List.{All, Contains};
+ghost use Rattle.std.specs.List.{All};
 ghost use Rattle.indexmap.specs.IndexSet.{IsUnique};
 ghost use Rattle.proto_names_affected.specs.Referred.{meant_row};
 ghost use Rattle.proto_names_affected.specs.Gathering.{AreRowsBelow, AreRowsNamed, Gathers, HasGathered, IsSound, marked_meant};
 
 use indexmap::IndexSet;
 use proto_base::{Change, NoMemory};
-use proto_names_rules::marks::is_marked;
+use proto_file_sets::FileSet;
 use proto_names_table::{Meant, RefId};
 use std::alloc::Global;
 
@@ -117,7 +117,7 @@ impl Gathered {
     fn add_if_marked(
         &mut self,
         alloc: Global,
-        marks: &[bool],
+        marks: &FileSet,
         file: u32,
         meant: &[Meant],
     ) -> Result<(), NoMemory>
@@ -126,7 +126,7 @@ impl Gathered {
         ensures { OnOk result (Gathers self.old self.new
             (if get_or marks.now file false then map (meant_row file) meant.now else [])) }
     {
-        if is_marked(marks, file) {
+        if marks.contains(file) {
             self.add_file(alloc, file, meant)
         } else {
             Ok(())
@@ -137,7 +137,7 @@ impl Gathered {
     pub fn add_marked(
         &mut self,
         alloc: Global,
-        marks: &[bool],
+        marks: &FileSet,
         meant: &[Vec<Meant>],
     ) -> Result<(), NoMemory>
         requires sound { IsSound self.old }

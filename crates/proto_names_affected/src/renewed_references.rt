@@ -1,6 +1,6 @@
 //! The lists of references to each name, once those of some files are others.
 
-ghost use Rattle.std.specs.Prelude.{◌≡◌, ℕ, ◌<◌, ◌≤◌, ◌^◌, max, true, false, List, [], ◌++◌, length, get_or, map, take, OnOk};
+ghost use Rattle.std.specs.Prelude.{◌≡◌, ℕ, ◌<◌, ◌≤◌, ◌^◌, max, true, false, [], length, get_or, map, take, OnOk};
 ghost use Rattle.std.specs.List.{All};
 ghost use Rattle.proto_base.specs.Undone.{AreWithin, undone};
 ghost use Rattle.proto_names_affected.specs.Gathering.{AreRowsBelow};
@@ -10,6 +10,7 @@ use crate::backlinks::renewed;
 use crate::gathering::Gathered;
 use crate::laws::references_are_parted;
 use proto_base::{Change, NoMemory, change_at};
+use proto_file_sets::FileSet;
 use proto_names_table::{Meant, RefId};
 use std::alloc::Global;
 
@@ -20,7 +21,7 @@ pub fn renew_references(
     alloc: Global,
     references: &mut Vec<Vec<RefId>>,
     log: &mut Vec<Change<Vec<RefId>>>,
-    marks: &[bool],
+    marks: &FileSet,
     old: &[Change<Vec<Meant>>],
     meant: &[Vec<Meant>],
 ) -> Result<(), NoMemory>
@@ -52,7 +53,7 @@ fn renew_listed(
     alloc: Global,
     references: &mut Vec<Vec<RefId>>,
     log: &mut Vec<Change<Vec<RefId>>>,
-    marks: &[bool],
+    marks: &FileSet,
     rows: &[usize],
     lists: &[Vec<RefId>],
 ) -> Result<(), NoMemory>

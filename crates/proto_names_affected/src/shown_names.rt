@@ -10,6 +10,7 @@ ghost use Rattle.proto_names_table.specs.Tables.{IsTable};
 use crate::outer_rows::{is_below_type, last_word, last_word_keys};
 use indexmap::IndexSet;
 use proto_base::{NoMemory, word_key};
+use proto_file_sets::FileSet;
 use proto_names_table::table::Table;
 use std::alloc::Global;
 
@@ -62,7 +63,7 @@ impl ShownNames {
     fn add_if_marked(
         &mut self,
         table: &Table,
-        marks: &[bool],
+        marks: &FileSet,
         file: usize,
         rows: &[usize],
     ) -> Result<(), NoMemory>
@@ -73,7 +74,7 @@ impl ShownNames {
         ensures gathered { OnOk result (IsMarked marks.now file
             → All (IsGathered table.now self.new.packages.keys self.new.keys.keys) rows.now) }
     {
-        if is_set(marks, file) {
+        if marks.contains_at(file) {
             return self.add_rows(table, rows);
         }
         Ok(())
@@ -109,7 +110,7 @@ pub(crate) fn shown_names(
     alloc: Global,
     table: &Table,
     rows: &[Vec<usize>],
-    marks: &[bool],
+    marks: &FileSet,
 ) -> Result<ShownNames, NoMemory>
     requires table { IsTable table.now }
     ensures within { IfOk result
@@ -126,16 +127,6 @@ pub(crate) fn shown_names(
         names.add_if_marked(table, marks, file, &rows[file])?;
     }
     Ok(names)
-}
-
-/// Whether a file is marked; a file past the marks is not.
-pub(crate) fn is_set(marks: &[bool], file: usize) -> bool
-    ensures { result ≡ get_or marks.now file false }
-{
-    match marks.get(file) {
-        Some(is_set) => *is_set,
-        None => false,
-    }
 }
 
 /// Whether the name of a row is a package's.

@@ -7,9 +7,10 @@ ghost use Rattle.proto_names_affected.specs.Sight.{IsGathered, IsNewlySeen, IsSi
 ghost use Rattle.proto_names_table.specs.Tables.{IsTable};
 
 use crate::marking::begins_so;
-use crate::shown_names::{ShownNames, is_set, shown_names};
+use crate::shown_names::{ShownNames, shown_names};
 use indexmap::IndexSet;
 use proto_base::NoMemory;
+use proto_file_sets::FileSet;
 use proto_names_table::Meant;
 use proto_names_table::table::Table;
 use std::alloc::Global;
@@ -23,33 +24,33 @@ pub struct Sighted<'a> {
     pub rows: &'a [Vec<usize>],
     /// For each file what its references mean, as they were.
     pub meant: &'a [Vec<Meant>],
-    /// For each file the marks of the files that it saw.
-    pub before: &'a [Vec<bool>],
-    /// For each file the marks of the files that it sees.
-    pub sees: &'a [Vec<bool>],
+    /// For each file the files that it saw.
+    pub before: &'a [FileSet],
+    /// For each file the files that it sees.
+    pub sees: &'a [FileSet],
 }
 
-/// Marks those of these files that have to be re-resolved for what they see: that see no more
-/// what one of their references means; and those in which a reference begins with a word that has
-/// the key of the last word of a name in a file that one of them newly sees, unless the name stands
-/// right below a type's, or the file declares it itself. Fails only when out of memory.
+/// Puts those of these files into the set that have to be re-resolved for what they see: that see
+/// no more what one of their references means; and those in which a reference begins with a word
+/// that has the key of the last word of a name in a file that one of them newly sees, unless the
+/// name stands right below a type's, or the file declares it itself. Fails only when out of memory.
 pub fn mark_by_sight(
     alloc: Global,
-    marks: &mut Vec<bool>,
+    marks: &mut FileSet,
     sighted: Sighted,
     files: &[u32],
 ) -> Result<(), NoMemory>
     requires table { IsTable sighted.table.now }
-    requires files { All (λ file. file < length marks.old.items) files.now }
-    requires rows { length sighted.rows.now ≡ length marks.old.items }
-    requires meant { length sighted.meant.now ≡ length marks.old.items }
-    requires before { length sighted.before.now ≡ length marks.old.items }
-    requires sees { length sighted.sees.now ≡ length marks.old.items }
-    ensures stay { OnOk result (MarksStay marks.old.items marks.new.items) }
-    ensures marked { OnOk result (All (IsSightMarked marks.new.items sighted.entry.table.now
+    requires files { All (λ file. file < length marks.old) files.now }
+    requires rows { length sighted.rows.now ≡ length marks.old }
+    requires meant { length sighted.meant.now ≡ length marks.old }
+    requires before { length sighted.before.now ≡ length marks.old }
+    requires sees { length sighted.sees.now ≡ length marks.old }
+    ensures stay { OnOk result (MarksStay marks.old marks.new) }
+    ensures marked { OnOk result (All (IsSightMarked marks.new sighted.entry.table.now
         (map (λ v. v.items) sighted.entry.rows.now) (map (λ v. v.items) sighted.entry.meant.now)
-        (map (λ v. v.items) sighted.entry.before.now)
-        (map (λ v. v.items) sighted.entry.sees.now)) files.now) }
+        sighted.entry.before.now
+        sighted.entry.sees.now) files.now) }
 {
     let seen = newly_seen(alloc, sighted, files)?;
     let names = shown_names(alloc, sighted.table, sighted.rows, &seen)?;
@@ -59,17 +60,17 @@ pub fn mark_by_sight(
     Ok(())
 }
 
-/// Marks of the files that one of these newly sees. Fails only when out of memory.
-fn newly_seen(alloc: Global, sighted: Sighted, files: &[u32]) -> Result<Vec<bool>, NoMemory>
+/// The files that one of these newly sees. Fails only when out of memory.
+fn newly_seen(alloc: Global, sighted: Sighted, files: &[u32]) -> Result<FileSet, NoMemory>
     requires files { All (λ file. file < length sighted.rows.now) files.now }
     requires before { length sighted.before.now ≡ length sighted.rows.now }
     requires sees { length sighted.sees.now ≡ length sighted.rows.now }
     ensures { IfOk result (λ marks. All (λ file. (g : ℕ) → g < length sighted.entry.rows.now
-        → IsNewlySeen (get_or (map (λ v. v.items) sighted.entry.before.now) file [])
-        (get_or (map (λ v. v.items) sighted.entry.sees.now) file []) g
-        → IsMarked marks.items g) files.now) }
+        → IsNewlySeen (get_or sighted.entry.before.now file [])
+        (get_or sighted.entry.sees.now file []) g
+        → IsMarked marks g) files.now) }
 {
-    let mut marks = vec![in alloc; false; sighted.rows.len()]?;
+    let mut marks = FileSet::new(alloc, sighted.rows.len())?;
     for file in files {
         let place = *file as usize;
         mark_new(&mut marks, &sighted.before[place], &sighted.sees[place]);
@@ -77,72 +78,74 @@ fn newly_seen(alloc: Global, sighted: Sighted, files: &[u32]) -> Result<Vec<bool
     Ok(marks)
 }
 
-/// Marks the files that are seen now and were not before.
-fn mark_new(marks: &mut Vec<bool>, before: &[bool], sees: &[bool])
-    ensures stay { MarksStay marks.old.items marks.new.items }
-    ensures marked { (file : ℕ) → file < length marks.old.items
-        → IsNewlySeen before.now sees.now file → IsMarked marks.new.items file }
+/// Puts the files into the set that are seen now and were not before.
+fn mark_new(marks: &mut FileSet, before: &FileSet, sees: &FileSet)
+    ensures stay { MarksStay marks.old marks.new }
+    ensures marked { (file : ℕ) → file < length marks.old
+        → IsNewlySeen before.now sees.now file → IsMarked marks.new file }
 {
-    for file in 0..marks.len() {
+    for file in 0..marks.file_count() {
         mark_if_new(marks, file, before, sees);
     }
 }
 
-/// Marks a file, if it is seen now and was not before.
-fn mark_if_new(marks: &mut Vec<bool>, file: usize, before: &[bool], sees: &[bool])
-    requires { file < length marks.old.items }
-    ensures stay { MarksStay marks.old.items marks.new.items }
-    ensures marked { IsNewlySeen before.now sees.now file → IsMarked marks.new.items file }
+/// Puts a file into the set, if it is seen now and was not before.
+#[tactic(auto, using(crate::proofs::Inserted::inserted_stay, crate::proofs::Inserted::inserted_marked))]
+fn mark_if_new(marks: &mut FileSet, file: usize, before: &FileSet, sees: &FileSet)
+    requires { file < length marks.old }
+    ensures stay { MarksStay marks.old marks.new }
+    ensures marked { IsNewlySeen before.now sees.now file → IsMarked marks.new file }
 {
-    if is_set(sees, file) && !is_set(before, file) {
-        marks[file] = true;
+    if sees.contains_at(file) && !before.contains_at(file) {
+        marks.insert_at(file);
     }
 }
 
-/// Marks a file, if it has to be re-resolved for what it sees; with the names of all files that
-/// it newly sees. Fails only when out of memory.
+/// Puts a file into the set, if it has to be re-resolved for what it sees; with the names of all
+/// files that it newly sees. Fails only when out of memory.
 fn mark_one(
     alloc: Global,
-    marks: &mut Vec<bool>,
+    marks: &mut FileSet,
     sighted: Sighted,
     names: &ShownNames,
     file: u32,
 ) -> Result<(), NoMemory>
     requires table { IsTable sighted.table.now }
-    requires file { file < length marks.old.items }
-    requires rows { length sighted.rows.now ≡ length marks.old.items }
-    requires meant { length sighted.meant.now ≡ length marks.old.items }
-    requires sees { length sighted.sees.now ≡ length marks.old.items }
+    requires file { file < length marks.old }
+    requires rows { length sighted.rows.now ≡ length marks.old }
+    requires meant { length sighted.meant.now ≡ length marks.old }
+    requires sees { length sighted.sees.now ≡ length marks.old }
     requires within { All (λ row. row < length sighted.table.now.rows.items)
         names.now.packages.keys }
     requires gathered { (g : ℕ)
-        → IsNewlySeen (get_or (map (λ v. v.items) sighted.before.now) file [])
-        (get_or (map (λ v. v.items) sighted.sees.now) file []) g
+        → IsNewlySeen (get_or sighted.before.now file [])
+        (get_or sighted.sees.now file []) g
         → All (IsGathered sighted.table.now names.now.packages.keys names.now.keys.keys)
         (get_or (map (λ v. v.items) sighted.rows.now) g []) }
-    ensures stay { OnOk result (MarksStay marks.old.items marks.new.items) }
-    ensures marked { OnOk result (IsSightMarked marks.new.items sighted.entry.table.now
+    ensures stay { OnOk result (MarksStay marks.old marks.new) }
+    ensures marked { OnOk result (IsSightMarked marks.new sighted.entry.table.now
         (map (λ v. v.items) sighted.entry.rows.now) (map (λ v. v.items) sighted.entry.meant.now)
-        (map (λ v. v.items) sighted.entry.before.now)
-        (map (λ v. v.items) sighted.entry.sees.now) file) }
+        sighted.entry.before.now
+        sighted.entry.sees.now file) }
 {
     let Sighted { table, .. } = sighted;
     let place = file as usize;
     let foreign = names.foreign_keys(alloc, table, &sighted.rows[place])?;
     let meant = &sighted.meant[place];
     let is_kept = means_the_same(table, &sighted.sees[place], meant, names.keys(), &foreign);
-    mark_unless(marks, place, is_kept);
+    mark_unless(marks, file, is_kept);
     Ok(())
 }
 
-/// Marks a file, unless it is kept.
-fn mark_unless(marks: &mut Vec<bool>, file: usize, is_kept: bool)
-    requires { file < length marks.old.items }
-    ensures stay { MarksStay marks.old.items marks.new.items }
-    ensures marked { is_kept ≡ false → IsMarked marks.new.items file }
+/// Puts a file into the set, unless it is kept.
+#[tactic(auto, using(crate::proofs::Inserted::inserted_stay, crate::proofs::Inserted::inserted_marked))]
+fn mark_unless(marks: &mut FileSet, file: u32, is_kept: bool)
+    requires { file < length marks.old }
+    ensures stay { MarksStay marks.old marks.new }
+    ensures marked { is_kept ≡ false → IsMarked marks.new file }
 {
     if !is_kept {
-        marks[file] = true;
+        marks.insert(file);
     }
 }
 
@@ -150,7 +153,7 @@ fn mark_unless(marks: &mut Vec<bool>, file: usize, is_kept: bool)
 /// these keys.
 fn means_the_same(
     table: &Table,
-    sees: &[bool],
+    sees: &FileSet,
     meant: &[Meant],
     keys: &IndexSet<u32>,
     foreign: &IndexSet<u32>,
@@ -163,14 +166,14 @@ fn means_the_same(
 }
 
 /// Whether a file that sees these sees what its references mean.
-fn sees_all(table: &Table, sees: &[bool], meant: &[Meant]) -> bool
+fn sees_all(table: &Table, sees: &FileSet, meant: &[Meant]) -> bool
     ensures { result ≡ list_all (λ m. is_seen_at table.now sees.now m.row) meant.now }
 {
     meant.iter().all(|m| is_seen_at(table, sees, m.row))
 }
 
 /// Whether a file that declares the name of a row is seen.
-fn is_seen_at(table: &Table, sees: &[bool], row: usize) -> bool
+fn is_seen_at(table: &Table, sees: &FileSet, row: usize) -> bool
     ensures { result ≡ is_seen_at table.now sees.now row }
 {
     match table.rows.get(row) {

@@ -1,6 +1,6 @@
 -- The faults of the references of a file by its listing are those of its tree, and those of all files are those of the references.
 use Rattle.std.proofs.Common.{◌≡◌, ◌↔◌, ◌⊎◌, ℕ, ◌+◌, ◌<◌, Bool, List, [], length, get_or, map, refl, sym, ◌∙◌, ap, subst, inl, inr, arith, All, Contains}
-use Rattle.proto_base.proofs.Common.{Vec, get_or-map as get_or-map_within, Contains-get_or, cases_eq, contains_map, from_map, length-map}
+use Rattle.proto_base.proofs.Common.{Vec, get_or-map as get_or-map_within, get_or_default, Contains-get_or, cases_eq, contains_map, from_map, length-map}
 use Rattle.std.proofs.Math.ListN.{get_or-map}
 use Rattle.proto_text.proofs.Common.{AreTokens, Lexeme, lexeme_at, one_token_list, word_at, words}
 use Rattle.proto_base.specs.declared.profile.Profile.{Profile}
@@ -121,8 +121,8 @@ module _ (files : List FileOf) (reads : List ReadOf) (are : AreRead files reads)
 
 -- ---- by what references are read
 
-are_linked : (files : List FileOf) (reads : List ReadOf) (t : Table) (seen : List (Vec Bool)) (rows : List (Vec ℕ))
-    → ((k : ℕ) → k < length files → MarksSeen (names_of_files files reads) k (get_or (map (λ v. v.items) seen) k [])) → AreRowsOf files reads t rows → AreLinked t seen rows files reads
+are_linked : (files : List FileOf) (reads : List ReadOf) (t : Table) (seen : List (List Bool)) (rows : List (Vec ℕ))
+    → ((k : ℕ) → k < length files → MarksSeen (names_of_files files reads) k (get_or seen k [])) → AreRowsOf files reads t rows → AreLinked t seen rows files reads
 are_linked files reads t seen rows marks names k l = record {
   index = names.index;
   marks = marks k l;
@@ -131,20 +131,20 @@ are_linked files reads t seen rows marks names k l = record {
   named = λ j m. names.named k j l m;
 }
 
--- so it is with the marks of what files see, where they were handed on
-pub linked_by : (files : List FileOf) (reads : List ReadOf) (t : Table) (seen given : List (Vec Bool)) (rows : List (Vec ℕ)) → given ≡ seen
-    → ((k : ℕ) → k < length files → MarksSeen (names_of_files files reads) k (get_or (map (λ v. v.items) seen) k [])) → AreRowsOf files reads t rows → AreLinked t given rows files reads
+-- so it is with what files see, where it was handed on
+pub linked_by : (files : List FileOf) (reads : List ReadOf) (t : Table) (seen given : List (List Bool)) (rows : List (Vec ℕ)) → given ≡ seen
+    → ((k : ℕ) → k < length files → MarksSeen (names_of_files files reads) k (get_or seen k [])) → AreRowsOf files reads t rows → AreLinked t given rows files reads
 linked_by files reads t seen given rows e marks names =
-    are_linked files reads t given rows (subst (λ (vs : List (Vec Bool)). (k : ℕ) → k < length files → MarksSeen (names_of_files files reads) k (get_or (map (λ v. v.items) vs) k [])) (sym e) marks) names
+    are_linked files reads t given rows (subst (λ (vs : List (List Bool)). (k : ℕ) → k < length files → MarksSeen (names_of_files files reads) k (get_or vs k [])) (sym e) marks) names
 
--- what is said of each file is said of one by its marks and its rows
-pub linked_at : (t : Table) (seen : List (Vec Bool)) (rows : List (Vec ℕ)) (files : List FileOf) (reads : List ReadOf) → AreLinked t seen rows files reads → (file : ℕ) → file < length files → length seen ≡ length files → length rows ≡ length files
-    → (v : Vec Bool) → v ≡ get_or seen file v → (r : Vec ℕ) → r ≡ get_or rows file r → (marks : List Bool) → marks ≡ v.items → (own : List ℕ) → own ≡ r.items → IsFileLinked t marks own files reads file
-linked_at t seen rows files reads linked file l n m v v_is r r_is marks marks_are own own_are =
-    let marks_at = get_or-map_within (λ z. z.items) seen file v [] (omega (arith, l, n)) ∙ ap (λ z. z.items) (sym v_is) ∙ sym marks_are in
+-- what is said of each file is said of one by what it sees and its rows
+pub linked_at : (t : Table) (seen : List (List Bool)) (rows : List (Vec ℕ)) (files : List FileOf) (reads : List ReadOf) → AreLinked t seen rows files reads → (file : ℕ) → file < length files → length seen ≡ length files → length rows ≡ length files
+    → (sees : List Bool) → sees ≡ get_or seen file sees → (r : Vec ℕ) → r ≡ get_or rows file r → (own : List ℕ) → own ≡ r.items → IsFileLinked t sees own files reads file
+linked_at t seen rows files reads linked file l n m sees sees_is r r_is own own_are =
+    let sees_at = sym (sees_is ∙ get_or_default seen file sees [] (omega (arith, l, n))) in
     let rows_at = get_or-map_within (λ z. z.items) rows file r [] (omega (arith, l, m)) ∙ ap (λ z. z.items) (sym r_is) ∙ sym own_are in
-    subst (λ z. IsFileLinked t marks z files reads file) rows_at
-    (subst (λ z. IsFileLinked t z (get_or (map (λ z. z.items) rows) file []) files reads file) marks_at (linked file l))
+    subst (λ z. IsFileLinked t sees z files reads file) rows_at
+    (subst (λ z. IsFileLinked t z (get_or (map (λ z. z.items) rows) file []) files reads file) sees_at (linked file l))
 
 -- ---- the references of all files
 

@@ -10,24 +10,24 @@ ghost use Rattle.proto_names_faults.specs.Imports.{MarksCycles};
 
 use indexmap::IndexMap;
 use proto_base::NoMemory;
+use proto_file_sets::FileSet;
 use proto_names_imports::first_places::place_of;
 use proto_names_imports::import::{FileImport, all_targets};
 use proto_names_imports::import_cycles::has_no_cycle;
 use proto_names_imports::walk::reached_files;
-use proto_names_rules::marks::is_marked;
 use std::alloc::Global;
 
-/// For each file, marks of the files that it leads to; no marks where no import leads back to its
-/// file. Takes time linear in the number of imports where this is so. Fails only when out of
+/// For each file, the files that it leads to; no list where no import leads back to its file.
+/// Takes time linear in the number of imports where this is so. Fails only when out of
 /// memory.
 pub(crate) fn leading_marks(
     alloc: Global,
     imports: &[Vec<FileImport>],
-) -> Result<Vec<Vec<bool>>, NoMemory>
+) -> Result<Vec<FileSet>, NoMemory>
     requires count { length imports.now ≤ 2 ^ 32 }
     requires within { All (λ v. All (λ i. i.to < length imports.now) v.items) imports.now }
     ensures { IfOk result (λ marks. MarksCycles
-        (all_imports 0 (map (λ v. v.items) imports.now)) (map (λ v. v.items) marks.items)) }
+        (all_imports 0 (map (λ v. v.items) imports.now)) marks.items) }
 {
     if has_no_cycle(alloc, imports)? {
         return Ok(Vec::new(alloc));
@@ -36,12 +36,12 @@ pub(crate) fn leading_marks(
     all_reached(alloc, &next)
 }
 
-/// For each file, marks of the files that are reached from it by steps along the lists.
-fn all_reached(alloc: Global, next: &[Vec<u32>]) -> Result<Vec<Vec<bool>>, NoMemory>
+/// For each file, the files that are reached from it by steps along the lists.
+fn all_reached(alloc: Global, next: &[Vec<u32>]) -> Result<Vec<FileSet>, NoMemory>
     requires count { length next.now ≤ 2 ^ 32 }
     requires within { All (λ v. All (λ g. g < length next.now) v.items) next.now }
     ensures { IfOk result (λ marks. (from to : ℕ) → from < length next.now
-        → IsMarked (get_or (map (λ v. v.items) marks.items) from []) to
+        → IsMarked (get_or marks.items from []) to
         ↔ Walks (map (λ v. v.items) next.now) from to) }
 {
     let mut marks = Vec::new(alloc);
@@ -54,12 +54,12 @@ fn all_reached(alloc: Global, next: &[Vec<u32>]) -> Result<Vec<Vec<bool>>, NoMem
 /// Whether the file with a path leads to this one.
 pub(crate) fn leads_to(
     index: &IndexMap<String, u32>,
-    marks: &[Vec<bool>],
+    marks: &[FileSet],
     path: &str,
     file: u32,
 ) -> bool
     ensures { result ≡ option_map_or
-        (λ to. get_or (get_or (map (λ v. v.items) marks.now) to []) file false)
+        (λ to. get_or (get_or marks.now to []) file false)
         (get_by_text index.now path.now) false }
 {
     match place_of(index, path) {
@@ -68,12 +68,12 @@ pub(crate) fn leads_to(
     }
 }
 
-/// Whether a file is marked in the marks of another.
-fn is_marked_at(marks: &[Vec<bool>], from: u32, file: u32) -> bool
-    ensures { result ≡ get_or (get_or (map (λ v. v.items) marks.now) from []) file false }
+/// Whether a file is one of those that another leads to.
+fn is_marked_at(marks: &[FileSet], from: u32, file: u32) -> bool
+    ensures { result ≡ get_or (get_or marks.now from []) file false }
 {
     match marks.get(from as usize) {
-        Some(own) => is_marked(own, file),
+        Some(own) => own.contains(file),
         None => false,
     }
 }

@@ -19,6 +19,7 @@ use crate::sight::{file_index, resolved_imports};
 use crate::taken::take_name;
 use indexmap::IndexMap;
 use proto_base::{Fault, FaultKind, NoMemory};
+use proto_file_sets::FileSet;
 use proto_files::{Files, are_read};
 use proto_names::all_written;
 use proto_names_imports::first_places::place_of;
@@ -84,18 +85,18 @@ fn flaws_by_written(
     flaws_by_graph(alloc, &graph, files)
 }
 
-/// For each file, marks of the files that it leads to, as far as an import leads back to its file.
+/// For each file, the files that it leads to, as far as an import leads back to its file.
 fn cycle_marks(
     alloc: Global,
     index: &IndexMap<String, u32>,
     files: &[Vec<WrittenImport>],
-) -> Result<Vec<Vec<bool>>, NoMemory>
+) -> Result<Vec<FileSet>, NoMemory>
     requires count { length files.now ≤ 2 ^ 32 }
     requires index { (paths : List (List ℕ))
         × IsFileIndex index.now paths × (length paths ≡ length files.now) }
     ensures { IfOk result (λ marks. (paths : List (List ℕ)) → IsFileIndex index.now paths
         → MarksCycles (imports_of paths (all_asked 0 (map (λ v. v.items) files.now)))
-        (map (λ v. v.items) marks.items)) }
+        marks.items) }
 {
     let imports = resolved_imports(alloc, index, files)?;
     leading_marks(alloc, &imports)
@@ -106,8 +107,8 @@ fn cycle_marks(
 struct Graph<'a> {
     /// The places of the paths of the files.
     index: &'a IndexMap<String, u32>,
-    /// For each file, marks of the files that it leads to.
-    marks: &'a [Vec<bool>],
+    /// For each file, the files that it leads to.
+    marks: &'a [FileSet],
 }
 
 /// The flaws of all imports by these.
@@ -119,7 +120,7 @@ fn flaws_by_graph(
     requires { length files.now ≤ 2 ^ 32 }
     ensures { IfOk result (λ ws. (paths : List (List ℕ)) → IsFileIndex graph.now.index.now paths
         → MarksCycles (imports_of paths (all_asked 0 (map (λ v. v.items) files.now)))
-        (map (λ v. v.items) graph.now.marks.now) → AreFlawsOf
+        graph.now.marks.now → AreFlawsOf
         (ImportFault paths (all_asked 0 (map (λ v. v.items) files.now))) ws.items) }
 {
     let mut found = Vec::new(alloc);
@@ -138,7 +139,7 @@ fn add_file_flaws(
     found: &mut Vec<Flaw>,
 ) -> Result<(), NoMemory>
     ensures { OnOk result ((paths : List (List ℕ)) → IsFileIndex graph.now.index.now paths
-        → AreAdded (IsImportIn paths (map (λ v. v.items) graph.now.marks.now) file written.now)
+        → AreAdded (IsImportIn paths graph.now.marks.now file written.now)
         found.old.items found.new.items) }
 {
     let mut named = HashSet::new(alloc);
@@ -159,7 +160,7 @@ fn add_import_flaws(
     found: &mut Vec<Flaw>,
 ) -> Result<(), NoMemory>
     ensures { OnOk result ((paths : List (List ℕ)) → IsFileIndex graph.now.index.now paths
-        → AreAdded (IsFlawOf paths (map (λ v. v.items) graph.now.marks.now) file import.now is_double)
+        → AreAdded (IsFlawOf paths graph.now.marks.now file import.now is_double)
         found.old.items found.new.items) }
 {
     let path = import.path.as_str();

@@ -28,6 +28,7 @@ use crate::names::{Names, names_of_files};
 use crate::resolving::{View, kind_fault, resolved_kind, token_of};
 use crate::sight::all_sight;
 use proto_base::{Fault, NoMemory};
+use proto_file_sets::FileSet;
 use proto_files::{Files, Words, are_read};
 use proto_names_outline::listing::{Listing, Use};
 use std::alloc::Global;
@@ -89,7 +90,7 @@ fn flaws_by_names(
 fn flaws_of_uses(
     alloc: Global,
     files: &Files,
-    seen: &[Vec<bool>],
+    seen: &[FileSet],
     names: &Names,
     listings: &[Listing],
 ) -> Result<Vec<Flaw>, NoMemory>
@@ -109,14 +110,13 @@ fn flaws_of_uses(
             seen: &seen[file],
             rows: &names.rows[file],
         };
-        add_file_flaws(alloc, files, &view, &listings[file], &mut found)?;
+        add_file_flaws(files, &view, &listings[file], &mut found)?;
     }
     Ok(found)
 }
 
 /// Adds the flaws of the references of one file.
 fn add_file_flaws(
-    alloc: Global,
     files: &Files,
     view: &View,
     listing: &Listing,
@@ -134,12 +134,11 @@ fn add_file_flaws(
         → AreAdded (IsFaultIn files.now reads view.now.file) found.old.items found.new.items) }
 {
     let words = Words::new(files, view.file);
-    add_use_flaws(alloc, view, &words, &listing.used, found)
+    add_use_flaws(view, &words, &listing.used, found)
 }
 
 /// Adds the flaws of these references of a file.
 fn add_use_flaws(
-    alloc: Global,
     view: &View,
     words: &Words,
     uses: &[Use],
@@ -156,7 +155,7 @@ fn add_use_flaws(
         view.now.file uses.now) found.old.items found.new.items) }
 {
     for used in uses {
-        let kind = resolved_kind(alloc, view, words, used)?;
+        let kind = resolved_kind(view, words, used);
         let token = token_of(used.reference);
         let fault = kind_fault(kind, used.wants_message);
         add_flaw(found, view.file, token, fault)?;

@@ -1,24 +1,24 @@
 //! What one reference resolves to, and what is wrong with it.
 
-ghost use Rattle.std.specs.Prelude.{◌≡◌, ◌<◌, ◌≤◌, ℕ, List, [], get_or, length, map, option_and_then, option_map, is_some, IfOk};
+ghost use Rattle.std.specs.Prelude.{◌≡◌, ◌<◌, ◌≤◌, ℕ, List, length, map, option_and_then};
 ghost use Rattle.std.specs.List.{All};
 ghost use Rattle.proto_text.specs.Texts.{word_at};
 ghost use Rattle.proto_tree.specs.References.{dotted, first_of};
 ghost use Rattle.proto_names_outline.specs.Listing.{needs};
-ghost use Rattle.proto_names_rules.specs.Joined.{ArePlain, joined};
-ghost use Rattle.proto_names_rules.specs.Names.{Reference as NameReference, Workspace, meaning};
-ghost use Rattle.proto_names_table.specs.Resolved.{IsAsked};
-ghost use Rattle.proto_names_table.specs.Tables.{IsTable, names_of};
+ghost use Rattle.proto_names_rules.specs.Joined.{ArePlain};
+ghost use Rattle.proto_names_rules.specs.Names.{Workspace};
+ghost use Rattle.proto_names_table.specs.Tables.{IsTable};
 ghost use Rattle.proto_names.specs.Referring.{IsReadBy, reference_by};
 ghost use Rattle.proto_names_faults.specs.Resolving.{IsKindOf, kind_fault, kind_in, type_fault};
 
-use proto_base::{FaultKind, NoMemory};
+use proto_base::FaultKind;
+use proto_file_sets::FileSet;
 use proto_files::Words;
+use proto_names::resolved_row;
 use proto_names_outline::listing::{Above, Use};
 use proto_names_rules::Kind;
 use proto_names_table::table::Table;
-use proto_tree::{Dotted, Reference};
-use std::alloc::Global;
+use proto_tree::Reference;
 
 /// By what the references of a file are resolved.
 #[derive(Clone, Copy)]
@@ -27,76 +27,29 @@ pub(crate) struct View<'a> {
     pub(crate) file: u32,
     /// The names of all files.
     pub(crate) table: &'a Table,
-    /// The marks of the files that this one sees.
-    pub(crate) seen: &'a [bool],
+    /// The files that this one sees.
+    pub(crate) seen: &'a FileSet,
     /// The rows of what it declares, its package first.
     pub(crate) rows: &'a [usize],
 }
 
-/// The kind of what a reference resolves to; none where it resolves to nothing. Fails only when out
-/// of memory.
-pub(crate) fn resolved_kind(
-    alloc: Global,
-    view: &View,
-    words: &Words,
-    used: &Use,
-) -> Result<Option<Kind>, NoMemory>
+/// The kind of what a reference resolves to; none where it resolves to nothing. Takes no memory.
+pub(crate) fn resolved_kind(view: &View, words: &Words, used: &Use) -> Option<Kind>
     requires table { IsTable view.now.table.now }
     requires rows { All (λ r. r < length view.now.table.now.rows.items) view.now.rows.now }
     requires scope { needs used.now.scope ≤ length view.now.rows.now }
     requires plain { ArePlain
         (map (word_at words.now) (dotted used.now.reference.now.words)) }
-    ensures { IfOk result (λ o. (w : Workspace) (names : List (List (List ℕ)))
+    ensures { (w : Workspace) (names : List (List (List ℕ)))
         → IsReadBy view.now.table.now view.now.seen.now view.now.rows.now names view.now.file w
-        → IsKindOf w (reference_by view.now.file names (word_at words.now) used.now) o) }
+        → IsKindOf w (reference_by view.now.file names (word_at words.now) used.now) result }
 {
     let scope = match used.scope {
         Above::Outermost => 0,
         Above::Below(k) => view.rows[k] + 1,
     };
-    let row = resolved_row(alloc, view, words, scope, used.reference)?;
-    Ok(kind_at_row(view.table, row))
-}
-
-/// The row of the name that a reference resolves to, in a scope by its number.
-fn resolved_row(
-    alloc: Global,
-    view: &View,
-    words: &Words,
-    scope: usize,
-    reference: &Reference,
-) -> Result<Option<usize>, NoMemory>
-    requires table { IsTable view.now.table.now }
-    requires within { scope ≤ length view.now.table.now.rows.items }
-    requires plain { ArePlain (map (word_at words.now) (dotted reference.now.words)) }
-    ensures { IfOk result (λ o. (w : Workspace) (r : NameReference)
-        → IsAsked view.now.table.now view.now.seen.now scope w r → r.words ≡ map
-        (word_at words.now) (dotted reference.now.words) → r.is_absolute ≡ is_some reference.now.dot
-        → option_map (λ k. get_or (names_of view.now.table.now) k []) o
-        ≡ option_map joined (meaning w r)) }
-{
-    let first = words.get(reference.words.first);
-    let rest = words_behind(alloc, words, &reference.words)?;
-    Ok(match reference.dot {
-        Some(_) => view.table.absolute(first, &rest, view.seen),
-        None => view.table.relative(scope, first, &rest, view.seen),
-    })
-}
-
-/// The texts of the words behind the first.
-fn words_behind<'a>(
-    alloc: Global,
-    words: &Words<'a>,
-    tokens: &Dotted,
-) -> Result<Vec<&'a str>, NoMemory>
-    ensures { IfOk result (λ texts. map (λ t. t.now) texts.items
-        ≡ map (λ b. word_at words.now b.item) tokens.now.rest) }
-{
-    let mut texts = Vec::new(alloc);
-    for behind in tokens.rest.as_slice() {
-        texts.push(words.get(behind.item))?;
-    }
-    Ok(texts)
+    let row = resolved_row(view.table, view.seen, words, scope, used.reference);
+    kind_at_row(view.table, row)
 }
 
 /// The kind of the name with this row.

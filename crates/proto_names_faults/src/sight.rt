@@ -12,6 +12,7 @@ ghost use Rattle.proto_names_rules.specs.Marks.{MarksSeen};
 
 use indexmap::IndexMap;
 use proto_base::NoMemory;
+use proto_file_sets::FileSet;
 use proto_files::{Files, all_paths};
 use proto_names::all_written;
 use proto_names_imports::first_places::{first_places, place_of};
@@ -19,13 +20,13 @@ use proto_names_imports::import::{FileImport, WrittenImport};
 use proto_names_imports::sight::all_seen;
 use std::alloc::Global;
 
-/// For each file, marks of the files that it sees: itself, those that it imports, and what is
+/// For each file, the files that it sees: itself, those that it imports, and what is
 /// reached from these by public imports. Fails only when out of memory.
-pub(crate) fn all_sight(alloc: Global, files: &Files) -> Result<Vec<Vec<bool>>, NoMemory>
+pub(crate) fn all_sight(alloc: Global, files: &Files) -> Result<Vec<FileSet>, NoMemory>
     ensures len { IfOk result (λ seen. length seen.items ≡ length files.now) }
     ensures marks { IfOk result (λ seen. (reads : List ReadOf) → AreRead files.now reads
         → (k : ℕ) → k < length files.now → MarksSeen (names_of_files files.now reads) k
-        (get_or (map (λ v. v.items) seen.items) k [])) }
+        (get_or seen.items k [])) }
 {
     // Its contract says that there are at most 4,096.
     let _count = files.len();

@@ -14,7 +14,7 @@ use crate::import::{BadImport, FileImport, ImportFlaw, WrittenImport, all_target
 use crate::walk::reached_files;
 use indexmap::IndexMap;
 use proto_base::NoMemory;
-use proto_names_rules::marks::is_marked;
+use proto_file_sets::FileSet;
 use std::alloc::Global;
 
 /// The first import on a cycle, where the imports of the files name these files.
@@ -72,19 +72,19 @@ fn none_leads_back(
         (map (λ v. v.items) next.now) (map (λ v. v.items) importers.now)) }
 {
     for file in 0..next.len() {
-        let marked = reached_files(alloc, importers, file as u32)?;
-        if has_marked(&next[file], &marked) {
+        let leading = reached_files(alloc, importers, file as u32)?;
+        if has_one_in(&next[file], &leading) {
             return Ok(false);
         }
     }
     Ok(true)
 }
 
-/// Whether one of these files is marked.
-fn has_marked(files: &[u32], marked: &[bool]) -> bool
-    ensures { result ≡ list_any (λ g. get_or marked.now g false) files.now }
+/// Whether one of these files is in the set.
+fn has_one_in(files: &[u32], set: &FileSet) -> bool
+    ensures { result ≡ list_any (λ g. get_or set.now g false) files.now }
 {
-    files.iter().any(|file| is_marked(marked, *file))
+    files.iter().any(|file| set.contains(*file))
 }
 
 /// For each file, the files whose lists have it.
@@ -253,27 +253,27 @@ fn first_back(
         (CycleFault paths (all_asked 0 (map (λ v. v.items) files.now))) (option_map fault_of o)) }
 {
     for file in 0..files.len() {
-        let marked = reached_files(alloc, importers, file as u32)?;
-        if let Some(bad) = first_to_marked(index, file as u32, &files[file], &marked) {
+        let leading = reached_files(alloc, importers, file as u32)?;
+        if let Some(bad) = first_to_one_in(index, file as u32, &files[file], &leading) {
             return Ok(Some(bad));
         }
     }
     Ok(None)
 }
 
-/// The first import of a file that names a marked file.
-fn first_to_marked(
+/// The first import of a file that names a file of the set.
+fn first_to_one_in(
     index: &IndexMap<String, u32>,
     file: u32,
     written: &[WrittenImport],
-    marked: &[bool],
+    set: &FileSet,
 ) -> Option<BadImport>
     requires { TokensAreRising written.now }
     ensures { (paths : List (List ℕ)) → IsFileIndex index.now paths
-        → IsFirst (MarkedFault paths marked.now file written.now) (option_map fault_of result) }
+        → IsFirst (MarkedFault paths set.now file written.now) (option_map fault_of result) }
 {
     for import in written {
-        if names_marked(index, import.path.as_str(), marked) {
+        if names_one_in(index, import.path.as_str(), set) {
             return Some(BadImport {
                 file,
                 token: import.token,
@@ -284,13 +284,13 @@ fn first_to_marked(
     None
 }
 
-/// Whether the file with a path is marked.
-fn names_marked(index: &IndexMap<String, u32>, path: &str, marked: &[bool]) -> bool
-    ensures { result ≡ option_map_or (λ to. get_or marked.now to false)
+/// Whether the file with a path is in the set.
+fn names_one_in(index: &IndexMap<String, u32>, path: &str, set: &FileSet) -> bool
+    ensures { result ≡ option_map_or (λ to. get_or set.now to false)
         (get_by_text index.now path.now) false }
 {
     match place_of(index, path) {
-        Some(to) => is_marked(marked, to),
+        Some(to) => set.contains(to),
         None => false,
     }
 }

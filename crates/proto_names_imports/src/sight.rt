@@ -10,19 +10,20 @@ ghost use Rattle.proto_names_imports.specs.Walks.{IsMarked, Walks};
 use crate::import::{FileImport, targets};
 use crate::walk::reached_files;
 use proto_base::NoMemory;
+use proto_file_sets::FileSet;
 use std::alloc::Global;
 use std::mem;
 
-/// For each file, marks of the files that it sees: itself, those that it imports, and what is
-/// reached from these by public imports. Fails only when out of memory.
-pub fn all_seen(alloc: Global, imports: &[Vec<FileImport>]) -> Result<Vec<Vec<bool>>, NoMemory>
+/// For each file, the files that it sees: itself, those that it imports, and what is reached from
+/// these by public imports. Fails only when out of memory.
+pub fn all_seen(alloc: Global, imports: &[Vec<FileImport>]) -> Result<Vec<FileSet>, NoMemory>
     requires count { length imports.now ≤ 2 ^ 32 }
     requires within { All (λ v. All (λ i. i.to < length imports.now) v.items) imports.now }
     ensures len { IfOk result (λ seen. length seen.items ≡ length imports.now) }
     ensures exact { IfOk result (λ seen. (w : Workspace)
         → w.files ≡ length imports.now → w.imports ≡ all_imports 0 (map (λ v. v.items) imports.now)
         → (file : ℕ) → file < length imports.now
-        → MarksSeen w file (get_or (map (λ v. v.items) seen.items) file [])) }
+        → MarksSeen w file (get_or seen.items file [])) }
 {
     let mut public = all_public(alloc, imports)?;
     let mut seen = Vec::new(alloc);
@@ -58,20 +59,20 @@ fn public_targets(alloc: Global, imports: &[FileImport]) -> Result<Vec<u32>, NoM
     Ok(files)
 }
 
-/// The marks of the files that one file sees: a walk along the public imports of the others, and
+/// The files that one file sees: a walk along the public imports of the others, and
 /// all of its own. The lists of public imports are as before.
 fn seen_from(
     alloc: Global,
     public: &mut Vec<Vec<u32>>,
     file: u32,
     own: &[FileImport],
-) -> Result<Vec<bool>, NoMemory>
+) -> Result<FileSet, NoMemory>
     requires file { file < length public.old.items }
     requires public { All (λ v. All (λ g. g < length public.old.items) v.items) public.old.items }
     requires own { All (λ i. i.to < length public.old.items) own.now }
     ensures kept { OnOk result (map (λ v. v.items) public.new.items
         ≡ map (λ v. v.items) public.old.items) }
-    ensures exact { IfOk result (λ seen. (g : ℕ) → IsMarked seen.items g ↔ Walks
+    ensures exact { IfOk result (λ seen. (g : ℕ) → IsMarked seen g ↔ Walks
         (slice_set (map (λ v. v.items) public.old.items) file (map (λ i. i.to) own.now)) file g) }
 {
     let steps = targets(alloc, own)?;

@@ -1,17 +1,16 @@
 //! The names of a workspace in a table, each below another one.
 
-ghost use Rattle.std.specs.Prelude.{◌≡◌, ◌≢◌, ℕ, List, if◌then◌else◌, slice_get, slice_set, ◌+◌, ◌<◌, ◌≤◌, length, get_or, map, ◌++◌, ◌∷◌, [], OnOk, OnErr, IfOk, IfSome, IfNone, option_map, slice_index_or, take, true, MatchOption, ◌==◌, false, None, Some, string_bytes};
+ghost use Rattle.std.specs.Prelude.{◌≡◌, ◌≢◌, ℕ, List, if◌then◌else◌, slice_set, ◌+◌, ◌<◌, ◌≤◌, length, get_or, map, ◌++◌, ◌∷◌, [], OnOk, OnErr, IfOk, IfSome, IfNone, slice_index_or, take, true, MatchOption, ◌==◌, false, None, Some, string_bytes};
 ghost use Rattle.std.specs.List.{list_any};
-ghost use Rattle.std.specs.Str.{IsUtf8, bytes_eq};
+ghost use Rattle.std.specs.Str.{IsUtf8};
 ghost use Rattle.proto_base.specs.Ascii as ascii;
 ghost use Rattle.proto_names_table.specs.Filling.{IsRowOf};
 ghost use Rattle.proto_names_table.specs.Indexes.{IsFrontOf, keys_in};
 ghost use Rattle.proto_names_rules.specs.Forest.{under, front};
 ghost use Rattle.proto_names_rules.specs.Joined.{joined, ArePlain, IsPlain};
-ghost use Rattle.proto_names_rules.specs.Names.{Reference, Symbol as NamedSymbol, Workspace, meaning};
+ghost use Rattle.proto_names_rules.specs.Names.{Symbol as NamedSymbol};
 ghost use Rattle.proto_names_rules.specs.declared.kind.Kind.TheVariants.{Package};
-ghost use Rattle.proto_names_table.specs.Resolved.{IsAsked, SymbolIsDeclared, IsIndexOf, IsTaken, IsTypeAt, IsWithout, under_all};
-ghost use Rattle.proto_names_rules.specs.Marks.{MarksSeen};
+ghost use Rattle.proto_names_table.specs.Resolved.{SymbolIsDeclared, IsIndexOf, IsTaken, IsWithout};
 ghost use Rattle.proto_names_table.specs.Search.{is_seen, passes, HitsAt, IsHit};
 ghost use Rattle.proto_names_table.specs.Undone.{TakesRow};
 ghost use Rattle.proto_names_table.specs.Tables.{AreAlike, IsTable, IsUnchanged, with_declaration, names_of, look, row_of};
@@ -19,8 +18,8 @@ ghost use Rattle.proto_names_table.specs.Tables.{AreAlike, IsTable, IsUnchanged,
 use crate::index::Index;
 use crate::name::Name;
 use proto_base::NoMemory;
+use proto_file_sets::FileSet;
 use proto_names_rules::Kind;
-use proto_names_rules::marks::is_marked;
 use std::alloc::Global;
 use std::sync::ArcStr;
 
@@ -54,7 +53,7 @@ pub struct Row {
 
 impl Row {
     /// Whether a reference's first word may stand for it where these files are seen.
-    fn passes(&self, is_last: bool, seen: &[bool]) -> bool
+    fn passes(&self, is_last: bool, seen: &FileSet) -> bool
         ensures { result ≡ passes seen.now is_last self.now }
     {
         let fits = if is_last {
@@ -66,10 +65,10 @@ impl Row {
     }
 
     /// Whether one of its files is seen.
-    pub fn is_seen(&self, seen: &[bool]) -> bool
+    pub fn is_seen(&self, seen: &FileSet) -> bool
         ensures { result ≡ is_seen seen.now self.now }
     {
-        self.is_declared && (is_marked(seen, self.symbol.file) || sees_any(seen, &self.more))
+        self.is_declared && (seen.contains(self.symbol.file) || sees_any(seen, &self.more))
     }
 
     /// Whether a file declares it.
@@ -109,11 +108,11 @@ fn copied_rows(alloc: Global, rows: &[Row]) -> Result<Vec<Row>, NoMemory>
 }
 
 /// Whether one of these files is seen.
-fn sees_any(seen: &[bool], files: &[u32]) -> bool
+fn sees_any(seen: &FileSet, files: &[u32]) -> bool
     ensures { result ≡ list_any (λ f. slice_index_or seen.now f false) files.now }
 {
     for file in files {
-        if is_marked(seen, *file) {
+        if seen.contains(*file) {
             return true;
         }
     }
@@ -171,8 +170,8 @@ impl Table {
 
     /// The index of the row for a reference's first word: outward from the scope, which is the
     /// number of a name, the first below which the word passes. Where `is_last` is set, no word
-    /// follows it; `seen` has a mark for each file that is seen.
-    pub fn search(&self, scope: usize, word: &str, is_last: bool, seen: &[bool]) -> Option<usize>
+    /// follows it; `seen` has the files that are seen.
+    pub fn search(&self, scope: usize, word: &str, is_last: bool, seen: &FileSet) -> Option<usize>
         requires table { IsTable self.now }
         requires within { scope ≤ length self.now.rows.items }
         requires plain { IsPlain word.now }
@@ -197,7 +196,7 @@ impl Table {
     }
 
     /// The row of the word right below this number, if it passes.
-    fn passing(&self, number: usize, word: &str, is_last: bool, seen: &[bool]) -> Option<usize>
+    fn passing(&self, number: usize, word: &str, is_last: bool, seen: &FileSet) -> Option<usize>
         requires table { IsTable self.now }
         requires within { number ≤ length self.now.rows.items }
         requires plain { IsPlain word.now }
@@ -214,73 +213,6 @@ impl Table {
         } else {
             None
         }
-    }
-
-    /// The index of the row of what a relative reference means: in a scope, by its number, and
-    /// where these files are seen; none where it means nothing.
-    pub fn relative(&self, scope: usize, first: &str, rest: &[&str], seen: &[bool]) -> Option<usize>
-        requires table { IsTable self.now }
-        requires within { scope ≤ length self.now.rows.items }
-        requires first { IsPlain first.now }
-        requires rest { ArePlain (map (λ w. w.now) rest.now) }
-        ensures { (w : Workspace) (r : Reference) → IsAsked self.now seen.now scope w r
-            → r.words ≡ first.now ∷ map (λ w. w.now) rest.now → r.is_absolute ≡ false
-            → option_map (λ k. get_or (names_of self.now) k []) result
-            ≡ option_map joined (meaning w r) }
-    {
-        let start = self.search(scope, first, rest.is_empty(), seen)?;
-        self.visible_type(start, rest, seen)
-    }
-
-    /// The index of the row of what an absolute reference means where these files are seen; none
-    /// where it means nothing.
-    pub fn absolute(&self, first: &str, rest: &[&str], seen: &[bool]) -> Option<usize>
-        requires table { IsTable self.now }
-        requires first { IsPlain first.now }
-        requires rest { ArePlain (map (λ w. w.now) rest.now) }
-        ensures { (w : Workspace) (r : Reference) → IsIndexOf self.now w.symbols
-            → MarksSeen w r.file seen.now → r.words ≡ first.now
-            ∷ map (λ w. w.now) rest.now → r.is_absolute ≡ true
-            → option_map (λ k. get_or (names_of self.now) k []) result
-            ≡ option_map joined (meaning w r) }
-    {
-        let start = self.find(0, first)?;
-        self.visible_type(start, rest, seen)
-    }
-
-    /// The row of words one below another, below a row, if it is a type that is seen.
-    fn visible_type(&self, start: usize, words: &[&str], seen: &[bool]) -> Option<usize>
-        requires table { IsTable self.now }
-        requires within { start < length self.now.rows.items }
-        requires plain { ArePlain (map (λ w. w.now) words.now) }
-        ensures { IsTypeAt self.now seen.now
-            (under_all (get_or (names_of self.now) start []) (map (λ w. w.now) words.now)) result }
-    {
-        let row = self.follow(start, words)?;
-        if self.rows[row].passes(true, seen) {
-            Some(row)
-        } else {
-            None
-        }
-    }
-
-    /// The row of words one below another, below a row.
-    fn follow(&self, start: usize, words: &[&str]) -> Option<usize>
-        requires table { IsTable self.now }
-        requires within { start < length self.now.rows.items }
-        requires plain { ArePlain (map (λ w. w.now) words.now) }
-        ensures some { IfSome result (λ k. (k < length self.now.rows.items) ×
-            (get_or (names_of self.now) k [] ≡ under_all
-            (get_or (names_of self.now) start []) (map (λ w. w.now) words.now))) }
-        ensures none { IfNone result ((k : ℕ) → k < length self.now.rows.items → get_or
-            (names_of self.now) k [] ≢ under_all (get_or (names_of self.now) start [])
-            (map (λ w. w.now) words.now)) }
-    {
-        let mut row = start;
-        for word in words {
-            row = self.find(row + 1, *word)?;
-        }
-        Some(row)
     }
 
     /// Declares a symbol by the number of the name above it; answers the index of its row, which is

@@ -1,5 +1,6 @@
 -- Files whose declarations are put into a table again, one after the other.
-use Rattle.std.proofs.Common.{◌≡◌, ℕ, ◌+◌, ◌<◌, ◌≤◌, List, [], ◌∷◌, ◌++◌, length, get_or, take, sym, ◌∙◌, ap, subst, arith, append-nil, append_assoc, flat_map, length-append, take_all, Contains, Option, Some, None, Result, Ok, Err, IfOk, IfSome}
+use Rattle.std.proofs.Common.{◌≡◌, ℕ, ◌+◌, ◌<◌, ◌≤◌, List, [], ◌∷◌, ◌++◌, length, get_or, take, sym, ◌∙◌, ap, subst, arith, append-nil, append_assoc, flat_map, length-append, take_all, Contains, Option, Result, Ok, Err, IfOk, IfSome}
+use Rattle.std.specs.Result.{result_ok}
 use Rattle.std.proofs.lemmas.List.{flat_map_more, take_more}
 use Rattle.proto_names_rules.proofs.Common.{get_front, get_last}
 use Rattle.proto_names_table.proofs.Common.{Named, named_in}
@@ -14,16 +15,10 @@ use Rattle.proto_names_update.specs.Renewal.{AreDeclaredAgain}
 use Rattle.proto_names_update.specs.RenewedNames.{AreBeside, AreFilesAgain, AreRowsAgain, IsFileAgain}
 use Rattle.proto_names_update.proofs.Places.{before_more}
 
--- what follows from what holds of a value, if there is one
-pub ok_some_weaker : {X E : Type 0} (r : Result (Option X) E) (P Q : X → Type 0) → ((x : X) → P x → Q x) → IfOk r (λ o. IfSome o P) → IfOk r (λ o. IfSome o Q)
-ok_some_weaker (Ok None) P Q f h = tt
-ok_some_weaker (Ok (Some x)) P Q f h = f x h
-ok_some_weaker (Err e) P Q f h = tt
-
--- what follows from two facts of a value, if there is one
-pub both_some : {X : Type 0} (o : Option X) (P Q R : X → Type 0) → ((x : X) → P x → Q x → R x) → IfSome o P → IfSome o Q → IfSome o R
-both_some None P Q R f p q = tt
-both_some (Some x) P Q R f p q = f x p q
+-- what follows from two facts of a value, where it is answered
+pub both_answered : {X E : Type 0} (o : Option X) (r : Result X E) → o ≡ result_ok r → (P Q R : X → Type 0) → ((x : X) → P x → Q x → R x) → IfSome o P → IfSome o Q → IfOk r R
+both_answered o (Ok x) e P Q R f p q = f x (subst (λ a. IfSome a P) e p) (subst (λ a. IfSome a Q) e q)
+both_answered o (Err error) e P Q R f p q = tt
 
 -- one list more of those that stand one behind the other
 pub flat_step : {X : Type 0} (f : ℕ → List X) (places : List ℕ) (k : ℕ) → k < length places → flat_map f (take (k + 1) places) ≡ flat_map f (take k places) ++ f (get_or places k 0)

@@ -1,13 +1,15 @@
 //! Whether edited files import what they imported, and what they import now.
 
-ghost use Rattle.std.specs.Prelude.{◌≡◌, ◌↔◌, ◌<◌, List, length, map, None, true, false, IfOk, IfSome, IsTrue};
+ghost use Rattle.std.specs.Prelude.{◌≡◌, ◌↔◌, ◌<◌, List, length, map, None, true, false, IfOk, IfErr, IfSome, IsTrue};
 ghost use Rattle.std.specs.List.{All};
 ghost use Rattle.proto_files.specs.FilesRead.{AreRead, ReadOf};
 ghost use Rattle.proto_files.specs.GivenFiles.{FileOf};
 ghost use Rattle.proto_names_imports.specs.Laws.{AreImportsOf, KeepImports};
 ghost use Rattle.proto_names_imports.specs.declared.import.FileImport.{FileImport as FileImportOf};
+ghost use Rattle.proto_names_update.specs.declared.not_updated.NotUpdated.TheVariants.{NeedsRebuild};
 ghost use Rattle.proto_names_update.specs.KeptImports.{AreImportsAt, HasOtherImports, HasUnsoundImports, WereImports};
 
+use crate::not_updated::NotUpdated;
 use proto_base::NoMemory;
 use proto_files::{Files, Words};
 use proto_names_imports::import::{FileImport, ImportError};
@@ -66,31 +68,29 @@ pub fn are_imports_kept(
 }
 
 /// The imports of the files at these places, one file's behind the other's, by the numbers of the
-/// files that they name. None where one names no file, or a file again. Fails only when out of
-/// memory.
+/// files that they name. A rebuild is needed where one names no file, or a file again.
 pub fn imports_at(
     alloc: Global,
     files: &Files,
     places: &[u32],
-) -> Result<Option<Vec<Vec<FileImport>>>, NoMemory>
+) -> Result<Vec<Vec<FileImport>>, NotUpdated>
     requires { All (λ place. place < length files.now) places.now }
-    ensures len { IfOk result (λ o. IfSome o (λ lists. length lists.items ≡ length places.now)) }
-    ensures within { IfOk result (λ o. IfSome o (λ lists. All
-        (λ v. All (λ i. i.to < length files.now) v.items) lists.items)) }
-    ensures imports { IfOk result (λ o. IfSome o (λ lists. (reads : List ReadOf)
-        → AreRead files.now reads
-        → AreImportsAt files.now reads places.now (map (λ v. v.items) lists.items))) }
-    ensures none { IfOk result (λ o. o ≡ None → (reads : List ReadOf) → AreRead files.now reads
-        → HasUnsoundImports files.now reads places.now) }
+    ensures len { IfOk result (λ lists. length lists.items ≡ length places.now) }
+    ensures within { IfOk result
+        (λ lists. All (λ v. All (λ i. i.to < length files.now) v.items) lists.items) }
+    ensures imports { IfOk result (λ lists. (reads : List ReadOf) → AreRead files.now reads
+        → AreImportsAt files.now reads places.now (map (λ v. v.items) lists.items)) }
+    ensures rebuild { IfErr result (λ e. e ≡ NeedsRebuild → (reads : List ReadOf)
+        → AreRead files.now reads → HasUnsoundImports files.now reads places.now) }
 {
     let mut lists = Vec::with_capacity(alloc, places.len())?;
     for place in places {
         match file_imports(alloc, files, *place)? {
             Some(own) => lists.push(own)?,
-            None => return Ok(None),
+            None => return Err(NotUpdated::NeedsRebuild),
         }
     }
-    Ok(Some(lists))
+    Ok(lists)
 }
 
 /// The imports of a file, by the numbers of the files that they name, in the order in which they

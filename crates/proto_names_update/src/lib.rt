@@ -6,5 +6,8 @@
 pub mod kept_imports;
 pub mod laws;
 pub mod name_log;
+mod not_updated;
 pub mod renewal;
 pub mod renewed_names;
+
+pub use not_updated::NotUpdated;

@@ -17,6 +17,7 @@ ghost use Rattle.proto_names_table.specs.Spelled.{AreSpelled};
 ghost use Rattle.proto_names_table.specs.Tables.{IsTable, files_of, look, names_of};
 
 use crate::name_log::{NameLog, Standing};
+use crate::not_updated::NotUpdated;
 use proto_base::NoMemory;
 use proto_base::laws::added_are_cut;
 use proto_names_outline::listing::Above;
@@ -63,34 +64,34 @@ fn forget(table: &mut Table, log: &mut NameLog, row: usize) -> Result<(), NoMemo
 }
 
 /// Declares what a file declares; answers the row of each declaration. The rows of its packages
-/// have to be there, with this file among theirs. None where one is not, and where another name is
-/// taken. Fails only when out of memory. Where it declares not all, some of it may be declared,
-/// and the log tells which.
+/// have to be there, with this file among theirs. A rebuild is needed where one is not, and where
+/// another name is taken. Where it declares not all, some of it may be declared, and the log tells
+/// which.
 pub fn declare_all_again(
     alloc: Global,
     table: &mut Table,
     log: &mut NameLog,
     file: u32,
     spelled: &[Spelled],
-) -> Result<Option<Vec<usize>>, NoMemory>
+) -> Result<Vec<usize>, NotUpdated>
     requires table { IsTable table.old }
     requires fits { Fits log.old table.old }
     requires spelled { AreSpelled spelled.now }
     ensures table { IsTable table.new }
     ensures fits { Fits log.new table.new }
     ensures undone { undone_table log.new table.new ≡ undone_table log.old table.old }
-    ensures declared { IfOk result (λ o. IfSome o
-        (λ rows. AreDeclaredAgain table.old table.new file spelled.now rows.items)) }
+    ensures declared { IfOk result
+        (λ rows. AreDeclaredAgain table.old table.new file spelled.now rows.items) }
 {
     let mut rows = Vec::with_capacity(alloc, spelled.len())?;
     for entry in spelled {
         let declared = declare_again(alloc, table, log, file, entry, &rows)?;
         match declared {
             Some(row) => rows.push(row)?,
-            None => return Ok(None),
+            None => return Err(NotUpdated::NeedsRebuild),
         }
     }
-    Ok(Some(rows))
+    Ok(rows)
 }
 
 /// Declares one entry, given the rows of those before it; answers its row.

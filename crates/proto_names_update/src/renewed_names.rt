@@ -13,6 +13,7 @@ ghost use Rattle.proto_names_table.specs.Tables.{IsTable};
 ghost use Rattle.proto_names_table.specs.declared.table.Row.{Row as RowOf};
 
 use crate::name_log::NameLog;
+use crate::not_updated::NotUpdated;
 use crate::renewal::{declare_all_again, forget_all};
 use proto_base::NoMemory;
 use proto_files::{Files, Words, are_read};
@@ -24,9 +25,9 @@ use std::alloc::Global;
 
 /// Puts the names of the files at these places into the table, in place of those that they had
 /// there, given the rows of each file's declarations; answers the rows of the files at these
-/// places. None where a file's packages are others than before, where a name is taken, and where a
-/// place stands twice. Fails only when out of memory. Where it answers no rows, some of the
-/// names may be changed, and the log tells which.
+/// places. A rebuild is needed where a file's packages are others than before, where a name is
+/// taken, and where a place stands twice. Where it answers no rows, some of the names may be
+/// changed, and the log tells which.
 pub fn renew_names(
     alloc: Global,
     table: &mut Table,
@@ -34,7 +35,7 @@ pub fn renew_names(
     files: &Files,
     places: &[u32],
     rows: &[Vec<usize>],
-) -> Result<Option<Vec<Vec<usize>>>, NoMemory>
+) -> Result<Vec<Vec<usize>>, NotUpdated>
     requires table { IsTable table.old }
     requires fits { Fits log.old table.old }
     requires places { All (λ place. place < length files.now) places.now }
@@ -44,8 +45,8 @@ pub fn renew_names(
     ensures table { IsTable table.new }
     ensures fits { Fits log.new table.new }
     ensures undone { undone_table log.new table.new ≡ undone_table log.old table.old }
-    ensures renewed { IfOk result (λ o. IfSome o (λ renewed. AreRenewed places.now files.now
-        table.old table.new (map (λ v. v.items) rows.now) (map (λ v. v.items) renewed.items))) }
+    ensures renewed { IfOk result (λ renewed. AreRenewed places.now files.now
+        table.old table.new (map (λ v. v.items) rows.now) (map (λ v. v.items) renewed.items)) }
 {
     are_read(files);
     forget_places(table, log, places, rows)?;
@@ -77,8 +78,8 @@ fn forget_places(
 }
 
 /// Declares what the files at these places declare, given the rows of each file's declarations
-/// before; answers theirs. None where one of the files has a package less or more, and where a name
-/// is taken. Fails only when out of memory. Where it answers no rows, some may be declared.
+/// before; answers theirs. A rebuild is needed where one of the files has a package less or more,
+/// and where a name is taken. Where it answers no rows, some may be declared.
 fn declare_places(
     alloc: Global,
     table: &mut Table,
@@ -86,7 +87,7 @@ fn declare_places(
     files: &Files,
     places: &[u32],
     rows: &[Vec<usize>],
-) -> Result<Option<Vec<Vec<usize>>>, NoMemory>
+) -> Result<Vec<Vec<usize>>, NotUpdated>
     requires table { IsTable table.old }
     requires fits { Fits log.old table.old }
     requires places { All (λ place. place < length files.now) places.now }
@@ -95,27 +96,23 @@ fn declare_places(
     ensures table { IsTable table.new }
     ensures fits { Fits log.new table.new }
     ensures undone { undone_table log.new table.new ≡ undone_table log.old table.old }
-    ensures declared { IfOk result (λ o. IfSome o (λ renewed. (reads : List ReadOf)
-        → AreRead files.now reads
+    ensures declared { IfOk result (λ renewed. (reads : List ReadOf) → AreRead files.now reads
         → AreFilesAgain table.old table.new (declared_by files.now reads) places.now
-        (map (λ v. v.items) rows.now) (map (λ v. v.items) renewed.items))) }
+        (map (λ v. v.items) rows.now) (map (λ v. v.items) renewed.items)) }
 {
     are_read(files);
     let mut renewed = Vec::with_capacity(alloc, places.len())?;
     for place in places {
         let before = &rows[*place as usize];
-        let declared = declare_file(alloc, table, log, files, *place, before)?;
-        match declared {
-            Some(own) => renewed.push(own)?,
-            None => return Ok(None),
-        }
+        let own = declare_file(alloc, table, log, files, *place, before)?;
+        renewed.push(own)?;
     }
-    Ok(Some(renewed))
+    Ok(renewed)
 }
 
-/// Declares what a file declares, given the rows of its declarations before; answers the rows. None
-/// where it has a package less or more, and where a name is taken. Fails only when out of
-/// memory. Where it answers no rows, some may be declared.
+/// Declares what a file declares, given the rows of its declarations before; answers the rows. A
+/// rebuild is needed where it has a package less or more, and where a name is taken. Where it
+/// answers no rows, some may be declared.
 fn declare_file(
     alloc: Global,
     table: &mut Table,
@@ -123,7 +120,7 @@ fn declare_file(
     files: &Files,
     file: u32,
     before: &[usize],
-) -> Result<Option<Vec<usize>>, NoMemory>
+) -> Result<Vec<usize>, NotUpdated>
     requires table { IsTable table.old }
     requires fits { Fits log.old table.old }
     requires file { file < length files.now }
@@ -131,16 +128,13 @@ fn declare_file(
     ensures table { IsTable table.new }
     ensures fits { Fits log.new table.new }
     ensures undone { undone_table log.new table.new ≡ undone_table log.old table.old }
-    ensures declared { IfOk result (λ o. IfSome o (λ rows. (reads : List ReadOf)
-        → AreRead files.now reads
+    ensures declared { IfOk result (λ rows. (reads : List ReadOf) → AreRead files.now reads
         → IsFileAgain table.old table.new (declared_by files.now reads file)
-        before.now rows.items)) }
+        before.now rows.items) }
 {
     let spelled = spelled_file(alloc, files, file)?;
-    match declare_all_again(alloc, table, log, file, &spelled)? {
-        Some(rows) => Ok(if_packages_stay(table, before, rows)),
-        None => Ok(None),
-    }
+    let rows = declare_all_again(alloc, table, log, file, &spelled)?;
+    if_packages_stay(table, before, rows).ok_or(NotUpdated::NeedsRebuild)
 }
 
 /// What a file declares, with last words. Fails only when out of memory.

@@ -15,8 +15,8 @@ use crate::blocks::{BlockAt, blocks_of};
 use indexmap::IndexMap;
 use proto_ast::{EnumAt, ValueNames, is_proto3, number_of, values};
 use proto_base::NoMemory;
+use proto_file_sets::FileSet;
 use proto_files::{Files, Words};
-use proto_names_rules::marks::is_marked;
 use proto_tree::{Enum, EnumItem, File, Value};
 use std::alloc::Global;
 
@@ -164,48 +164,48 @@ pub fn enums_of_file<'a>(
     file_enums(alloc, &words, is_proto3(&words, tree), tree)
 }
 
-/// The enums of a file, if it is marked; else none.
-fn enums_if_marked<'a>(
+/// The enums of a file, if it is in the set; else none.
+fn enums_if_in<'a>(
     alloc: Global,
     files: &'a Files,
-    marks: &[bool],
+    set: &FileSet,
     file: u32,
 ) -> Result<IndexMap<u32, EnumRow<'a>>, NoMemory>
     requires { file < length files.now }
     ensures { IfOk result (λ rows. (reads : List ReadOf) → AreRead files.now reads → (token : ℕ)
-        → enum_row_at rows token ≡ marked_enum_at marks.now files.now reads (at file token)) }
+        → enum_row_at rows token ≡ marked_enum_at set.now files.now reads (at file token)) }
 {
-    if !is_marked(marks, file) {
+    if !set.contains(file) {
         return Ok(IndexMap::new(alloc));
     }
     enums_of_file(alloc, files, file)
 }
 
-/// The enums of the marked files: for each of these, in the order of their paths, what is read of
+/// The enums of the files of a set: for each of these, in the order of their paths, what is read of
 /// each of its enums, by the token of its name; nothing for another file. Fails only when out of
 /// memory.
 pub fn enum_table_of<'a>(
     alloc: Global,
     files: &'a Files,
-    marks: &[bool],
+    set: &FileSet,
 ) -> Result<Vec<IndexMap<u32, EnumRow<'a>>>, NoMemory>
-    ensures { IfOk result (λ table. IsEnumTableOf files.now marks.now table.items) }
+    ensures { IfOk result (λ table. IsEnumTableOf files.now set.now table.items) }
 {
     let mut table = Vec::with_capacity(alloc, files.len())?;
     for file in 0..files.len() as u32 {
-        table.push(enums_if_marked(alloc, files, marks, file)?)?;
+        table.push(enums_if_in(alloc, files, set, file)?)?;
     }
     Ok(table)
 }
 
-/// The enums of all files: as `enum_table_of`, with each file marked.
+/// The enums of all files: as `enum_table_of`, of the set of all.
 pub fn enum_table<'a>(
     alloc: Global,
     files: &'a Files,
 ) -> Result<Vec<IndexMap<u32, EnumRow<'a>>>, NoMemory>
     ensures { IfOk result (λ table. IsEnumTable files.now table.items) }
 {
-    let all = vec![in alloc; true; files.len()]?;
+    let all = FileSet::all(alloc, files.len())?;
     enum_table_of(alloc, files, &all)
 }
 

@@ -58,7 +58,7 @@ impl<F: Folders + Drop> Server<F> {
         self.session.status()
     }
 
-    /// Frees it: what is proved of that stays in the crates of its parts.
+    /// Frees it. A program that drops it in another way proves again how a workspace is dropped.
     pub fn release(self) {
         self.good.release();
     }

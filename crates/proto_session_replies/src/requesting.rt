@@ -25,6 +25,7 @@ use proto_messages::{
 };
 use proto_positions::{Encoding, Position, RangeEdit, offset_of};
 use proto_session_files::{View, bring, schema_of, sent_position, uri_at, version_at};
+use protoref_output::path_of;
 use std::alloc::Global;
 
 // The offset of a position in one of the files.
@@ -69,17 +70,6 @@ pub(crate) fn sent_range(range: Range) -> SentRange
     SentRange {
         start: sent_position(range.start),
         end: sent_position(range.end),
-    }
-}
-
-// The path of a file; empty where there is none with the number.
-fn path_of(files: &Files, file: u32) -> &str
-    ensures { result.now ≡ (file_at files.now file).path }
-{
-    if (file as usize) < files.len() {
-        files.path(file)
-    } else {
-        ""
     }
 }
 

@@ -126,7 +126,9 @@ fn take_all<R: AllocGlobal + Abort>(
             place = place.saturating_add(1);
         }
         if is_message(line) && end.is_ok() {
-            assert!(rt; place == replies.len() || !is_strict, "before {line}");
+            let are_all = place == replies.len();
+            assert!(rt; are_all || !is_strict, "before {line}");
+            is_wanted = are_all && is_wanted;
             place = 0;
             replies = Vec::new(rt.alloc());
             match take(rt, server, is_lost, line) {

@@ -18,7 +18,7 @@ mod writing;
 pub use answer::{Answer, write_answer};
 pub use edit_lines::{journal_line, refusal_line, write_changed};
 pub use found_lines::lines_of_findings;
-pub use locations::{Location, locations_of_references, place_of_fault};
+pub use locations::{Location, locations_of_references, path_of, place_of_fault};
 pub use log_lines::lines_of_records;
 pub use place::{Cursor, Place, place_at};
 pub use recovery_lines::{plain_refusal_line, write_migration, write_recovery};

@@ -90,8 +90,8 @@ fn spot_location<'a>(spot: Spot, files: &'a Files) -> Location<'a>
     Location { path, line, column }
 }
 
-// The path of a file; empty where there is none with the number.
-fn path_of(files: &Files, file: u32) -> &str
+/// The path of a file; empty where there is none with the number.
+pub fn path_of(files: &Files, file: u32) -> &str
     ensures { result.now ≡ (file_at files.now file).path }
 {
     if (file as usize) < files.len() {

@@ -5,6 +5,6 @@ use Rattle.proto_desc_affected.proofs.marks.files_of_enums.Given as goal
 
 abbrev pub invariant-loop-file : goal.invariant-loop-file
 invariant-loop-file l = record {
-  len : length l.wanted.items ≡ length l.files;
-  each : (file : ℕ) → file < l.file → IsMarked l.marks file → All (IsEnumMarked l.link l.wanted.items) (get_or l.link.meant file []);
+  len : length l.wanted ≡ length l.files;
+  each : (file : ℕ) → file < l.file → IsMarked l.marks file → All (IsEnumMarked l.link l.wanted) (get_or l.link.meant file []);
 }

@@ -5,6 +5,6 @@ use Rattle.proto_desc_affected.proofs.marks.mark_enums.Given as goal
 
 abbrev pub invariant-loop-one : goal.invariant-loop-one
 invariant-loop-one l = record {
-  stay : MarksStay l.initial.wanted.items l.wanted.items;
-  marked : All (IsEnumMarked l.link l.wanted.items) (take l.one-index l.meant);
+  stay : MarksStay l.initial.wanted l.wanted;
+  marked : All (IsEnumMarked l.link l.wanted) (take l.one-index l.meant);
 }

@@ -5,6 +5,6 @@ use Rattle.proto_desc_affected.proofs.marks.mark_users.Given as goal
 
 abbrev pub invariant-loop-place : goal.invariant-loop-place
 invariant-loop-place l = record {
-  stay : MarksStay l.initial.marks.items l.marks.items;
-  marked : AreUsersOfFilesMarked (take l.place-index l.places) l.link (file_summaries_of l.kept) l.marks.items;
+  stay : MarksStay l.initial.marks l.marks;
+  marked : AreUsersOfFilesMarked (take l.place-index l.places) l.link (file_summaries_of l.kept) l.marks;
 }

@@ -12,8 +12,8 @@ pub loop-place-preserved : goal.loop-place-preserved
 loop-place-preserved c =
     let l = c.args.link.now in
     let ks = file_summaries_of c.args.kept.now in
-    let was = c.loop-place.marks.items in
-    let now = c.mark_users_at.new.marks.items in
+    let was = c.loop-place.marks in
+    let now = c.mark_users_at.new.marks in
     let rows = get_or l.rows c.args.file [] in
     let stay = c.loop-place.invariant.stay in
     let on = c.mark_users_at.ensures.stay in
@@ -30,5 +30,5 @@ returns-clause-stay c = c.loop-place.invariant.stay
 pub returns-clause-marked : goal.returns-clause-marked
 returns-clause-marked c = λ k d n.
     (let rows = get_or c.args.link.now.rows c.args.file [] in
-    let P = AreUsersMarked c.args.link.now (file_summaries_of c.args.kept.now) c.loop-place.marks.items in
+    let P = AreUsersMarked c.args.link.now (file_summaries_of c.args.kept.now) c.loop-place.marks in
     subst (λ o. IfSome o P) (slice_get-get_or rows k d n) (c.loop-place.invariant.marked k (omega (arith, n, c.loop-place-test.false, c.len-place-end.ensures, ap length c.declared_in-names.ensures.exact))))

@@ -5,6 +5,6 @@ use Rattle.proto_desc_affected.proofs.marks.mark_users_of_file.Given as goal
 
 abbrev pub invariant-loop-place : goal.invariant-loop-place
 invariant-loop-place l = record {
-  stay : MarksStay l.initial.marks.items l.marks.items;
-  marked : (k : ℕ) → k < l.place → IfSome (slice_get (get_or l.link.rows l.file []) k) (AreUsersMarked l.link (file_summaries_of l.kept) l.marks.items);
+  stay : MarksStay l.initial.marks l.marks;
+  marked : (k : ℕ) → k < l.place → IfSome (slice_get (get_or l.link.rows l.file []) k) (AreUsersMarked l.link (file_summaries_of l.kept) l.marks);
 }

@@ -9,21 +9,21 @@ abbrev none : RefId
 none = record { file = 0; token = 0 }
 
 pub loop-user-init : goal.loop-user-init
-loop-user-init c = record { stay = record { count = refl; set = λ file h. h }; marked = All-nil (IsUserMarked c.args.link.now (file_summaries_of c.args.kept.now) c.args.marks.now.items c.args.name.row) }
+loop-user-init c = record { stay = record { count = refl; set = λ file h. h }; marked = All-nil (IsUserMarked c.args.link.now (file_summaries_of c.args.kept.now) c.args.marks.now c.args.name.row) }
 
 pub loop-user-preserved : goal.loop-user-preserved
 loop-user-preserved c =
     let l = c.args.link.now in
     let ks = file_summaries_of c.args.kept.now in
     let row = c.args.name.row in
-    let now = c.mark_user.new.marks.items in
+    let now = c.mark_user.new.marks in
     let stay = c.loop-user.invariant.stay in
     let on = c.mark_user.ensures.stay in
     let users = c.references-user-items.result.now in
     record {
       stay = record { count = on.count ∙ stay.count; set = λ file h. on.set file (stay.set file h) };
       marked = All-more (IsUserMarked l ks now row) users c.loop-user.user-index none c.loop-user-test.true
-          (users_stay l ks c.loop-user.marks.items now on row (take c.loop-user.user-index users) c.loop-user.invariant.marked) c.mark_user.ensures.marked;
+          (users_stay l ks c.loop-user.marks now on row (take c.loop-user.user-index users) c.loop-user.invariant.marked) c.mark_user.ensures.marked;
     }
 
 pub returns-clause-stay : goal.returns-clause-stay
@@ -31,5 +31,5 @@ returns-clause-stay c = c.loop-user.invariant.stay
 
 pub returns-clause-marked : goal.returns-clause-marked
 returns-clause-marked c =
-    let P = IsUserMarked c.args.link.now (file_summaries_of c.args.kept.now) c.loop-user.marks.items c.args.name.row in
+    let P = IsUserMarked c.args.link.now (file_summaries_of c.args.kept.now) c.loop-user.marks c.args.name.row in
     subst (All P) c.references-user-items.ensures.exact (subst (All P) (take_all c.loop-user.user-index c.references-user-items.result.now c.loop-user-test.false) c.loop-user.invariant.marked)

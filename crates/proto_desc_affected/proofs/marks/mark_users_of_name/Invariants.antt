@@ -5,6 +5,6 @@ use Rattle.proto_desc_affected.proofs.marks.mark_users_of_name.Given as goal
 
 abbrev pub invariant-loop-user : goal.invariant-loop-user
 invariant-loop-user l = record {
-  stay : MarksStay l.initial.marks.items l.marks.items;
-  marked : All (IsUserMarked l.link (file_summaries_of l.kept) l.marks.items l.name.row) (take l.user-index l.user-items);
+  stay : MarksStay l.initial.marks l.marks;
+  marked : All (IsUserMarked l.link (file_summaries_of l.kept) l.marks l.name.row) (take l.user-index l.user-items);
 }

@@ -1,7 +1,7 @@
 use Rattle.std.proofs.Common.{List, Bool, subst}
 use Rattle.std.proofs.lemmas.Result.{IfOk-weaker}
 use Rattle.proto_names_affected.specs.Marking.{MarksStay}
-use Rattle.proto_desc_affected.specs.Common.{AreUnsureKept, file_summaries_of}
+use Rattle.proto_desc_affected.specs.Common.{file_summaries_of}
 use Rattle.proto_desc_affected.proofs.ToldMarks.{told_others}
 use Rattle.proto_desc_affected.proofs.marks.told_files_to_check.Goals as goal
 
@@ -12,9 +12,9 @@ returns-clause-others c =
     let l = c.args.linked.now.link in
     let ks = file_summaries_of c.args.kept.now in
     let told = c.args.told.now in
-    let unsure = c.mark_users.new.marks.items in
+    let unsure = c.mark_users.new.marks in
     IfOk-weaker c.unsure_to_check.result _ _
-    (λ found asked. told_others c.marks_tell_kept.ensures c.links_have_what_is_kept.ensures.listed places files l c.link.ensures.linked.link ks told unsure found.items c.requires.told
-    (subst (λ (marks : List Bool). MarksStay marks unsure) c.in_ok-unsure.ensures.items c.mark_users.ensures.stay) (rw c.link.ensures.link at c.mark_users.ensures.marked)
-    (subst (λ (us : List Bool). AreUnsureKept places files l ks us found.items) c.deref.ensures.value asked))
+    (λ found asked. told_others c.marks_tell_kept.ensures c.links_have_what_is_kept.ensures.listed places files l c.link.ensures.linked.link ks told unsure found c.requires.told
+    (subst (λ (marks : List Bool). MarksStay marks unsure) c.in_ok-unsure.ensures c.mark_users.ensures.stay) (rw c.link.ensures.link at c.mark_users.ensures.marked)
+    asked)
     c.unsure_to_check.ensures.others

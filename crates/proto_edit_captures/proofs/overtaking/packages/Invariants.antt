@@ -5,4 +5,4 @@ use Rattle.proto_edit_captures.proofs.PackageSets.{SeenUpTo}
 use Rattle.proto_edit_captures.proofs.overtaking.packages.Given as goal
 
 abbrev pub invariant-loop-file : goal.invariant-loop-file
-invariant-loop-file l = (reads : List ReadOf) → AreRead l.files reads → (text : List ℕ) → (contains_text l.packages text ≡ true) ↔ SeenUpTo l.files reads l.marks l.file text
+invariant-loop-file l = (reads : List ReadOf) → AreRead l.files reads → (text : List ℕ) → (contains_text l.packages text ≡ true) ↔ SeenUpTo l.files reads l.set l.file text

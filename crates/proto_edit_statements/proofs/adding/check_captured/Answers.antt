@@ -1,6 +1,5 @@
 use Rattle.std.proofs.Common.{◌<◌, All, refl, sym, arith, subst}
 use Rattle.proto_names_imports.specs.declared.import.FileImport.{FileImport}
-use Rattle.proto_names_rules.specs.Marks.{MarksSeen}
 use Rattle.proto_edit_captures.specs.Overtaking.{IsFirstOvertaken}
 use Rattle.proto_edit_rules.specs.AddImport.{with_added}
 use Rattle.proto_edit_statements.proofs.Additions.{free_7, refused_7}
@@ -16,8 +15,8 @@ returns-in-None-clause-free c =
     let file = c.args.paths.from in
     let v = with_added files reads file c.args.paths.to in
     let within = place_within files c.args.paths.file.now file c.requires.file in
-    let sees = sees_added files reads are c.args.imports.now c.requires.imports file c.args.paths.to c.in_ok-seen.seen.items c.in_ok-seen.ensures in
-    let first = c.in_ok-first_overtaken.ensures reads are v (record { imports = refl; seen = subst (MarksSeen v file) (sym c.deref.ensures.value) sees }) in
+    let sees = sees_added files reads are c.args.imports.now c.requires.imports file c.args.paths.to c.in_ok-seen.seen c.in_ok-seen.ensures in
+    let first = c.in_ok-first_overtaken.ensures reads are v (record { imports = refl; seen = sees }) in
     free_7 files reads are c.args.paths.file.now c.args.paths.path.now file c.args.paths.to c.requires.file c.requires.to within (subst (IsFirstOvertaken files reads v file) c.in-None.is first)
 
 pub returns-clause-err : goal.returns-clause-err
@@ -28,8 +27,8 @@ returns-clause-err c =
     let file = c.args.paths.from in
     let v = with_added files reads file c.args.paths.to in
     let within = place_within files c.args.paths.file.now file c.requires.file in
-    let sees = sees_added files reads are c.args.imports.now c.requires.imports file c.args.paths.to c.in_ok-seen.seen.items c.in_ok-seen.ensures in
-    let first = c.in_ok-first_overtaken.ensures reads are v (record { imports = refl; seen = subst (MarksSeen v file) (sym c.deref.ensures.value) sees }) in
+    let sees = sees_added files reads are c.args.imports.now c.requires.imports file c.args.paths.to c.in_ok-seen.seen c.in_ok-seen.ensures in
+    let first = c.in_ok-first_overtaken.ensures reads are v (record { imports = refl; seen = sees }) in
     refused_7 files reads are c.args.paths.file.now c.args.paths.path.now file c.args.paths.to c.requires.file c.requires.to within c.in-Some.token (subst (IsFirstOvertaken files reads v file) c.in-Some.is first)
     c.in_ok-captured_refusal-in-Some.field-0 (rw c.files-files.ensures.files at c.in_ok-captured_refusal-in-Some.ensures)
 

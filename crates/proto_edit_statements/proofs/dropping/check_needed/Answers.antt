@@ -1,5 +1,4 @@
 use Rattle.std.proofs.Common.{length, List, Bool, sym, ◌∙◌, ap, subst}
-use Rattle.std.specs.Global.{Vec}
 use Rattle.proto_edit_rules.specs.DropImport.{with_dropped}
 use Rattle.proto_edit_statements.specs.Steps.{AreSeenIn}
 use Rattle.proto_edit_statements.proofs.Drops.{free_15, needed_inside, refused_15}
@@ -7,7 +6,7 @@ use Rattle.proto_edit_statements.proofs.dropping.check_needed.Goals as goal
 
 pub first_needed-requires : goal.first_needed-requires
 first_needed-requires c =
-    ap (λ (z : List (Vec Bool)). length z) c.deref.ensures.value ∙ (c.in_ok-seen.ensures c.files-files.ensures.clean.reads c.files-files.ensures.clean.read c.args.paths.path.now c.requires.to).0
+    ap (λ (z : List (List Bool)). length z) c.deref.ensures.value ∙ (c.in_ok-seen.ensures c.files-files.ensures.clean.reads c.files-files.ensures.clean.read c.args.paths.path.now c.requires.to).0
 
 pub returns-in-None-clause-free : goal.returns-in-None-clause-free
 returns-in-None-clause-free c =

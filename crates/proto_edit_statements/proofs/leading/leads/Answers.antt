@@ -1,5 +1,5 @@
-use Rattle.std.proofs.Common.{◌≡◌, ℕ, ◌<◌, List, [], false, get_or, length, map, sym, ◌∙◌, ap, arith, subst, Contains}
-use Rattle.proto_base.proofs.Common.{Vec, get_or_default, length-map}
+use Rattle.std.proofs.Common.{◌≡◌, ℕ, List, [], get_or, length, map, sym, ◌∙◌, ap, arith, subst, Contains}
+use Rattle.proto_base.proofs.Common.{Vec, length-map}
 use Rattle.proto_names_imports.proofs.Common.{all_imports, IsGraph, all_within, graph_of, targets_twice, within_map}
 use Rattle.proto_edit_statement_laws.proofs.LeadingWalks.{walks_lead}
 use Rattle.proto_edit_statements.proofs.leading.leads.Goals as goal
@@ -22,12 +22,7 @@ returns c =
     let lists = ap (λ (z : List (Vec ℕ)). map (λ v. v.items) z) c.deref.ensures.value ∙ c.in_ok-next.ensures ∙ targets_twice (λ v. v.items) items in
     let graph : IsGraph (map (λ v. v.items) next) (all_imports 0 is) = subst (λ (z : List (List ℕ)). IsGraph z (all_imports 0 is)) (sym lists) (graph_of is) in
     let walks = walks_lead (map (λ v. v.items) next) (all_imports 0 is) graph c.args.from c.args.to in
-    let marks = c.in_ok-marks.ensures.exact c.args.to in
-    let long : length next ≡ length items = sym (length-map next (λ v. v.items)) ∙ ap (λ (z : List (List ℕ)). length z) lists ∙ length-map is (map (λ i. i.to)) ∙ length-map items (λ v. v.items) in
-    let sized = c.in_ok-marks.ensures.len in
-    let to = c.requires.to in
-    let l : c.args.to < length c.in_ok-marks.marks.items = omega (arith, sized, long, to) in
-    let flag = c.index.ensures ∙ get_or_default c.in_ok-marks.marks.items c.args.to c.index.result.now false l in (
-      λ t. walks.0 (marks.0 (sym flag ∙ t)),
-      λ h. flag ∙ marks.1 (walks.1 h),
+    let reached = c.in_ok-reached.ensures.exact c.args.to in (
+      λ t. walks.0 (reached.0 (sym c.contains.ensures ∙ t)),
+      λ h. c.contains.ensures ∙ reached.1 (walks.1 h),
     )

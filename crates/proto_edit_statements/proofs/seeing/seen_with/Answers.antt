@@ -32,4 +32,4 @@ returns c =
     ap (map (λ v. v.items)) c.deref-2.ensures.value ∙ map-set (λ v. v.items) c.in_ok-next.next.items c.args.file c.push.new.self
     ∙ ap₂ (λ (ps : List (List ℕ)) (xs : List ℕ). slice_set ps c.args.file xs) c.in_ok-next.ensures pushed in
     if_both c.reached_files.result c.reached_files.ensures.len c.reached_files.ensures.exact (λ seen len exact w files imports.
-    marks_more items c.requires.within c.args.file c.args.to c.requires.file c.requires.to (map (λ v. v.items) next) steps seen.items exact w files imports)
+    marks_more items c.requires.within c.args.file c.args.to c.requires.file c.requires.to (map (λ v. v.items) next) steps seen exact w files imports)

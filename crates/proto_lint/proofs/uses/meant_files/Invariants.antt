@@ -4,6 +4,6 @@ use Rattle.proto_lint.proofs.uses.meant_files.Given as goal
 
 abbrev pub invariant-loop-meant : goal.invariant-loop-meant
 invariant-loop-meant l = record {
-  len : length l.marks.items ≡ l.fn.count;
-  marks : MarksMeant l.link (take l.meant-index l.meant-items) l.fn.count l.marks.items;
+  len : length l.used ≡ l.fn.count;
+  meant : MarksMeant l.link (take l.meant-index l.meant-items) l.fn.count l.used;
 }

@@ -6,11 +6,13 @@ use Rattle.proto_lint.proofs.uses.used_files.Goals as goal
 
 pub returns : goal.returns
 returns c =
-    let files = c.args.files.now in
-    let marks = c.in_ok-marks.marks.items in
-    let sized : length marks ≡ length files = c.in_ok-marks.ensures.len ∙ c.len-count.ensures.len in
-    let marked = subst (λ (n : ℕ). MarksMeant c.args.link.now (get_or c.args.link.now.meant c.args.file []) n marks) c.len-count.ensures.len c.in_ok-marks.ensures.marks in
+    let files = c.args.linked.now.files in
+    let link = c.args.linked.now.link in
+    let used = c.in_ok-used.used in
+    let sized : length used ≡ length files = c.in_ok-used.ensures.len ∙ c.file_count-count.ensures.len in
+    let meant = rw c.link.ensures.link at c.in_ok-used.ensures.meant in
+    let marked = subst (λ (n : ℕ). MarksMeant link (get_or link.meant c.args.file []) n used) c.file_count-count.ensures.len meant in
     record {
       sized = sized;
-      used = λ (reads : List ReadOf) are to l. marks_used files reads c.args.link.now are (c.requires.link reads are) c.args.file c.requires.file marks sized marked to l;
+      used = λ (reads : List ReadOf) are to l. marks_used files reads link are (c.link.ensures.linked.link reads are) c.args.file c.requires used sized marked to l;
     }

@@ -26,7 +26,7 @@ returns-in_err-own-clause-fault c =
     rw (exit.1, exit.2) (λ reads are linked.
     least_error c.args.files.now reads are c.args.declarations.now.table c.requires.table (linked file l).index file l c.in_err-own.field-0.0
     (c.in_err-own.ensures.fault reads are
-    (linked_at c.args.declarations.now.table c.args.seen.now c.args.declarations.now.rows.items c.args.files.now reads linked file l c.requires.seen c.requires.paired c.index-seen-file.result c.index-seen-file.is c.index.result.now c.index.ensures c.deref.result.now c.deref.ensures.value c.deref-in-loop-file.result.now c.deref-in-loop-file.ensures.value))
+    (linked_at c.args.declarations.now.table c.args.seen.now c.args.declarations.now.rows.items c.args.files.now reads linked file l c.requires.seen c.requires.paired c.index-seen-file.result c.index-seen-file.is c.index.result.now c.index.ensures c.deref.result.now c.deref.ensures.value))
     (λ k m. (c.loop-file.invariant.meant reads are linked k m).faultless))
 
 pub loop-file-preserved : goal.loop-file-preserved
@@ -42,7 +42,7 @@ loop-file-preserved c =
           (pushed (AreFileMeant c.args.declarations.now.table c.args.files.now reads) (map (λ v. v.items) c.loop-file.meant.items) c.in_ok-own.own.items file (length-map c.loop-file.meant.items (λ v. v.items) ∙ c.loop-file.invariant.len)
           (c.loop-file.invariant.meant reads are linked)
           (c.in_ok-own.ensures.meant reads are
-          (linked_at c.args.declarations.now.table c.args.seen.now c.args.declarations.now.rows.items c.args.files.now reads linked file l c.requires.seen c.requires.paired c.index-seen-file.result c.index-seen-file.is c.index.result.now c.index.ensures c.deref.result.now c.deref.ensures.value c.deref-in-loop-file.result.now c.deref-in-loop-file.ensures.value))
+          (linked_at c.args.declarations.now.table c.args.seen.now c.args.declarations.now.rows.items c.args.files.now reads linked file l c.requires.seen c.requires.paired c.index-seen-file.result c.index-seen-file.is c.index.result.now c.index.ensures c.deref.result.now c.deref.ensures.value))
           k m));
     }
 

@@ -1,81 +1,17 @@
-use Rattle.std.proofs.Common.{◌∷◌, [], get_or, option_map, is_some, None, sym, ◌∙◌, ap, subst, arith}
-use Rattle.proto_base.proofs.Common.{length-map, MatchOption-from_none, map-map}
+use Rattle.std.proofs.Common.{map, option_map, sym, ◌∙◌, ap}
 use Rattle.proto_text.specs.Texts.{word_at}
-use Rattle.proto_names_rules.specs.Joined.{IsPlain, ArePlain}
-use Rattle.proto_names_table.proofs.Common.{IsTypeAt, under_all, names_of, absolute_is, absolute_none}
-use Rattle.proto_names.proofs.InScope.{empty_behind, type_within, words_by, scoped_is, scoped_none}
-use Rattle.proto_names.proofs.Referring.{same_words}
+use Rattle.proto_names_rules.specs.Joined.{joined}
+use Rattle.proto_names.proofs.InScope.{asked_in_front, in_front, meaning_in_front}
 use Rattle.proto_names.proofs.resolve.row_in_scope.Goals as goal
 
-pub returns-in_err-top-in-Some-clause-meant : goal.returns-in_err-top-in-Some-clause-meant
-returns-in_err-top-in-Some-clause-meant c = λ w r index marks plain scope words abs. (
-    let rest = map-map (word_at c.args.words.now) (λ b. b.item) c.args.reference.now.words.rest ∙ ap (words_by c.args.words.now) (sym c.as_slice-rest.ensures) in
-    let first = c.get-first.result.now in
-    let ws = words_by c.args.words.now c.as_slice-rest.result.now in
-    let pw : ArePlain (c.get-first.result.now ∷ words_by c.args.words.now c.as_slice-rest.result.now) = (subst IsPlain (sym c.get-first.ensures) c.requires.plain.0, subst ArePlain rest c.requires.plain.1) in
-    ap (option_map (λ k. get_or (names_of c.args.table.now) k [])) c.from_residual.ensures
-    ∙ absolute_is c.args.table.now c.requires.table c.args.seen.now w r index marks first ws pw (same_words words (sym c.get-first.ensures) rest) (abs ∙ ap is_some c.in-Some.is) None
-    (absolute_none c.args.table.now c.requires.table first ws pw (sym c.find.ensures ∙ c.in_err-top-in-Some.was) c.args.seen.now))
-
-pub visible_type-requires-clause-within : goal.visible_type-requires-clause-within
-visible_type-requires-clause-within c =
-    let n = length-map c.args.table.now.rows.items (λ r. r.name) in
-    let s = c.requires.table.forest.sound 0 c.get-first.result.now c.in_ok-top-in-Some.top (omega arith) (sym c.find.ensures ∙ c.in_ok-top-in-Some.was) in
-    omega (arith, s.0, n)
-
-pub visible_type-requires-clause-plain : goal.visible_type-requires-clause-plain
-visible_type-requires-clause-plain c =
-    let rest = map-map (word_at c.args.words.now) (λ b. b.item) c.args.reference.now.words.rest ∙ ap (words_by c.args.words.now) (sym c.as_slice-rest.ensures) in
-    subst ArePlain rest c.requires.plain.1
-
-pub returns-in_err-start-in-None-clause-meant : goal.returns-in_err-start-in-None-clause-meant
-returns-in_err-start-in-None-clause-meant c = λ w r index marks plain scope words abs. (
-    let rest = map-map (word_at c.args.words.now) (λ b. b.item) c.args.reference.now.words.rest ∙ ap (words_by c.args.words.now) (sym c.as_slice-rest.ensures) in
-    let first = c.get-first.result.now in
-    let ws = words_by c.args.words.now c.as_slice-rest.result.now in
-    let pw : ArePlain (c.get-first.result.now ∷ words_by c.args.words.now c.as_slice-rest.result.now) = (subst IsPlain (sym c.get-first.ensures) c.requires.plain.0, subst ArePlain rest c.requires.plain.1) in
-    ap (option_map (λ k. get_or (names_of c.args.table.now) k [])) c.from_residual-in_err-start-in-None.ensures
-    ∙ scoped_none c.args.table.now c.requires.table c.args.seen.now w r index marks first ws pw (same_words words (sym c.get-first.ensures) rest) plain c.scope_number-number.result (c.scope_number-number.ensures.front r.scope plain scope) (abs ∙ ap is_some c.in-None.is)
-    c.is_empty.result (c.is_empty.ensures ∙ empty_behind c.args.words.now c.as_slice-rest.result.now) c.in_err-start-in-None.ensures.none)
-
-pub visible_type-requires-in-None-clause-plain : goal.visible_type-requires-in-None-clause-plain
-visible_type-requires-in-None-clause-plain c =
-    let rest = map-map (word_at c.args.words.now) (λ b. b.item) c.args.reference.now.words.rest ∙ ap (words_by c.args.words.now) (sym c.as_slice-rest.ensures) in
-    subst ArePlain rest c.requires.plain.1
-
-pub returns-in_ok-top-in-Some-clause-meant : goal.returns-in_ok-top-in-Some-clause-meant
-returns-in_ok-top-in-Some-clause-meant c = λ w r index marks plain scope words abs. (
-    let rest = map-map (word_at c.args.words.now) (λ b. b.item) c.args.reference.now.words.rest ∙ ap (words_by c.args.words.now) (sym c.as_slice-rest.ensures) in
-    let first = c.get-first.result.now in
-    let ws = words_by c.args.words.now c.as_slice-rest.result.now in
-    let pw : ArePlain (c.get-first.result.now ∷ words_by c.args.words.now c.as_slice-rest.result.now) = (subst IsPlain (sym c.get-first.ensures) c.requires.plain.0, subst ArePlain rest c.requires.plain.1) in
-    let s = c.requires.table.forest.sound 0 c.get-first.result.now c.in_ok-top-in-Some.top (omega arith) (sym c.find.ensures ∙ c.in_ok-top-in-Some.was) in
-    absolute_is c.args.table.now c.requires.table c.args.seen.now w r index marks first ws pw (same_words words (sym c.get-first.ensures) rest) (abs ∙ ap is_some c.in-Some.is) c.visible_type.result
-    (subst (λ z. IsTypeAt c.args.table.now c.args.seen.now (under_all z ws) c.visible_type.result) s.1 c.visible_type.ensures))
-
-pub returns-in_ok-start-in-None-clause-meant : goal.returns-in_ok-start-in-None-clause-meant
-returns-in_ok-start-in-None-clause-meant c = λ w r index marks plain scope words abs. (
-    let rest = map-map (word_at c.args.words.now) (λ b. b.item) c.args.reference.now.words.rest ∙ ap (words_by c.args.words.now) (sym c.as_slice-rest.ensures) in
-    let first = c.get-first.result.now in
-    let ws = words_by c.args.words.now c.as_slice-rest.result.now in
-    let pw : ArePlain (c.get-first.result.now ∷ words_by c.args.words.now c.as_slice-rest.result.now) = (subst IsPlain (sym c.get-first.ensures) c.requires.plain.0, subst ArePlain rest c.requires.plain.1) in
-    scoped_is c.args.table.now c.requires.table c.args.seen.now w r index marks first ws pw (same_words words (sym c.get-first.ensures) rest) plain c.scope_number-number.result (c.scope_number-number.ensures.front r.scope plain scope) (abs ∙ ap is_some c.in-None.is)
-    c.is_empty.result (c.is_empty.ensures ∙ empty_behind c.args.words.now c.as_slice-rest.result.now) c.in_ok-start-in-None.start c.in_ok-start-in-None.ensures.hit c.visible_type-in-None.result c.visible_type-in-None.ensures)
-
-pub search-requires : goal.search-requires
-search-requires c = record { table = c.requires.table; within = c.scope_number-number.ensures.within; plain = subst IsPlain (sym c.get-first.ensures) c.requires.plain.0 }
-
-pub returns-in_err-top-in-Some-clause-within : goal.returns-in_err-top-in-Some-clause-within
-returns-in_err-top-in-Some-clause-within c = MatchOption-from_none c.from_residual.result _ c.from_residual.ensures
-
-pub returns-in_err-start-in-None-clause-within : goal.returns-in_err-start-in-None-clause-within
-returns-in_err-start-in-None-clause-within c = MatchOption-from_none c.from_residual-in_err-start-in-None.result _ c.from_residual-in_err-start-in-None.ensures
-
-pub visible_type-requires-in-None-clause-within : goal.visible_type-requires-in-None-clause-within
-visible_type-requires-in-None-clause-within c = c.in_ok-start-in-None.ensures.row
-
-pub returns-in_ok-top-in-Some-clause-within : goal.returns-in_ok-top-in-Some-clause-within
-returns-in_ok-top-in-Some-clause-within c = type_within c.args.table.now c.args.seen.now _ c.visible_type.result c.visible_type.ensures
-
-pub returns-in_ok-start-in-None-clause-within : goal.returns-in_ok-start-in-None-clause-within
-returns-in_ok-start-in-None-clause-within c = type_within c.args.table.now c.args.seen.now _ c.visible_type-in-None.result c.visible_type-in-None.ensures
+pub returns-clause-meant : goal.returns-clause-meant
+returns-clause-meant c = λ w r index marks plain scope words abs. (
+    let t = c.args.table.now in
+    let ls = c.args.words.now in
+    let own = c.args.reference.now.words in
+    let first = word_at ls own.first in
+    let rest = map (word_at ls) (map (λ b. b.item) own.rest) in
+    let number = c.scope_number-number.result in
+    let f = c.scope_number-number.ensures.front r.scope plain scope in
+    c.resolved_row.ensures.meant w (in_front r f.words) (asked_in_front t c.requires.table c.args.seen.now w r index marks first rest c.requires.plain words plain number f) words abs
+    ∙ ap (option_map joined) (sym (meaning_in_front t c.requires.table c.args.seen.now w r index marks first rest c.requires.plain words plain number f)))

@@ -1,21 +1,21 @@
-use Rattle.std.proofs.Common.{Bool, List, [], length, get_or, map, sym, ◌∙◌, ap, subst, arith}
+use Rattle.std.proofs.Common.{Bool, List, [], length, get_or, sym, ◌∙◌, ap, subst, arith}
 use Rattle.proto_base.proofs.Common.{Vec}
 use Rattle.proto_names_rules.specs.Marks.{MarksSeen}
 use Rattle.proto_names.specs.Sight.{StayBut}
 use Rattle.proto_names.proofs.updated_imports.update_seen.Goals as goal
 
-pub other_marks-requires-clause-paired : goal.other_marks-requires-clause-paired
-other_marks-requires-clause-paired c = ap length c.deref.ensures.value ∙ c.requires.paired ∙ sym c.in_ok-now.ensures.len ∙ sym (ap length c.deref-2.ensures.value)
+pub changed_sight-requires-clause-paired : goal.changed_sight-requires-clause-paired
+changed_sight-requires-clause-paired c = ap length c.deref.ensures.value ∙ c.requires.paired ∙ sym c.in_ok-now.ensures.len ∙ sym (ap length c.deref-2.ensures.value)
 
-pub other_marks-requires-clause-few : goal.other_marks-requires-clause-few
-other_marks-requires-clause-few c = omega (arith, c.requires.few, c.in_ok-now.ensures.len, ap length c.deref-2.ensures.value)
+pub changed_sight-requires-clause-few : goal.changed_sight-requires-clause-few
+changed_sight-requires-clause-few c = omega (arith, c.requires.few, c.in_ok-now.ensures.len, ap length c.deref-2.ensures.value)
 
 pub returns-clause-len : goal.returns-clause-len
-returns-clause-len c = ap (λ (v : Vec (Vec Bool)). length v.items) c.replace.ensures.after ∙ c.in_ok-now.ensures.len
+returns-clause-len c = ap (λ (v : Vec (List Bool)). length v.items) c.replace.ensures.after ∙ c.in_ok-now.ensures.len
 
 pub returns-clause-exact : goal.returns-clause-exact
 returns-clause-exact c = λ w files imports file l.
-    subst (λ (v : Vec (Vec Bool)). MarksSeen w file (get_or (map (λ x. x.items) v.items) file [])) (sym c.replace.ensures.after) (c.in_ok-now.ensures.exact w files imports file l)
+    subst (λ (v : Vec (List Bool)). MarksSeen w file (get_or v.items file [])) (sym c.replace.ensures.after) (c.in_ok-now.ensures.exact w files imports file l)
 
 pub returns-clause-others : goal.returns-clause-others
 returns-clause-others c = λ k d l. omega (arith, c.in_ok-others.ensures.within k d l, ap length c.deref-2.ensures.value, c.in_ok-now.ensures.len)
@@ -23,7 +23,7 @@ returns-clause-others c = λ k d l. omega (arith, c.in_ok-others.ensures.within 
 pub returns-clause-unchanged : goal.returns-clause-unchanged
 returns-clause-unchanged c =
     let others = c.in_ok-others.others.items in
-    let saw = map (λ (v : Vec Bool). v.items) c.args.seen.now.items in
-    subst (λ (v : Vec (Vec Bool)). StayBut others saw (map (λ x. x.items) v.items)) (sym c.replace.ensures.after)
-    (subst (λ (sees : List (Vec Bool)). StayBut others saw (map (λ v. v.items) sees)) c.deref-2.ensures.value
-    (subst (λ (vs : List (Vec Bool)). StayBut others (map (λ v. v.items) vs) (map (λ v. v.items) c.deref-2.result.now)) c.deref.ensures.value c.in_ok-others.ensures.kept))
+    let saw = c.args.seen.now.items in
+    subst (λ (v : Vec (List Bool)). StayBut others saw v.items) (sym c.replace.ensures.after)
+    (subst (λ (sees : List (List Bool)). StayBut others saw sees) c.deref-2.ensures.value
+    (subst (λ (vs : List (List Bool)). StayBut others vs c.deref-2.result.now) c.deref.ensures.value c.in_ok-others.ensures.kept))

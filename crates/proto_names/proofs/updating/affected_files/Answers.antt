@@ -33,33 +33,33 @@ marks_of_changes-requires-clause-references c =
     (subst (All (λ (v : Vec RefId). All (λ r. r.file < length c.args.resolutions.now.meant.items) v.items)) (sym c.deref-2.ensures.value) c.requires.references)
 
 pub mark_others-requires-clause-others : goal.mark_others-requires-clause-others
-mark_others-requires-clause-others c = λ k d l. omega (arith, c.requires.others k d l, c.in_ok-marks.ensures.len, ap length c.deref-3.ensures.value, c.requires.meant)
+mark_others-requires-clause-others c = λ k d l. omega (arith, c.requires.others k d l, c.in_ok-affected.ensures.len, ap length c.deref-3.ensures.value, c.requires.meant)
 
 pub mark_others-requires-clause-rows : goal.mark_others-requires-clause-rows
-mark_others-requires-clause-rows c = omega (arith, c.requires.rows, c.in_ok-marks.ensures.len, ap length c.deref-3.ensures.value, c.requires.meant)
+mark_others-requires-clause-rows c = omega (arith, c.requires.rows, c.in_ok-affected.ensures.len, ap length c.deref-3.ensures.value, c.requires.meant)
 
 pub mark_others-requires-clause-meant : goal.mark_others-requires-clause-meant
-mark_others-requires-clause-meant c = omega (arith, ap length c.deref-5.ensures.value, c.in_ok-marks.ensures.len, ap length c.deref-3.ensures.value)
+mark_others-requires-clause-meant c = omega (arith, ap length c.deref-5.ensures.value, c.in_ok-affected.ensures.len, ap length c.deref-3.ensures.value)
 
 pub mark_others-requires-clause-saw : goal.mark_others-requires-clause-saw
-mark_others-requires-clause-saw c = omega (arith, c.requires.saw, c.in_ok-marks.ensures.len, ap length c.deref-3.ensures.value, c.requires.meant)
+mark_others-requires-clause-saw c = omega (arith, c.requires.saw, c.in_ok-affected.ensures.len, ap length c.deref-3.ensures.value, c.requires.meant)
 
 pub mark_others-requires-clause-seen : goal.mark_others-requires-clause-seen
-mark_others-requires-clause-seen c = omega (arith, c.requires.seen, c.in_ok-marks.ensures.len, ap length c.deref-3.ensures.value, c.requires.meant)
+mark_others-requires-clause-seen c = omega (arith, c.requires.seen, c.in_ok-affected.ensures.len, ap length c.deref-3.ensures.value, c.requires.meant)
 
 pub returns-clause-len : goal.returns-clause-len
-returns-clause-len c = omega (arith, c.in_ok-mark_others.ensures.stay.count, c.in_ok-marks.ensures.len, ap length c.deref-3.ensures.value, c.requires.meant)
+returns-clause-len c = omega (arith, c.in_ok-mark_others.ensures.stay.count, c.in_ok-affected.ensures.len, ap length c.deref-3.ensures.value, c.requires.meant)
 
 pub returns-clause-changes : goal.returns-clause-changes
 returns-clause-changes c =
     let t = c.args.declarations.now.table in
     let places = c.args.edited.places.now in
-    marks_of_lists t c.in_ok-marks.marks.items c.mark_others.new.marks.items c.in_ok-mark_others.ensures.stay places (map (λ v. v.items) c.args.before.now)
+    marks_of_lists t c.in_ok-affected.affected c.mark_others.new.affected c.in_ok-mark_others.ensures.stay places (map (λ v. v.items) c.args.before.now)
     (ap (map (λ (v : Vec RefId). v.items)) c.deref-2.ensures.value)
     (ap (map (λ (v : Vec Meant). v.items)) c.deref-3.ensures.value)
     (ap (map (λ (v : Vec KindRow). v.items)) c.deref-4.ensures.value ∙ c.in_ok-now.ensures ∙ ap (λ (rs : List (Vec ℕ)). map (outer_rows_of t (map (λ v. v.items) rs)) places) c.deref.ensures.value)
-    c.in_ok-marks.ensures.marked
+    c.in_ok-affected.ensures.marked
 
 pub returns-clause-sight : goal.returns-clause-sight
 returns-clause-sight c =
-    subst (λ (vs : List (Vec Meant)). All (IsSightMarked c.mark_others.new.marks.items c.args.declarations.now.table (map (λ v. v.items) c.args.declarations.now.rows.items) (map (λ v. v.items) vs) (map (λ v. v.items) c.args.edited.saw.now) (map (λ v. v.items) c.args.edited.seen.now)) c.args.edited.others.now) c.deref-5.ensures.value c.in_ok-mark_others.ensures.marked
+    subst (λ (vs : List (Vec Meant)). All (IsSightMarked c.mark_others.new.affected c.args.declarations.now.table (map (λ v. v.items) c.args.declarations.now.rows.items) (map (λ v. v.items) vs) c.args.edited.saw.now c.args.edited.seen.now) c.args.edited.others.now) c.deref-5.ensures.value c.in_ok-mark_others.ensures.marked

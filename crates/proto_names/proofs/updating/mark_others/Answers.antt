@@ -8,5 +8,5 @@ mark_by_sight-requires-clause-rows c = ap length c.deref.ensures.value ∙ c.req
 
 pub returns-clause-marked : goal.returns-clause-marked
 returns-clause-marked c =
-    subst (λ (vs : List (Vec ℕ)). OnOk c.mark_by_sight.result (All (IsSightMarked c.mark_by_sight.new.marks.items c.args.declarations.now.table (map (λ v. v.items) vs) (map (λ v. v.items) c.args.meant.now) (map (λ v. v.items) c.args.edited.saw.now) (map (λ v. v.items) c.args.edited.seen.now)) c.args.edited.others.now))
+    subst (λ (vs : List (Vec ℕ)). OnOk c.mark_by_sight.result (All (IsSightMarked c.mark_by_sight.new.marks c.args.declarations.now.table (map (λ v. v.items) vs) (map (λ v. v.items) c.args.meant.now) c.args.edited.saw.now c.args.edited.seen.now) c.args.edited.others.now))
     c.deref.ensures.value c.mark_by_sight.ensures.marked

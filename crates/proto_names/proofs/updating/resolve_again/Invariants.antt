@@ -12,7 +12,7 @@ invariant-loop-file l = record {
   within : AreWithin (length l.fn.meant.items) l.fn.log.items → AreWithin (length l.fn.meant.items) l.log.items;
   len : length l.meant.items ≡ length l.fn.meant.items;
   below : AreMeantBelow (length l.resolver.declarations.now.table.rows.items) l.fn.log.items l.fn.meant.items → AreMeantBelow (length l.resolver.declarations.now.table.rows.items) l.log.items l.meant.items;
-  marked : AreOfMarked l.marks l.fn.log.items → AreOfMarked l.marks l.log.items;
-  meant : (reads : List ReadOf) → AreRead l.resolver.files.now reads → (k : ℕ) → k < l.file → get_or l.marks k false ≡ true → AreFileMeant l.resolver.declarations.now.table l.resolver.files.now reads k (get_or (map (λ v. v.items) l.meant.items) k []);
-  others : (k : ℕ) → IsUnmarked l.marks k → get_or (map (λ v. v.items) l.meant.items) k [] ≡ get_or (map (λ v. v.items) l.fn.meant.items) k [];
+  marked : AreOfMarked l.affected l.fn.log.items → AreOfMarked l.affected l.log.items;
+  meant : (reads : List ReadOf) → AreRead l.resolver.files.now reads → (k : ℕ) → k < l.file → get_or l.affected k false ≡ true → AreFileMeant l.resolver.declarations.now.table l.resolver.files.now reads k (get_or (map (λ v. v.items) l.meant.items) k []);
+  others : (k : ℕ) → IsUnmarked l.affected k → get_or (map (λ v. v.items) l.meant.items) k [] ≡ get_or (map (λ v. v.items) l.fn.meant.items) k [];
 }

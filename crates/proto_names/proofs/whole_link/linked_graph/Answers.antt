@@ -1,4 +1,4 @@
-use Rattle.std.proofs.Common.{◌≡◌, ◌<◌, ℕ, length, map, sym, ◌∙◌, ap, subst, arith, All}
+use Rattle.std.proofs.Common.{◌≡◌, ◌<◌, ℕ, length, sym, ◌∙◌, ap, subst, arith, All}
 use Rattle.proto_base.proofs.Common.{Vec, err_from_is_err_and, length-map}
 use Rattle.proto_names_imports.specs.declared.import.FileImport.{FileImport}
 use Rattle.proto_names.proofs.LinkParts.{files_between, marks_seen}
@@ -25,8 +25,8 @@ returns-clause-sight c = λ reads are.
     record {
       sound = c.in_ok-imports.ensures.clean reads are;
       between = files_between files reads are imports c.in_ok-imports.ensures.len c.in_ok-imports.ensures.within known;
-      count = length-map seen (λ v. v.items) ∙ c.in_ok-seen.ensures.len ∙ ap length c.deref.ensures.value ∙ c.in_ok-imports.ensures.len;
-      marks = marks_seen files reads are imports c.deref.result.now (map (λ v. v.items) seen) c.deref.ensures.value c.in_ok-imports.ensures.len known c.in_ok-seen.ensures.exact;
+      count = c.in_ok-seen.ensures.len ∙ ap length c.deref.ensures.value ∙ c.in_ok-imports.ensures.len;
+      marks = marks_seen files reads are imports c.deref.result.now seen c.deref.ensures.value c.in_ok-imports.ensures.len known c.in_ok-seen.ensures.exact;
     })
 
 pub returns-in_err-imports : goal.returns-in_err-imports

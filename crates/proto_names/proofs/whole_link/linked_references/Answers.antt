@@ -1,12 +1,12 @@
 use Rattle.std.proofs.Common.{◌≡◌, ◌<◌, ℕ, List, length, map, sym, ◌∙◌, ap, subst, arith, All}
-use Rattle.proto_base.proofs.Common.{Vec, err_from_is_err_and, length-map}
+use Rattle.proto_base.proofs.Common.{Vec, err_from_is_err_and}
 use Rattle.proto_names.specs.Common.{Meant, all_meant, references_to}
 use Rattle.proto_names.specs.FileReferences.{IsLeastBad}
 use Rattle.proto_names.proofs.LinkErrors.{linked_by_sight, reference_error, reference_file}
 use Rattle.proto_names.proofs.whole_link.linked_references.Goals as goal
 
 pub all_meanings-requires-clause-seen : goal.all_meanings-requires-clause-seen
-all_meanings-requires-clause-seen c = ap length c.deref.ensures.value ∙ sym (length-map c.args.graph.now.seen.items (λ v. v.items)) ∙ (c.requires.sight c.are_read.ensures.0 c.are_read.ensures.1).count
+all_meanings-requires-clause-seen c = ap length c.deref.ensures.value ∙ (c.requires.sight c.are_read.ensures.0 c.are_read.ensures.1).count
 
 pub references_by_name-requires-clause-count : goal.references_by_name-requires-clause-count
 references_by_name-requires-clause-count c = omega (arith, ap length c.deref-in-Ok.ensures.value, c.in-Ok.ensures.len, c.len-count.ensures.workspace.few)

@@ -4,6 +4,6 @@ use Rattle.proto_names_affected.proofs.marking.mark_all.Given as goal
 
 abbrev pub invariant-loop-reference : goal.invariant-loop-reference
 invariant-loop-reference l = record {
-  stay : MarksStay l.initial.marks.items l.marks.items;
-  marked : AreReferencesMarked l.marks.items (take l.reference-index l.references);
+  stay : MarksStay l.initial.marks l.marks;
+  marked : AreReferencesMarked l.marks (take l.reference-index l.references);
 }

@@ -8,18 +8,18 @@ use Rattle.proto_names_affected.proofs.Marks.{nothing_there, stay_more, stay_sam
 use Rattle.proto_names_affected.proofs.marking.mark_each_beginner.Goals as goal
 
 pub loop-file-init : goal.loop-file-init
-loop-file-init c = record { stay = stay_same c.args.marks.now.items; marked = λ file l. absurd (omega (arith, l)) }
+loop-file-init c = record { stay = stay_same c.args.marks.now; marked = λ file l. absurd (omega (arith, l)) }
 
 pub mark_beginner-requires : goal.mark_beginner-requires
 mark_beginner-requires c = omega (arith, c.requires, c.loop-file-test.true, c.loop-file.invariant.stay.count)
 
 pub loop-file-preserved : goal.loop-file-preserved
 loop-file-preserved c =
-    let now = c.mark_beginner.new.marks.items in
+    let now = c.mark_beginner.new.marks in
     let lists = map (λ v. v.items) c.args.meant.now in
     let here = c.deref.ensures.value ∙ ap (λ v. v.items) c.index-meant-file.is ∙ sym (get_or-map (λ v. v.items) c.args.meant.now c.loop-file.file c.index-meant-file.result [] c.loop-file-test.true) in
     record {
-      stay = stay_more c.args.marks.now.items c.loop-file.marks.items now c.loop-file.invariant.stay c.mark_beginner.ensures.stay;
+      stay = stay_more c.args.marks.now c.loop-file.marks now c.loop-file.invariant.stay c.mark_beginner.ensures.stay;
       marked = below_more (λ file. (m : Meant) → Contains (get_or lists file []) m → Contains c.args.keys.now.keys m.first → IsMarked now file) c.loop-file.file
           (λ file l m there key. c.mark_beginner.ensures.stay.set file (c.loop-file.invariant.marked file l m there key))
           (λ m there key. c.mark_beginner.ensures.marked m (subst (λ (ms : List Meant). Contains ms m) (sym here) there) key);

@@ -6,6 +6,6 @@ use Rattle.proto_names_affected.proofs.marking.mark_each_beginner.Given as goal
 
 abbrev pub invariant-loop-file : goal.invariant-loop-file
 invariant-loop-file l = record {
-  stay : MarksStay l.initial.marks.items l.marks.items;
-  marked : (file : ℕ) → file < l.file → (m : Meant) → Contains (get_or (map (λ v. v.items) l.meant) file []) m → Contains l.keys.keys m.first → IsMarked l.marks.items file;
+  stay : MarksStay l.initial.marks l.marks;
+  marked : (file : ℕ) → file < l.file → (m : Meant) → Contains (get_or (map (λ v. v.items) l.meant) file []) m → Contains l.keys.keys m.first → IsMarked l.marks file;
 }

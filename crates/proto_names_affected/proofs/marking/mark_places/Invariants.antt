@@ -4,6 +4,6 @@ use Rattle.proto_names_affected.proofs.marking.mark_places.Given as goal
 
 abbrev pub invariant-loop-place : goal.invariant-loop-place
 invariant-loop-place l = record {
-  stay : MarksStay l.initial.marks.items l.marks.items;
-  marked : ArePlacesMarked l.marks.items (take l.place-index l.places);
+  stay : MarksStay l.initial.marks l.marks;
+  marked : ArePlacesMarked l.marks (take l.place-index l.places);
 }

@@ -1,7 +1,6 @@
-use Rattle.std.proofs.Common.{ℕ, Bool, List, [], All, get_or, map, take, sym, subst, arith, take_all}
+use Rattle.std.proofs.Common.{ℕ, Bool, List, [], All, get_or, map, take, subst, arith, take_all}
 use Rattle.std.proofs.lemmas.List.Elements.{All-more, All-nil, All-weaker}
 use Rattle.proto_names_table.specs.declared.ids.Meant.{Meant}
-use Rattle.proto_names_affected.specs.Marking.{IsMarked}
 use Rattle.proto_names_affected.specs.Sight.{IsSightMarked}
 use Rattle.proto_names_affected.proofs.Marks.{stay_more, stay_same}
 use Rattle.proto_names_affected.proofs.Sights.{newly_gathered, sight_stays}
@@ -14,11 +13,11 @@ pub loop-file-init : goal.loop-file-init
 loop-file-init c =
     let rows : List (List ℕ) = map (λ v. v.items) c.args.sighted.rows.now in
     let meant : List (List Meant) = map (λ v. v.items) c.args.sighted.meant.now in
-    let before : List (List Bool) = map (λ v. v.items) c.args.sighted.before.now in
-    let sees : List (List Bool) = map (λ v. v.items) c.args.sighted.sees.now in
+    let before : List (List Bool) = c.args.sighted.before.now in
+    let sees : List (List Bool) = c.args.sighted.sees.now in
     record {
-      stay = stay_same c.args.marks.now.items;
-      marked = All-nil (IsSightMarked c.args.marks.now.items c.args.sighted.table.now rows meant before sees);
+      stay = stay_same c.args.marks.now;
+      marked = All-nil (IsSightMarked c.args.marks.now c.args.sighted.table.now rows meant before sees);
     }
 
 pub mark_one-requires-clause-file : goal.mark_one-requires-clause-file
@@ -36,26 +35,26 @@ mark_one-requires-clause-sees c = omega (arith, c.requires.sees, c.loop-file.inv
 pub mark_one-requires-clause-gathered : goal.mark_one-requires-clause-gathered
 mark_one-requires-clause-gathered c =
     let file : ℕ = get_or c.args.files.now c.loop-file.file-index 0 in
-    let before : List (List Bool) = map (λ v. v.items) c.args.sighted.before.now in
-    let sees : List (List Bool) = map (λ v. v.items) c.args.sighted.sees.now in
+    let before : List (List Bool) = c.args.sighted.before.now in
+    let sees : List (List Bool) = c.args.sighted.sees.now in
     let names = c.in_ok-names.names in
-    newly_gathered c.args.sighted.table.now c.args.sighted.rows.now c.in_ok-seen.seen.items (get_or before file []) (get_or sees file []) names.packages.keys names.keys.keys
+    newly_gathered c.args.sighted.table.now c.args.sighted.rows.now c.in_ok-seen.seen (get_or before file []) (get_or sees file []) names.packages.keys names.keys.keys
     (c.in_ok-seen.ensures c.loop-file.file-index 0 c.loop-file-test.true)
-    (λ g marked. c.in_ok-names.ensures.gathered g (subst (λ (ms : List Bool). IsMarked ms g) (sym c.deref.ensures.value) marked))
+    c.in_ok-names.ensures.gathered
 
 pub loop-file-preserved : goal.loop-file-preserved
 loop-file-preserved c =
     let t = c.args.sighted.table.now in
     let rows : List (List ℕ) = map (λ v. v.items) c.args.sighted.rows.now in
     let meant : List (List Meant) = map (λ v. v.items) c.args.sighted.meant.now in
-    let before : List (List Bool) = map (λ v. v.items) c.args.sighted.before.now in
-    let sees : List (List Bool) = map (λ v. v.items) c.args.sighted.sees.now in
+    let before : List (List Bool) = c.args.sighted.before.now in
+    let sees : List (List Bool) = c.args.sighted.sees.now in
     let i = c.loop-file.file-index in
-    let was = c.loop-file.marks.items in
-    let now = c.mark_one.new.marks.items in
+    let was = c.loop-file.marks in
+    let now = c.mark_one.new.marks in
     let stay = c.in_ok-mark_one.ensures.stay in
     record {
-      stay = stay_more c.args.marks.now.items was now c.loop-file.invariant.stay stay;
+      stay = stay_more c.args.marks.now was now c.loop-file.invariant.stay stay;
       marked = All-more (IsSightMarked now t rows meant before sees) c.args.files.now i 0 c.loop-file-test.true
           (All-weaker (IsSightMarked was t rows meant before sees) (IsSightMarked now t rows meant before sees) (sight_stays was now t rows meant before sees stay) (take i c.args.files.now) c.loop-file.invariant.marked)
           c.in_ok-mark_one.ensures.marked;
@@ -68,6 +67,6 @@ pub returns-clause-marked : goal.returns-clause-marked
 returns-clause-marked c =
     let rows : List (List ℕ) = map (λ v. v.items) c.args.sighted.rows.now in
     let meant : List (List Meant) = map (λ v. v.items) c.args.sighted.meant.now in
-    let before : List (List Bool) = map (λ v. v.items) c.args.sighted.before.now in
-    let sees : List (List Bool) = map (λ v. v.items) c.args.sighted.sees.now in
-    subst (All (IsSightMarked c.loop-file.marks.items c.args.sighted.table.now rows meant before sees)) (take_all c.loop-file.file-index c.args.files.now c.loop-file-test.false) c.loop-file.invariant.marked
+    let before : List (List Bool) = c.args.sighted.before.now in
+    let sees : List (List Bool) = c.args.sighted.sees.now in
+    subst (All (IsSightMarked c.loop-file.marks c.args.sighted.table.now rows meant before sees)) (take_all c.loop-file.file-index c.args.files.now c.loop-file-test.false) c.loop-file.invariant.marked

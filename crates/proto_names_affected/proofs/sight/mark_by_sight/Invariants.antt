@@ -5,6 +5,6 @@ use Rattle.proto_names_affected.proofs.sight.mark_by_sight.Given as goal
 
 abbrev pub invariant-loop-file : goal.invariant-loop-file
 invariant-loop-file l = record {
-  stay : MarksStay l.initial.marks.items l.marks.items;
-  marked : All (IsSightMarked l.marks.items l.sighted.table.now (map (λ v. v.items) l.sighted.rows.now) (map (λ v. v.items) l.sighted.meant.now) (map (λ v. v.items) l.sighted.before.now) (map (λ v. v.items) l.sighted.sees.now)) (take l.file-index l.files);
+  stay : MarksStay l.initial.marks l.marks;
+  marked : All (IsSightMarked l.marks l.sighted.table.now (map (λ v. v.items) l.sighted.rows.now) (map (λ v. v.items) l.sighted.meant.now) l.sighted.before.now l.sighted.sees.now) (take l.file-index l.files);
 }

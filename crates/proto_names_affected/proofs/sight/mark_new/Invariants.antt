@@ -5,6 +5,6 @@ use Rattle.proto_names_affected.proofs.sight.mark_new.Given as goal
 
 abbrev pub invariant-loop-file : goal.invariant-loop-file
 invariant-loop-file l = record {
-  stay : MarksStay l.initial.marks.items l.marks.items;
-  marked : (file : ℕ) → file < l.file → IsNewlySeen l.before l.sees file → IsMarked l.marks.items file;
+  stay : MarksStay l.initial.marks l.marks;
+  marked : (file : ℕ) → file < l.file → IsNewlySeen l.before l.sees file → IsMarked l.marks file;
 }

@@ -2,7 +2,7 @@ use Rattle.std.proofs.Common.{◌≡◌, ◌⊎◌, ℕ, ◌&&◌, Bool, not, Li
 use Rattle.std.specs.Global.{Vec}
 use Rattle.std.specs.List.{Contains, list_all}
 use Rattle.std.proofs.lemmas.Bool.{cases_Bool}
-use Rattle.std.proofs.lemmas.List.{get_or-map}
+use Rattle.std.proofs.lemmas.List.{get_or-map, get_or_default}
 use Rattle.proto_names_table.specs.declared.ids.Meant.{Meant}
 use Rattle.proto_names_affected.specs.Sight.{HasLastWord, is_seen_at}
 use Rattle.proto_names_affected.proofs.Sights.{begins, kept_in_sight}
@@ -14,8 +14,8 @@ returns-clause-marked c =
     let file = c.args.file in
     let rows : List (List ℕ) = map (λ v. v.items) c.args.sighted.rows.now in
     let meant : List (List Meant) = map (λ v. v.items) c.args.sighted.meant.now in
-    let before : List (List Bool) = map (λ v. v.items) c.args.sighted.before.now in
-    let sees : List (List Bool) = map (λ v. v.items) c.args.sighted.sees.now in
+    let before : List (List Bool) = c.args.sighted.before.now in
+    let sees : List (List Bool) = c.args.sighted.sees.now in
     let names = c.args.names.now in
     let f = c.in_ok-foreign.foreign.keys in
     let listed = get_or-map (λ (v : Vec ℕ). v.items) c.args.sighted.rows.now file c.index-sighted-place.result [] (omega (arith, c.requires.file, c.requires.rows)) in
@@ -24,16 +24,13 @@ returns-clause-marked c =
     let own : c.deref.result.now ≡ get_or rows file [] = cc in
     let listed_meant = get_or-map (λ (v : Vec Meant). v.items) c.args.sighted.meant.now file c.index-sighted-place-2.result [] (omega (arith, c.requires.file, c.requires.meant)) in
     let held_meant = ap (λ (v : Vec Meant). v.items) c.index-sighted-place-2.is in
-    let slice_meant = c.deref-3.ensures.value in
-    let ms : c.deref-3.result.now ≡ get_or meant file [] = cc in
-    let listed_seen = get_or-map (λ (v : Vec Bool). v.items) c.args.sighted.sees.now file c.index-sighted-place-3.result [] (omega (arith, c.requires.file, c.requires.sees)) in
-    let held_seen = ap (λ (v : Vec Bool). v.items) c.index-sighted-place-3.is in
-    let slice_seen = c.deref-2.ensures.value in
-    let seen : c.deref-2.result.now ≡ get_or sees file [] = cc in
+    let slice_meant = c.deref-2.ensures.value in
+    let ms : c.deref-2.result.now ≡ get_or meant file [] = cc in
+    let seen : get_or sees file c.index-sighted-place-3.result ≡ get_or sees file [] = get_or_default sees file c.index-sighted-place-3.result [] (omega (arith, c.requires.file, c.requires.sees)) in
     let test = λ (s : List Bool) (xs : List Meant) (k : List ℕ). list_all (λ (m : Meant). is_seen_at t s m.row) xs && (not (begins xs k) && not (begins xs f)) in
     let told : c.means_the_same-is_kept.result ≡ test (get_or sees file []) (get_or meant file []) names.keys.keys =
     c.means_the_same-is_kept.ensures
-    ∙ ap (λ s. test s c.deref-3.result.now c.keys.result.now.keys) seen
+    ∙ ap (λ s. test s c.deref-2.result.now c.keys.result.now.keys) seen
     ∙ ap (λ xs. test (get_or sees file []) xs c.keys.result.now.keys) ms
     ∙ ap (λ k. test (get_or sees file []) (get_or meant file []) k.keys) c.keys.ensures in
     elim (cases_Bool c.means_the_same-is_kept.result) [

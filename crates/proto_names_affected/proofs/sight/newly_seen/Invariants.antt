@@ -1,10 +1,10 @@
-use Rattle.std.proofs.Common.{◌≡◌, ℕ, ◌<◌, [], All, get_or, length, map, take}
+use Rattle.std.proofs.Common.{◌≡◌, ℕ, ◌<◌, [], All, get_or, length, take}
 use Rattle.proto_names_affected.specs.Marking.{IsMarked}
 use Rattle.proto_names_affected.specs.Sight.{IsNewlySeen}
 use Rattle.proto_names_affected.proofs.sight.newly_seen.Given as goal
 
 abbrev pub invariant-loop-file : goal.invariant-loop-file
 invariant-loop-file l = record {
-  len : length l.marks.items ≡ length l.sighted.rows.now;
-  marked : All (λ file. (g : ℕ) → g < length l.sighted.rows.now → IsNewlySeen (get_or (map (λ v. v.items) l.sighted.before.now) file []) (get_or (map (λ v. v.items) l.sighted.sees.now) file []) g → IsMarked l.marks.items g) (take l.file-index l.files);
+  len : length l.marks ≡ length l.sighted.rows.now;
+  marked : All (λ file. (g : ℕ) → g < length l.sighted.rows.now → IsNewlySeen (get_or l.sighted.before.now file []) (get_or l.sighted.sees.now file []) g → IsMarked l.marks g) (take l.file-index l.files);
 }

@@ -5,5 +5,5 @@ use Rattle.proto_names_faults.proofs.import_cycles.all_reached.Given as goal
 abbrev pub invariant-loop-file : goal.invariant-loop-file
 invariant-loop-file l = record {
   len : length l.marks.items ≡ l.file;
-  exact : (from : ℕ) → from < l.file → (to : ℕ) → IsMarked (get_or (map (λ v. v.items) l.marks.items) from []) to ↔ Walks (map (λ v. v.items) l.next) from to;
+  exact : (from : ℕ) → from < l.file → (to : ℕ) → IsMarked (get_or l.marks.items from []) to ↔ Walks (map (λ v. v.items) l.next) from to;
 }

@@ -31,5 +31,5 @@ returns c =
     let m : length next ≡ length c.deref.result.now = length-map c.deref.result.now (λ v. v.items) in
     let within = λ (i : Import) (d : Contains (all_imports 0 is) i). (let r = imports_within (λ v. v.items) (length c.args.imports.now) c.args.imports.now c.requires.within i d in let o : i.to < length next = omega (arith, r, n) in o) in
     IfOk-weaker c.all_reached.result _ _
-    (λ marks exact. reached_cycles next (all_imports 0 is) (map (λ v. v.items) marks.items) graph within (λ from to l. exact from to (omega (arith, l, m))))
+    (λ marks exact. reached_cycles next (all_imports 0 is) marks.items graph within (λ from to l. exact from to (omega (arith, l, m))))
     c.all_reached.ensures

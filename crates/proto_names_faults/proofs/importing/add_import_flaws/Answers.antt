@@ -1,4 +1,4 @@
-use Rattle.std.proofs.Common.{◌++◌, ℕ, Option, false, [], get_or, map, string_bytes, sym, ◌∙◌, ap, is_some}
+use Rattle.std.proofs.Common.{◌++◌, ℕ, Option, false, [], get_or, string_bytes, sym, ◌∙◌, ap, is_some}
 use Rattle.std.proofs.lemmas.Result.{on_ok_weaker}
 use Rattle.indexmap.specs.IndexMap.{get_by_text}
 use Rattle.proto_base.proofs.Common.{option_map_or}
@@ -13,7 +13,7 @@ returns c = on_ok_weaker c.add_flaw-3.result
     (λ h paths index.
     (let w = c.args.import.now in
     let file = c.args.file in
-    let marks = map (λ v. v.items) c.args.graph.now.marks.now in
+    let marks = c.args.graph.now.marks.now in
     let path = c.as_str-path.ensures.value in
     let look = c.place_of.ensures ∙ ap (get_by_text c.args.graph.now.index.now) path ∙ index (string_bytes w.path) in
     let test = λ (o : Option ℕ). option_map_or (λ to. get_or (get_or marks to []) file false) o false in

@@ -19,5 +19,5 @@ leading_marks-requires-clause-within c =
 pub returns : goal.returns
 returns c = IfOk-weaker c.leading_marks.result _ _
     (λ marks h paths index.
-    subst (λ is. MarksCycles is (map (λ v. v.items) marks.items)) (ap (λ z. all_imports 0 (map (λ v. v.items) z)) c.deref.ensures.value ∙ c.in_ok-imports.ensures.imports paths index) h)
+    subst (λ is. MarksCycles is marks.items) (ap (λ z. all_imports 0 (map (λ v. v.items) z)) c.deref.ensures.value ∙ c.in_ok-imports.ensures.imports paths index) h)
     c.leading_marks.ensures

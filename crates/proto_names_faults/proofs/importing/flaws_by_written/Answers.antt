@@ -17,5 +17,5 @@ flaws_by_graph-requires c = c.requires.count
 pub returns : goal.returns
 returns c = IfOk-weaker c.flaws_by_graph.result _ _
     (λ ws h paths index.
-    h paths index (subst (λ ms. MarksCycles (imports_of paths (all_asked 0 (map (λ v. v.items) c.args.files.now))) (map (λ v. v.items) ms)) (sym c.deref.ensures.value) (c.in_ok-marks.ensures paths index)))
+    h paths index (subst (λ ms. MarksCycles (imports_of paths (all_asked 0 (map (λ v. v.items) c.args.files.now))) ms) (sym c.deref.ensures.value) (c.in_ok-marks.ensures paths index)))
     c.flaws_by_graph.ensures

@@ -23,14 +23,14 @@ pub add_file_flaws-requires-clause-rows : goal.add_file_flaws-requires-clause-ro
 add_file_flaws-requires-clause-rows c =
     let file = c.loop-file.file in
     let l : file < length c.args.names.now.rows.items = omega (arith, c.loop-file-test.true, c.len-file-end.ensures.len, c.requires.rows.paired) in
-    let own = c.deref-in-loop-file.ensures.value ∙ ap (λ v. v.items) c.index.ensures in
+    let own = c.deref.ensures.value ∙ ap (λ v. v.items) c.index.ensures in
     ap length own ∙ c.requires.rows.counts file c.index.result.now l c.index-listings-file.result ∙ ap (λ (z : Listing). length z.declared.items) (sym c.index-listings-file.is)
 
 pub add_file_flaws-requires-clause-within : goal.add_file_flaws-requires-clause-within
 add_file_flaws-requires-clause-within c =
     let file = c.loop-file.file in
     let l : file < length c.args.names.now.rows.items = omega (arith, c.loop-file-test.true, c.len-file-end.ensures.len, c.requires.rows.paired) in
-    subst (All (λ r. r < length c.args.names.now.table.rows.items)) (sym (c.deref-in-loop-file.ensures.value ∙ ap (λ v. v.items) c.index.ensures)) (c.requires.rows.within file c.index.result.now l)
+    subst (All (λ r. r < length c.args.names.now.table.rows.items)) (sym (c.deref.ensures.value ∙ ap (λ v. v.items) c.index.ensures)) (c.requires.rows.within file c.index.result.now l)
 
 pub loop-file-init : goal.loop-file-init
 loop-file-init c = λ reads are linked. none_found _ _ c.new-found.ensures.items (no_file c.args.files.now reads are)
@@ -42,7 +42,7 @@ loop-file-preserved c = λ reads are linked.
     let l : file < length files = omega (arith, c.loop-file-test.true, c.len-file-end.ensures.len) in
     file_turn files reads are file c.loop-file.found.items c.add_file_flaws.new.found.items (c.loop-file.invariant reads are linked)
     (c.in_ok-add_file_flaws.ensures reads are
-    (linked_at c.args.names.now.table c.args.seen.now c.args.names.now.rows.items files reads linked file l c.requires.seen c.requires.rows.paired c.index-seen-file.result c.index-seen-file.is c.index.result.now c.index.ensures c.deref.result.now c.deref.ensures.value c.deref-in-loop-file.result.now c.deref-in-loop-file.ensures.value)))
+    (linked_at c.args.names.now.table c.args.seen.now c.args.names.now.rows.items files reads linked file l c.requires.seen c.requires.rows.paired c.index-seen-file.result c.index-seen-file.is c.index.result.now c.index.ensures c.deref.result.now c.deref.ensures.value)))
 
 pub returns : goal.returns
 returns c = λ reads are linked.

@@ -7,5 +7,5 @@ abbrev pub invariant-loop-file : goal.invariant-loop-file
 invariant-loop-file l = record {
   public : map (λ v. v.items) l.public.items ≡ map (λ v. map (λ i. i.to) (filter (λ i. i.is_public) v.items)) l.imports;
   len : length l.seen.items ≡ l.file;
-  exact : (k g : ℕ) → k < l.file → IsMarked (get_or (map (λ v. v.items) l.seen.items) k []) g ↔ Walks (steps_from (map (λ v. v.items) l.imports) k) k g;
+  exact : (k g : ℕ) → k < l.file → IsMarked (get_or l.seen.items k []) g ↔ Walks (steps_from (map (λ v. v.items) l.imports) k) k g;
 }

@@ -28,4 +28,4 @@ pub returns-clause-exact : goal.returns-clause-exact
 returns-clause-exact c =
     let lists = map (λ v. v.items) c.args.public.now.items in
     let is = ap (map (λ v. v.items)) c.deref.ensures.value ∙ map-set (λ v. v.items) c.args.public.now.items c.args.file c.replace-before.new.dest ∙ ap (slice_set lists c.args.file) (ap (λ v. v.items) c.replace-before.ensures.after ∙ c.in_ok-steps.ensures) in
-    subst (λ z. (g : ℕ) → IsMarked c.in_ok-seen.seen.items g ↔ Walks z c.args.file g) is c.in_ok-seen.ensures.exact
+    subst (λ z. (g : ℕ) → IsMarked c.in_ok-seen.seen g ↔ Walks z c.args.file g) is c.in_ok-seen.ensures.exact

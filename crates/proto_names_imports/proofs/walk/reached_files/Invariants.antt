@@ -4,7 +4,7 @@ use Rattle.proto_names_imports.proofs.Walks.{IsPart}
 use Rattle.proto_names_imports.proofs.walk.reached_files.Given as goal
 
 abbrev pub invariant-loop-file : goal.invariant-loop-file
-invariant-loop-file l = IsPart (map (λ v. v.items) l.next) l.start l.seen.items l.todo.items
+invariant-loop-file l = IsPart (map (λ v. v.items) l.next) l.start l.seen l.todo.items
 
 abbrev pub decreases-loop-file : goal.decreases-loop-file
-decreases-loop-file l = 2 * unseen l.seen.items + length l.todo.items
+decreases-loop-file l = 2 * unseen l.seen + length l.todo.items

@@ -6,12 +6,12 @@ use Rattle.proto_names_table.proofs.table.sees_any.Goals as goal
 pub loop-file-preserved : goal.loop-file-preserved
 loop-file-preserved c =
     let marked = λ (f : ℕ). slice_index_or c.args.seen.now f false in
-    c.loop-file.invariant ∙ any_from_here marked c.args.files.now c.loop-file.file-index 0 c.loop-file-test.true ∙ ap (λ b. b || list_any marked (drop (c.loop-file.file-index + 1) c.args.files.now)) (sym c.if-is_marked.ensures)
+    c.loop-file.invariant ∙ any_from_here marked c.args.files.now c.loop-file.file-index 0 c.loop-file-test.true ∙ ap (λ b. b || list_any marked (drop (c.loop-file.file-index + 1) c.args.files.now)) (sym c.if-contains.ensures)
 
-pub returns-then-is_marked : goal.returns-then-is_marked
-returns-then-is_marked c =
+pub returns-then-contains : goal.returns-then-contains
+returns-then-contains c =
     let marked = λ (f : ℕ). slice_index_or c.args.seen.now f false in
-    sym (c.loop-file.invariant ∙ any_from_here marked c.args.files.now c.loop-file.file-index 0 c.loop-file-test.true ∙ ap (λ b. b || list_any marked (drop (c.loop-file.file-index + 1) c.args.files.now)) (sym c.if-is_marked.ensures))
+    sym (c.loop-file.invariant ∙ any_from_here marked c.args.files.now c.loop-file.file-index 0 c.loop-file-test.true ∙ ap (λ b. b || list_any marked (drop (c.loop-file.file-index + 1) c.args.files.now)) (sym c.if-contains.ensures))
 
 pub returns : goal.returns
 returns c = sym (c.loop-file.invariant ∙ ap (list_any (λ f. slice_index_or c.args.seen.now f false)) (drop_all c.loop-file.file-index c.args.files.now c.loop-file-test.false))

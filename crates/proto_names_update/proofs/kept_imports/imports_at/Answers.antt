@@ -36,5 +36,5 @@ returns-clause-len c = omega (arith, c.loop-place.invariant.len, c.loop-place-te
 pub returns-clause-imports : goal.returns-clause-imports
 returns-clause-imports c = λ reads are. record { each = λ k l. c.loop-place.invariant.each reads are k (omega (arith, l, c.loop-place-test.false)) }
 
-pub returns-in-None-clause-none : goal.returns-in-None-clause-none
-returns-in-None-clause-none c = λ none reads are. record { at = c.loop-place.place-index; within = c.loop-place-test.true; unsound = c.in_ok-own.ensures.none c.in-None.is reads are }
+pub returns-in-None-clause-rebuild : goal.returns-in-None-clause-rebuild
+returns-in-None-clause-rebuild c = λ rebuild reads are. record { at = c.loop-place.place-index; within = c.loop-place-test.true; unsound = c.in_ok-own.ensures.none c.in-None.is reads are }

@@ -1,4 +1,4 @@
-use Rattle.std.proofs.Common.{◌≡◌, ◌+◌, ◌<◌, [], ◌∷◌, ◌++◌, List, length, get_or, map, refl, sym, ◌∙◌, ap, subst, arith, IfSome}
+use Rattle.std.proofs.Common.{◌≡◌, ◌+◌, ◌<◌, [], ◌∷◌, ◌++◌, List, length, get_or, map, refl, sym, ◌∙◌, ap, arith}
 use Rattle.proto_base.proofs.Common.{get_or-map, map-append}
 use Rattle.proto_files.specs.FilesRead.{AreRead, ReadOf}
 use Rattle.proto_names_update.specs.NamesOfFiles.{declared_by}
@@ -31,11 +31,10 @@ loop-place-preserved c =
     let l : p < length c.args.rows.now = omega (arith, inside, c.requires.paired) in
     let own : c.deref.result.now ≡ get_or before p [] =
     c.deref.ensures.value ∙ ap (λ r. r.items) c.index-rows-place.is ∙ sym (get_or-map (λ r. r.items) c.args.rows.now p c.index-rows-place.result [] l) in
-    let new = c.in-Some.own.items in
+    let new = c.in_ok-own.own.items in
     let next : map (λ r. r.items) c.push.new.self.items ≡ map (λ r. r.items) c.loop-place.renewed.items ++ new ∷ [] =
-    ap (map (λ r. r.items)) c.in_ok-push-in-Some.ensures.items ∙ map-append (λ r. r.items) c.loop-place.renewed.items (c.in-Some.own ∷ []) in
-    let one : (reads : List ReadOf) → AreRead files reads → IsFileAgain u v (declared_by files reads p) c.deref.result.now new =
-    subst (λ o. IfSome o (λ rows. (reads : List ReadOf) → AreRead files reads → IsFileAgain u v (declared_by files reads p) c.deref.result.now rows.items)) c.in-Some.is c.in_ok-declared.ensures.declared in
+    ap (map (λ r. r.items)) c.in_ok-push.ensures.items ∙ map-append (λ r. r.items) c.loop-place.renewed.items (c.in_ok-own.own ∷ []) in
+    let one : (reads : List ReadOf) → AreRead files reads → IsFileAgain u v (declared_by files reads p) c.deref.result.now new = c.in_ok-own.ensures.declared in
     let again : (reads : List ReadOf) → AreRead files reads → AreSoManyAgain t v (declared_by files reads) places before (map (λ r. r.items) c.push.new.self.items) (k + 1) =
     λ reads are.
     one_again t u v (declared_by files reads) places before (map (λ r. r.items) c.loop-place.renewed.items) (map (λ r. r.items) c.push.new.self.items) k new c.deref.result.now c.loop-place-test.true

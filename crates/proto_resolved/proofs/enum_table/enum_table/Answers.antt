@@ -7,6 +7,6 @@ use Rattle.proto_resolved.proofs.enum_table.enum_table.Goals as goal
 pub returns : goal.returns
 returns c =
     let files = c.args.files.now in
-    let marks = c.deref.result.now in
+    let marks = c.in_ok-all.all in
     IfOk-weaker c.enum_table_of.result (λ table. IsEnumTableOf files marks table.items) (λ table. IsEnumTable files table.items)
-    (λ table. all_marked files marks table.items (c.deref.ensures.value ∙ c.in_ok-all.ensures.items_if_clones_equal (λ b is. is) ∙ ap (λ n. replicate n true) c.len.ensures.len)) c.enum_table_of.ensures
+    (λ table. all_marked files marks table.items (c.in_ok-all.ensures ∙ ap (λ n. replicate n true) c.len.ensures.len)) c.enum_table_of.ensures

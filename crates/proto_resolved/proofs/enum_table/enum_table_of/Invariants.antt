@@ -7,5 +7,5 @@ use Rattle.proto_resolved.proofs.enum_table.enum_table_of.Given as goal
 abbrev pub invariant-loop-file : goal.invariant-loop-file
 invariant-loop-file l = record {
   len : length l.table.items ≡ l.file;
-  each : (reads : List ReadOf) → AreRead l.files reads → Each (λ k rows. (token : ℕ) → enum_row_at rows token ≡ marked_enum_at l.marks l.files reads (at k token)) l.table.items;
+  each : (reads : List ReadOf) → AreRead l.files reads → Each (λ k rows. (token : ℕ) → enum_row_at rows token ≡ marked_enum_at l.set l.files reads (at k token)) l.table.items;
 }

@@ -8,7 +8,6 @@ use Rattle.proto_names_imports.specs.Links.{names_of_files}
 use Rattle.proto_lint_rules.specs.declared.rule.Rule.TheVariants as rule
 use Rattle.proto_lint_names.proofs.Common.{found_by, reading_of, word_in}
 use Rattle.proto_lint.proofs.UsedFinds.{leads_is_used, used_found}
-use Rattle.proto_lint.specs.ImportTables.{MarksUsed}
 use Rattle.proto_lint.specs.Imports.{ImportsOf, import_path, import_used}
 use Rattle.proto_lint.proofs.imports.FileImports.add_used.Goals as goal
 
@@ -19,7 +18,7 @@ pub returns-in_ok-add_unless : goal.returns-in_ok-add_unless
 returns-in_ok-add_unless c =
     let i = c.args.import.now in
     let linter = c.self.inside.linter.now in
-    let files = linter.files.now in
+    let files = linter.linked.now.files in
     let file = c.self.inside.reading.now.file in
     let r = reading_of c.self.inside.reading.now in
     let path = c.as_str.result.now in
@@ -31,6 +30,6 @@ returns-in_ok-add_unless c =
     let is : import_path r i ≡ path = ap or_nothing (ap value_of (sym c.text.ensures) ∙ c.in_ok-path.ensures.value) ∙ sym c.as_str.ensures.value in
     subst (λ (x : ImportsOf). (reads : List ReadOf) → AreRead x.files reads → new ≡ old ++ found_by x.rules x.read rule.ImportUsed (import_used (names_of_files x.files reads) (paths_of x.files) x.read x.file i)) c.self.view_is
     (λ (reads : List ReadOf) are.
-    (let uses = leads_is_used files reads are file c.deref.result.now (subst (MarksUsed files file) (sym c.deref.ensures.value) (c.self.invariant.1 chosen)) path c.in_ok-is_used.is_used (c.in_ok-is_used.ensures reads are) in
+    (let uses = leads_is_used files reads are file c.self.inside.used (c.self.invariant.1 chosen) path c.in_ok-is_used.is_used ((rw c.files.ensures.files at c.in_ok-is_used.ensures) reads are) in
     used_found linter.rules.now.chosen r (names_of_files files reads) (paths_of files) file i old new path c.in_ok-is_used.is_used c.passes-passes.result chosen plain is uses c.passes-passes.ensures
     (grind (rules, c.in_ok-add_unless.ensures.added, again))))

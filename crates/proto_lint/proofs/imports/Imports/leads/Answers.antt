@@ -1,7 +1,7 @@
-use Rattle.std.proofs.Common.{◌≡◌, ◌<◌, ◌↔◌, ℕ, List, Option, Some, length, map, true, sym, ◌∙◌, ap, subst, arith, All}
+use Rattle.std.proofs.Common.{◌≡◌, ◌<◌, ◌↔◌, ℕ, List, Option, Some, length, map, true, sym, ◌∙◌, subst, arith, All}
 use Rattle.proto_files.proofs.Common.{paths_of, ReadOf}
 use Rattle.proto_names_rules.specs.Faults.{file_with_path}
-use Rattle.proto_names_imports.proofs.Common.{link_imports, IsMarked}
+use Rattle.proto_names_imports.proofs.Common.{link_imports}
 use Rattle.proto_lint.proofs.Reached.{reach_walks, walk_reaches}
 use Rattle.proto_lint.proofs.UsedFinds.{place_within}
 use Rattle.proto_lint.specs.ImportTables.{ArePublic, LeadsToMarked}
@@ -22,9 +22,6 @@ reached_files-requires c =
           omega (arith, g, count));
     }
 
-pub share_a_mark-requires : goal.share_a_mark-requires
-share_a_mark-requires c = omega (arith, ap length c.deref.ensures.value, ap length c.deref-in-Some.ensures.value, c.requires.imports.count, c.requires.marks, c.in_ok-seen-in-Some.ensures.len)
-
 pub returns-in_ok-seen-in-Some : goal.returns-in_ok-seen-in-Some
 returns-in_ok-seen-in-Some c = λ (reads : List ReadOf) are.
     (let files = c.args.files.now in
@@ -33,9 +30,7 @@ returns-in_ok-seen-in-Some c = λ (reads : List ReadOf) are.
     let next = map (λ v. v.items) c.deref.result.now in
     let public : ArePublic next imports = subst (λ vs. ArePublic (map (λ v. v.items) vs) imports) (sym c.deref.ensures.value) (c.requires.imports.public reads are) in
     let is : file_with_path (paths_of files) path ≡ Some c.in-Some.file = sym (c.requires.imports.index path) ∙ sym c.place_of.ensures ∙ c.in-Some.is in
-    let seen = c.in_ok-seen-in-Some.seen.items in
-    let shared = subst (λ marks. (c.share_a_mark.result ≡ true) ↔ ((g : ℕ) × IsMarked marks g × IsMarked c.args.marks.now g)) c.deref-in-Some.ensures.value c.share_a_mark.ensures in
-    subst (λ (o : Option ℕ). (c.share_a_mark.result ≡ true) ↔ LeadsToMarked imports o c.args.marks.now) (sym is) (
-      λ t. (let x = shared.0 t in (x.0, walk_reaches next imports public ((c.in_ok-seen-in-Some.ensures.exact x.0).0 x.1), x.2)),
-      λ (g, r, m). shared.1 (g, (c.in_ok-seen-in-Some.ensures.exact g).1 (reach_walks next imports public r), m),
+    subst (λ (o : Option ℕ). (c.intersects.result ≡ true) ↔ LeadsToMarked imports o c.args.set.now) (sym is) (
+      λ t. (let x = c.intersects.ensures.0 t in (x.0, walk_reaches next imports public ((c.in_ok-seen-in-Some.ensures.exact x.0).0 x.1.0), x.1.1)),
+      λ (g, r, m). c.intersects.ensures.1 (g, ((c.in_ok-seen-in-Some.ensures.exact g).1 (reach_walks next imports public r), m)),
     ))

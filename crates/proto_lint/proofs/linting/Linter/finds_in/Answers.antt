@@ -8,21 +8,24 @@ use Rattle.proto_lint.proofs.Linters.{finds_are, is_headed, moved, scope_is}
 use Rattle.proto_lint.proofs.linting.Linter.finds_in.Goals as goal
 
 pub add_head-requires : goal.add_head-requires
-add_head-requires c = let l = c.requires.linter in is_headed c.args.self.now.files.now l.read.0 l.read.1 c.args.self.now.heads (l.heads_are l.read.0 l.read.1) c.args.file c.requires.file
+add_head-requires c = let linked = c.files-files.ensures.linked in is_headed c.args.self.now.linked.now.files linked.reads linked.read c.args.self.now.heads (c.requires.linter.heads_are linked.reads linked.read) c.args.file c.requires.file
 
 pub get-requires : goal.get-requires
-get-requires c = let l = c.requires.linter in is_headed c.args.self.now.files.now l.read.0 l.read.1 c.args.self.now.heads (l.heads_are l.read.0 l.read.1) c.args.file c.requires.file
+get-requires c = let linked = c.files-files.ensures.linked in is_headed c.args.self.now.linked.now.files linked.reads linked.read c.args.self.now.heads (c.requires.linter.heads_are linked.reads linked.read) c.args.file c.requires.file
 
 pub add_blocks-requires : goal.add_blocks-requires
 add_blocks-requires c =
     let l = c.args.self.now in
-    let reads = c.requires.linter.read.0 in
-    let are = c.requires.linter.read.1 in
-    scope_is l.files.now reads are c.args.file c.requires.file (reading_of c.of-reading.result) (c.of-reading.ensures.read reads are) (tree_of_file c.tree.result.now) c.tree.ensures
+    let reads = c.files-files.ensures.linked.reads in
+    let are = c.files-files.ensures.linked.read in
+    scope_is l.linked.now.files reads are c.args.file c.requires.file (reading_of c.of-reading.result) (c.of-reading.ensures.read reads are) (tree_of_file c.tree.result.now) (rw c.files-files.ensures.files at c.tree.ensures)
     l.heads (c.requires.linter.heads_are reads are) c.get.result.now c.get.ensures c.package-scope.result.now c.package-scope.ensures
+
+pub tree-requires : goal.tree-requires
+tree-requires c = rw c.files-files.ensures.files c.requires.file
 
 pub returns : goal.returns
 returns c = λ reads are.
     (let l = c.args.self.now in
-    finds_are l.files.now reads are c.args.file c.requires.file (reading_of c.of-reading.result) (c.of-reading.ensures.read reads are) (tree_of_file c.tree.result.now) c.tree.ensures
-    l.heads (c.requires.linter.heads_are reads are) l.rules.now.chosen l.messages (c.requires.linter.messages_are reads are) _ _ _ _ c.new-found.ensures c.in_ok-add_head.ensures (moved _ _ (λ (n : ℕ). imports_finds l.rules.now.chosen (names_of_files l.files.now reads) (paths_of l.files.now) (reading_of c.of-reading.result) n (read_at reads n).tree) _ _ c.of-reading.ensures.file (c.in_ok-add_imports.ensures reads are)) c.in_ok-add_blocks.ensures)
+    finds_are l.linked.now.files reads are c.args.file c.requires.file (reading_of c.of-reading.result) (c.of-reading.ensures.read reads are) (tree_of_file c.tree.result.now) (rw c.files-files.ensures.files at c.tree.ensures)
+    l.heads (c.requires.linter.heads_are reads are) l.rules.now.chosen l.messages (c.requires.linter.messages_are reads are) _ _ _ _ c.new-found.ensures c.in_ok-add_head.ensures (moved _ _ (λ (n : ℕ). imports_finds l.rules.now.chosen (names_of_files l.linked.now.files reads) (paths_of l.linked.now.files) (reading_of c.of-reading.result) n (read_at reads n).tree) _ _ c.of-reading.ensures.file (c.in_ok-add_imports.ensures reads are)) c.in_ok-add_blocks.ensures)

@@ -74,7 +74,7 @@ returns-clause-link c = λ reads are.
     let referred : (row : ℕ) → get_or link.references row [] ≡ references_to row (all_meant 0 meant) = λ row.
     ap (λ (l : LinkOf). get_or l.references row []) c.from_parts.ensures ∙ c.in_ok-resolutions.ensures.references row in
     let by = is_link files reads are table c.in_ok-declarations.ensures.table declared known
-    (map (λ v. v.items) graph.seen.items) meant link same (sym (ap (λ (l : LinkOf). l.seen) c.from_parts.ensures))
+    graph.seen.items meant link same (sym (ap (λ (l : LinkOf). l.seen) c.from_parts.ensures))
     sight.count many paired sight.between sight.marks (c.in_ok-resolutions.ensures.meant reads are) referred in
     let imports = ap (λ (l : LinkOf). l.imports) c.from_parts.ensures in
     let rows = ap (λ (l : LinkOf). l.rows) c.from_parts.ensures in

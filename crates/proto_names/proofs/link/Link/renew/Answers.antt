@@ -1,40 +1,34 @@
-use Rattle.std.proofs.Common.{◌≡◌, ◌<◌, Bool, true, false, List, length, map, refl, sym, ◌∙◌, ap, subst, inl, inr, All, AllPairs, IfSome}
+use Rattle.std.proofs.Common.{◌≡◌, ◌<◌, Bool, true, false, length, map, refl, sym, ◌∙◌, ap, subst, inl, inr, All, AllPairs}
 use Rattle.proto_base.proofs.Common.{Vec, both_ways}
 use Rattle.proto_base.specs.declared.fault.SchemaFault.{SchemaFault}
 use Rattle.proto_base.specs.declared.fault.SchemaFault.TheVariants.{NoMemory}
 use Rattle.proto_names.specs.declared.whole_link.Renewal.{Renewal}
 use Rattle.proto_names.specs.declared.whole_link.Renewal.TheVariants.{Done, Rebuild, Refused}
-use Rattle.proto_files.proofs.Common.{AreRead, HasNoFault, ReadOf}
-use Rattle.proto_names_imports.proofs.Common.{LinkFaults}
 use Rattle.proto_names_imports.specs.LinkErrors.{IsLinkError}
 use Rattle.proto_names.specs.Common.{Meant}
-use Rattle.proto_names.specs.Following.{HaveToLook, TellWhatToLook}
 use Rattle.proto_names.specs.LinkOfFiles.{IsLinkOf}
-use Rattle.proto_names.specs.LinkOfParts.{link_of}
 use Rattle.proto_names_update.specs.Relinked.{IsCleanLink, WasLink}
 use Rattle.proto_names.proofs.WaysBack.{lists_rise, meant_back, names_unchanged, references_back, rows_back, size_unchanged, table_back}
-use Rattle.proto_names.proofs.link.Link.renew.Goals.{in-Ok-Some+in-Err-follow, in-Ok-None, in-Err}
+use Rattle.proto_names.proofs.link.Link.renew.Goals.{in-Ok+in-Err, in-Err-NeedsRebuild, in-Err-NoMemory}
 use Rattle.proto_names.proofs.link.Link.renew.Goals as goal
 
 pub invariant_of-self : goal.invariant_of-self
 invariant_of-self g c =
-    let is = c.in-Ok-Some.field-0-is in
     let last = c.update-updated.new.self in
-    let read = subst (λ o. IfSome o (λ (marks : Vec Bool). (reads : List ReadOf) × AreRead c.args.files.now reads)) is c.in-Ok-Some.ensures.read in
-    let paired = subst (λ o. IfSome o (λ (marks : Vec Bool). length last.resolutions.references.items ≡ length last.declarations.table.rows.items)) is c.in-Ok-Some.ensures.paired in
-    let link = subst (λ o. IfSome o (λ (marks : Vec Bool). IsLinkOf c.args.files.now (link_of last))) is c.in-Ok-Some.ensures.link in (
+    let read = c.in-Ok.ensures.read in
+    let paired = c.in-Ok.ensures.paired in
+    let link = c.in-Ok.ensures.link in (
       c.update-updated.ensures.table,
       paired,
       lists_rise c.args.files.now read.0 _ read.1 link last.resolutions.meant.items (λ i. map (λ v. v.items) last.resolutions.meant.items),
     )
 
-pub invariant_of-self-in-Ok : goal.invariant_of-self-in-Ok
-invariant_of-self-in-Ok g c =
-    let is = c.in-Ok-Some.field-0-is in
+pub invariant_of-self-in-Ok-follow : goal.invariant_of-self-in-Ok-follow
+invariant_of-self-in-Ok-follow g c =
     let last = c.update-updated.new.self in
-    let read = subst (λ o. IfSome o (λ (marks : Vec Bool). (reads : List ReadOf) × AreRead c.args.files.now reads)) is c.in-Ok-Some.ensures.read in
-    let paired = subst (λ o. IfSome o (λ (marks : Vec Bool). length last.resolutions.references.items ≡ length last.declarations.table.rows.items)) is c.in-Ok-Some.ensures.paired in
-    let link = subst (λ o. IfSome o (λ (marks : Vec Bool). IsLinkOf c.args.files.now (link_of last))) is c.in-Ok-Some.ensures.link in (
+    let read = c.in-Ok.ensures.read in
+    let paired = c.in-Ok.ensures.paired in
+    let link = c.in-Ok.ensures.link in (
       c.update-updated.ensures.table,
       paired,
       lists_rise c.args.files.now read.0 _ read.1 link last.resolutions.meant.items (λ i. map (λ v. v.items) last.resolutions.meant.items),
@@ -50,7 +44,7 @@ follow-requires-clause-was g c =
     let were = c.requires.were in
     let files = c.args.files.now in
     let places = c.args.places.now in
-    let tell = subst (λ o. IfSome o (λ (marks : Vec Bool). TellWhatToLook places files (link_of c.self.inside.parts) marks.items)) c.in-Ok-Some.field-0-is c.in-Ok-Some.ensures.told in
+    let tell = c.in-Ok.ensures.told in
     record {
       before = were.before;
       clean = were.link.clean;
@@ -58,7 +52,7 @@ follow-requires-clause-was g c =
       read = were.link.read;
       made = were.made;
       same = were.same;
-      look = subst (HaveToLook places were.before files) (sym c.deref.ensures.value) (tell were.before (subst (IsCleanLink IsLinkOf were.before) (sym c.self.view_is) were.link) were.same);
+      look = (tell were.before (subst (IsCleanLink IsLinkOf were.before) (sym c.self.view_is) were.link) were.same);
     }
 
 pub invariant_of-self-2 : goal.invariant_of-self-2
@@ -87,16 +81,16 @@ returns-clause-kept g c = λ other.
     let unresolved = c.update-updated.ensures.unresolved in
     let table = table_back log.declarations last.declarations was.declarations now.declarations undeclared none.table in
     let imports = ap (map (λ v. v.items)) (c.roll_back.ensures.imports ∙ c.update-updated.ensures.imports) in
-    let seen = ap (map (λ v. v.items)) (c.roll_back.ensures.seen ∙ c.update-updated.ensures.seen) in
+    let seen = c.roll_back.ensures.seen ∙ c.update-updated.ensures.seen in
     let rows = ap (map (λ v. v.items)) (c.roll_back.ensures.rows ∙ rows_back log.declarations last.declarations was.declarations now.declarations undeclared none.rows) in
     let meant = ap (map (λ v. v.items)) (c.roll_back.ensures.meant ∙ meant_back log.resolutions last.resolutions was.resolutions now.resolutions unresolved none.meant) in
     let references = ap (map (λ v. v.items)) (c.roll_back.ensures.references ∙ references_back log.resolutions last.resolutions was.resolutions now.resolutions unresolved none.references none.count) in
     let names = names_unchanged was.declarations.table c.roll_back.new.self.declarations.table (c.roll_back.ensures.unchanged was.declarations.table table) in (
       (λ i. record { names = names i; imports = imports i; rows = rows i; seen = seen i; meant = meant i; references = references i }) ∙ c.self.view_is,
       elim c.match-updated.branch [
-        | in-Ok-Some+in-Err-follow w ↦ w.made-is ∙ w.in-Err-follow.ensures.kept
-        | in-Ok-None w ↦ w.made-is
-        | in-Err w ↦ w.made-is
+        | in-Ok+in-Err w ↦ w.made-is ∙ w.in-Err.ensures.kept
+        | in-Err-NeedsRebuild w ↦ w.made-is
+        | in-Err-NoMemory w ↦ w.made-is
       ],
     ))
 
@@ -114,11 +108,11 @@ is_refused Rebuild = false
 pub returns-clause-refused : goal.returns-clause-refused
 returns-clause-refused g c = λ fault is.
     elim c.match-updated.branch [
-      | in-Ok-Some+in-Err-follow w ↦
-          let same : w.in-Err-follow.fault ≡ fault = ap (fault_of fault) (sym w.answer-is ∙ is) in
-          inr (subst (λ o. IfSome o (λ (marks : Vec Bool). HasNoFault (LinkFaults c.args.files.now))) w.in-Ok-Some.field-0-is w.in-Ok-Some.ensures.clean, subst (g.M.Derived.IsRefused c.args.files.now) same w.in-Err-follow.ensures.fault)
-      | in-Ok-None w ↦ absurd (both_ways false refl (ap is_refused (sym w.answer-is ∙ is)))
-      | in-Err w ↦
+      | in-Ok+in-Err w ↦
+          let same : w.in-Err.fault ≡ fault = ap (fault_of fault) (sym w.answer-is ∙ is) in
+          inr (w.in-Ok.ensures.clean, subst (g.M.Derived.IsRefused c.args.files.now) same w.in-Err.ensures.fault)
+      | in-Err-NeedsRebuild w ↦ absurd (both_ways false refl (ap is_refused (sym w.answer-is ∙ is)))
+      | in-Err-NoMemory w ↦
           let same : NoMemory ≡ fault = ap (fault_of fault) (sym w.answer-is ∙ is) in
           inl (subst (IsLinkError c.args.files.now) same tt)
     ]

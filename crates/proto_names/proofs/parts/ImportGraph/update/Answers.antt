@@ -1,10 +1,10 @@
-use Rattle.std.proofs.Common.{◌≡◌, ◌<◌, ℕ, List, length, map, sym, ◌∙◌, ap, subst, arith, All, IfSome}
+use Rattle.std.proofs.Common.{◌≡◌, ◌<◌, ℕ, List, length, map, sym, ◌∙◌, ap, subst, arith, All}
 use Rattle.proto_base.proofs.Common.{Vec}
 use Rattle.proto_files.specs.FilesRead.{AreRead, ReadOf}
 use Rattle.proto_files.specs.GivenFiles.{FileOf}
 use Rattle.proto_names_imports.specs.Laws.{KeepImports}
 use Rattle.proto_names_imports.specs.declared.import.FileImport.{FileImport}
-use Rattle.proto_names_update.specs.KeptImports.{AreImportsAt, WereImports}
+use Rattle.proto_names_update.specs.KeptImports.{WereImports}
 use Rattle.proto_names_imports.proofs.Common.{all_imports}
 use Rattle.proto_names_rules.proofs.Common.{IsAcyclic}
 use Rattle.proto_names.proofs.RenewedImports.{imports_are, imports_count, imports_stay, now_count, now_within, sight_count, sight_is, sight_stays}
@@ -30,73 +30,70 @@ returns-then-branch-clause-sight c = λ reads are.
 pub change_all_at-requires-clause-places : goal.change_all_at-requires-clause-places
 change_all_at-requires-clause-places c = λ k d l. omega (arith, c.requires.places k d l, imports_count c.args.files.now c.args.places.now c.args.self.now.imports.items c.args.self.now.seen.items c.requires.was)
 
-pub change_all_at-requires-clause-paired : goal.change_all_at-requires-clause-paired
-change_all_at-requires-clause-paired c = subst (λ o. IfSome o (λ (v : Vec (Vec FileImport)). length v.items ≡ length c.args.places.now)) c.in-Some.is c.in_ok-now.ensures.len
-
 pub has_no_cycle-requires : goal.has_no_cycle-requires
 has_no_cycle-requires c =
     let files = c.args.files.now in
-    let size = subst (λ o. IfSome o (λ (v : Vec (Vec FileImport)). length v.items ≡ length c.args.places.now)) c.in-Some.is c.in_ok-now.ensures.len in
-    let below = subst (λ o. IfSome o (λ (v : Vec (Vec FileImport)). All (λ v. All (λ i. i.to < length files) v.items) v.items)) c.in-Some.is c.in_ok-now.ensures.within in
+    let size = c.in_ok-now.ensures.len in
+    let below = c.in_ok-now.ensures.within in
     let put = c.in_ok-change_all_at.ensures.items in
-    let n : length files ≡ length c.deref-2.result.now = sym (ap length c.deref-2.ensures.value ∙ now_count files c.args.places.now c.args.self.now.imports.items c.args.self.now.seen.items c.requires.was c.in-Some.now.items size below c.change_all_at.new.items.items put) in
+    let n : length files ≡ length c.deref-2.result.now = sym (ap length c.deref-2.ensures.value ∙ now_count files c.args.places.now c.args.self.now.imports.items c.args.self.now.seen.items c.requires.was c.in_ok-now.now.items size below c.change_all_at.new.items.items put) in
     record {
       count = omega (arith, n, c.len-count.ensures.workspace.few);
       within = subst (λ (k : ℕ). All (λ (v : Vec FileImport). All (λ i. i.to < k) v.items) c.deref-2.result.now) n
-          (subst (All (λ (v : Vec FileImport). All (λ i. i.to < length files) v.items)) (sym c.deref-2.ensures.value) (now_within files c.args.places.now c.args.self.now.imports.items c.args.self.now.seen.items c.requires.was c.in-Some.now.items size below c.change_all_at.new.items.items put));
+          (subst (All (λ (v : Vec FileImport). All (λ i. i.to < length files) v.items)) (sym c.deref-2.ensures.value) (now_within files c.args.places.now c.args.self.now.imports.items c.args.self.now.seen.items c.requires.was c.in_ok-now.now.items size below c.change_all_at.new.items.items put));
     }
 
 pub update_seen-requires-clause-few : goal.update_seen-requires-clause-few
 update_seen-requires-clause-few c =
     let files = c.args.files.now in
-    let size = subst (λ o. IfSome o (λ (v : Vec (Vec FileImport)). length v.items ≡ length c.args.places.now)) c.in-Some.is c.in_ok-now.ensures.len in
-    let below = subst (λ o. IfSome o (λ (v : Vec (Vec FileImport)). All (λ v. All (λ i. i.to < length files) v.items) v.items)) c.in-Some.is c.in_ok-now.ensures.within in
+    let size = c.in_ok-now.ensures.len in
+    let below = c.in_ok-now.ensures.within in
     let put = c.in_ok-change_all_at.ensures.items in
-    let n : length c.deref-3.result.now ≡ length files = ap length c.deref-3.ensures.value ∙ now_count files c.args.places.now c.args.self.now.imports.items c.args.self.now.seen.items c.requires.was c.in-Some.now.items size below c.change_all_at.new.items.items put in
+    let n : length c.deref-3.result.now ≡ length files = ap length c.deref-3.ensures.value ∙ now_count files c.args.places.now c.args.self.now.imports.items c.args.self.now.seen.items c.requires.was c.in_ok-now.now.items size below c.change_all_at.new.items.items put in
     omega (arith, n, c.len-count.ensures.workspace.few)
 
 pub update_seen-requires-clause-within : goal.update_seen-requires-clause-within
 update_seen-requires-clause-within c =
     let files = c.args.files.now in
-    let size = subst (λ o. IfSome o (λ (v : Vec (Vec FileImport)). length v.items ≡ length c.args.places.now)) c.in-Some.is c.in_ok-now.ensures.len in
-    let below = subst (λ o. IfSome o (λ (v : Vec (Vec FileImport)). All (λ v. All (λ i. i.to < length files) v.items) v.items)) c.in-Some.is c.in_ok-now.ensures.within in
+    let size = c.in_ok-now.ensures.len in
+    let below = c.in_ok-now.ensures.within in
     let put = c.in_ok-change_all_at.ensures.items in
-    let n : length c.deref-3.result.now ≡ length files = ap length c.deref-3.ensures.value ∙ now_count files c.args.places.now c.args.self.now.imports.items c.args.self.now.seen.items c.requires.was c.in-Some.now.items size below c.change_all_at.new.items.items put in
+    let n : length c.deref-3.result.now ≡ length files = ap length c.deref-3.ensures.value ∙ now_count files c.args.places.now c.args.self.now.imports.items c.args.self.now.seen.items c.requires.was c.in_ok-now.now.items size below c.change_all_at.new.items.items put in
     subst (λ (k : ℕ). All (λ (v : Vec FileImport). All (λ i. i.to < k) v.items) c.deref-3.result.now) (sym n)
-    (subst (All (λ (v : Vec FileImport). All (λ i. i.to < length files) v.items)) (sym c.deref-3.ensures.value) (now_within files c.args.places.now c.args.self.now.imports.items c.args.self.now.seen.items c.requires.was c.in-Some.now.items size below c.change_all_at.new.items.items put))
+    (subst (All (λ (v : Vec FileImport). All (λ i. i.to < length files) v.items)) (sym c.deref-3.ensures.value) (now_within files c.args.places.now c.args.self.now.imports.items c.args.self.now.seen.items c.requires.was c.in_ok-now.now.items size below c.change_all_at.new.items.items put))
 
 pub update_seen-requires-clause-paired : goal.update_seen-requires-clause-paired
 update_seen-requires-clause-paired c =
     let files = c.args.files.now in
-    let size = subst (λ o. IfSome o (λ (v : Vec (Vec FileImport)). length v.items ≡ length c.args.places.now)) c.in-Some.is c.in_ok-now.ensures.len in
-    let below = subst (λ o. IfSome o (λ (v : Vec (Vec FileImport)). All (λ v. All (λ i. i.to < length files) v.items) v.items)) c.in-Some.is c.in_ok-now.ensures.within in
+    let size = c.in_ok-now.ensures.len in
+    let below = c.in_ok-now.ensures.within in
     let put = c.in_ok-change_all_at.ensures.items in
-    let n : length c.deref-3.result.now ≡ length files = ap length c.deref-3.ensures.value ∙ now_count files c.args.places.now c.args.self.now.imports.items c.args.self.now.seen.items c.requires.was c.in-Some.now.items size below c.change_all_at.new.items.items put in
+    let n : length c.deref-3.result.now ≡ length files = ap length c.deref-3.ensures.value ∙ now_count files c.args.places.now c.args.self.now.imports.items c.args.self.now.seen.items c.requires.was c.in_ok-now.now.items size below c.change_all_at.new.items.items put in
     sight_count files c.args.places.now c.args.self.now.imports.items c.args.self.now.seen.items c.requires.was ∙ sym n
 
 pub returns-clause-imports : goal.returns-clause-imports
 returns-clause-imports c = λ reads are.
     (let files = c.args.files.now in
-    let size = subst (λ o. IfSome o (λ (v : Vec (Vec FileImport)). length v.items ≡ length c.args.places.now)) c.in-Some.is c.in_ok-now.ensures.len in
-    let below = subst (λ o. IfSome o (λ (v : Vec (Vec FileImport)). All (λ v. All (λ i. i.to < length files) v.items) v.items)) c.in-Some.is c.in_ok-now.ensures.within in
+    let size = c.in_ok-now.ensures.len in
+    let below = c.in_ok-now.ensures.within in
     let put = c.in_ok-change_all_at.ensures.items in
-    let own = subst (λ o. IfSome o (λ (v : Vec (Vec FileImport)). (rs : List ReadOf) → AreRead files rs → AreImportsAt files rs c.args.places.now (map (λ x. x.items) v.items))) c.in-Some.is c.in_ok-now.ensures.imports in
-    imports_are files c.args.places.now c.args.self.now.imports.items c.args.self.now.seen.items c.requires.was c.in-Some.now.items size below c.change_all_at.new.items.items put c.listed_imports_are_known.ensures.these c.listed_imports_are_known.ensures.sound own reads are)
+    let own = c.in_ok-now.ensures.imports in
+    imports_are files c.args.places.now c.args.self.now.imports.items c.args.self.now.seen.items c.requires.was c.in_ok-now.now.items size below c.change_all_at.new.items.items put c.listed_imports_are_known.ensures.these c.listed_imports_are_known.ensures.sound own reads are)
 
 pub returns-clause-sight : goal.returns-clause-sight
 returns-clause-sight c = λ reads are.
     (let files = c.args.files.now in
-    let size = subst (λ o. IfSome o (λ (v : Vec (Vec FileImport)). length v.items ≡ length c.args.places.now)) c.in-Some.is c.in_ok-now.ensures.len in
-    let below = subst (λ o. IfSome o (λ (v : Vec (Vec FileImport)). All (λ v. All (λ i. i.to < length files) v.items) v.items)) c.in-Some.is c.in_ok-now.ensures.within in
+    let size = c.in_ok-now.ensures.len in
+    let below = c.in_ok-now.ensures.within in
     let put = c.in_ok-change_all_at.ensures.items in
-    let own = subst (λ o. IfSome o (λ (v : Vec (Vec FileImport)). (rs : List ReadOf) → AreRead files rs → AreImportsAt files rs c.args.places.now (map (λ x. x.items) v.items))) c.in-Some.is c.in_ok-now.ensures.imports in
+    let own = c.in_ok-now.ensures.imports in
     let acyclic = subst (λ (vs : List (Vec FileImport)). IsAcyclic (all_imports 0 (map (λ v. v.items) vs))) c.deref-2.ensures.value (c.in_ok-has_no_cycle.ensures.0 c.if-not-branch.false) in
-    sight_is files c.args.places.now c.args.self.now.imports.items c.args.self.now.seen.items c.requires.was c.in-Some.now.items size below c.change_all_at.new.items.items put c.listed_imports_are_known.ensures.these c.listed_imports_are_known.ensures.sound own reads are acyclic c.deref-3.result.now c.update_seen.new.seen.items c.deref-3.ensures.value c.in_ok-others.ensures.len c.in_ok-others.ensures.exact)
+    sight_is files c.args.places.now c.args.self.now.imports.items c.args.self.now.seen.items c.requires.was c.in_ok-now.now.items size below c.change_all_at.new.items.items put c.listed_imports_are_known.ensures.these c.listed_imports_are_known.ensures.sound own reads are acyclic c.deref-3.result.now c.update_seen.new.seen.items c.deref-3.ensures.value c.in_ok-others.ensures.len c.in_ok-others.ensures.exact)
 
 pub returns-clause-others : goal.returns-clause-others
 returns-clause-others c =
     let files = c.args.files.now in
-    let size = subst (λ o. IfSome o (λ (v : Vec (Vec FileImport)). length v.items ≡ length c.args.places.now)) c.in-Some.is c.in_ok-now.ensures.len in
-    let below = subst (λ o. IfSome o (λ (v : Vec (Vec FileImport)). All (λ v. All (λ i. i.to < length files) v.items) v.items)) c.in-Some.is c.in_ok-now.ensures.within in
+    let size = c.in_ok-now.ensures.len in
+    let below = c.in_ok-now.ensures.within in
     let put = c.in_ok-change_all_at.ensures.items in
-    λ k d l. omega (arith, c.in_ok-others.ensures.others k d l, ap length c.deref-3.ensures.value, now_count files c.args.places.now c.args.self.now.imports.items c.args.self.now.seen.items c.requires.was c.in-Some.now.items size below c.change_all_at.new.items.items put)
+    λ k d l. omega (arith, c.in_ok-others.ensures.others k d l, ap length c.deref-3.ensures.value, now_count files c.args.places.now c.args.self.now.imports.items c.args.self.now.seen.items c.requires.was c.in_ok-now.now.items size below c.change_all_at.new.items.items put)
