@@ -12,13 +12,12 @@ ghost use Rattle.proto_files.specs.FilesRead.{Each};
 ghost use Rattle.proto_names_table.specs.Tables.{IsTable};
 
 use crate::parts::Declarations;
-use crate::references::{ReferenceError, meanings};
+use crate::references::{Lookup, ReferenceError, meanings};
 use proto_base::NoMemory;
 use proto_file_sets::FileSet;
 use proto_files::{Files, Words, are_read};
 use proto_names_outline::listing::Listing;
 use proto_names_table::Meant;
-use proto_names_table::table::Table;
 use std::alloc::Global;
 
 /// What the references of each file mean, in order; else the least that is faulty, by file, token
@@ -62,15 +61,13 @@ pub(crate) fn all_meanings(
     are_read(files);
     let mut meant = Vec::new(alloc);
     for file in 0..files.len() {
-        let own = file_meanings(
-            alloc,
-            files,
-            file as u32,
-            &declarations.table,
-            &seen[file],
-            &declarations.rows[file],
-            &listings[file],
-        )?;
+        let lookup = Lookup {
+            file: file as u32,
+            table: &declarations.table,
+            seen: &seen[file],
+            rows: &declarations.rows[file],
+        };
+        let own = file_meanings(alloc, files, &lookup, &listings[file])?;
         meant.push(own).map_err(NoMemory::from)?;
     }
     Ok(meant)
@@ -81,26 +78,25 @@ pub(crate) fn all_meanings(
 pub(crate) fn file_meanings(
     alloc: Global,
     files: &Files,
-    file: u32,
-    table: &Table,
-    seen: &FileSet,
-    rows: &[usize],
+    lookup: &Lookup,
     listing: &Listing,
 ) -> Result<Vec<Meant>, ReferenceError>
-    requires file { file < length files.now }
-    requires table { IsTable table.now }
-    requires listing { (r : ReadOf) × ReadsIn (file_at files.now file).profile
-        (file_at files.now file).bytes r.tokens r.tree
+    requires file { lookup.now.file < length files.now }
+    requires table { IsTable lookup.now.table.now }
+    requires listing { (r : ReadOf) × ReadsIn (file_at files.now lookup.now.file).profile
+        (file_at files.now lookup.now.file).bytes r.tokens r.tree
         × IsListing r listing.now }
-    requires rows { length rows.now ≡ length listing.now.declared.items }
-    requires within { All (λ r. r < length table.now.rows.items) rows.now }
-    ensures meant { IfOk result (λ ms. (reads : List ReadOf)
-        → AreRead files.now reads → IsFileLinked table.now seen.now rows.now files.now reads file
-        → AreFileMeant table.now files.now reads file ms.items) }
-    ensures fault { IfErr result (λ e. (reads : List ReadOf)
-        → AreRead files.now reads → IsFileLinked table.now seen.now rows.now files.now reads file
-        → IsFileReferenceError files.now reads file e) }
+    requires rows { length lookup.now.rows.now ≡ length listing.now.declared.items }
+    requires within { All (λ r. r < length lookup.now.table.now.rows.items) lookup.now.rows.now }
+    ensures meant { IfOk result (λ ms. (reads : List ReadOf) → AreRead files.now reads
+        → IsFileLinked lookup.now.table.now lookup.now.seen.now lookup.now.rows.now
+        files.now reads lookup.now.file
+        → AreFileMeant lookup.now.table.now files.now reads lookup.now.file ms.items) }
+    ensures fault { IfErr result (λ e. (reads : List ReadOf) → AreRead files.now reads
+        → IsFileLinked lookup.now.table.now lookup.now.seen.now lookup.now.rows.now
+        files.now reads lookup.now.file
+        → IsFileReferenceError files.now reads lookup.now.file e) }
 {
-    let words = Words::new(files, file);
-    meanings(alloc, table, seen, &words, file, rows, &listing.used)
+    let words = Words::new(files, lookup.file);
+    meanings(alloc, lookup, &words, &listing.used)
 }

@@ -24,4 +24,5 @@ pub use proto_files::are_read;
 pub use proto_names_rules::Kind;
 pub use proto_names_table::{Meant, RefId, SymbolId};
 pub use read_files::all_written;
+pub use references::{Lookup, token_of};
 pub use resolve::resolved_row;

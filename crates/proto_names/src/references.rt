@@ -43,41 +43,56 @@ pub(crate) struct BadReference {
 /// Why the references of a file have no meanings: the first that is faulty, or out of memory.
 pub(crate) type ReferenceError = OrNoMemory<BadReference>;
 
+/// By what the references of a file are resolved.
+#[derive(Clone, Copy)]
+pub struct Lookup<'a> {
+    /// The number of the file, from 0.
+    pub file: u32,
+    /// The names of all files.
+    pub table: &'a Table,
+    /// The files that this one sees.
+    pub seen: &'a FileSet,
+    /// The rows of what it declares, its package first.
+    pub rows: &'a [usize],
+}
+
 /// What the references of a file mean, in order; else the first that is faulty, or out of memory.
-/// The scopes are by index among the file's declarations, and `rows` has the row of each.
+/// The scopes are by index among the file's declarations.
 pub(crate) fn meanings(
     alloc: Global,
-    table: &Table,
-    seen: &FileSet,
+    lookup: &Lookup,
     words: &Words,
-    file: u32,
-    rows: &[usize],
     uses: &[Use],
 ) -> Result<Vec<Meant>, ReferenceError>
-    requires table { IsTable table.now }
-    requires rows { All (λ r. r < length table.now.rows.items) rows.now }
-    requires scopes { All (λ u. needs u.scope ≤ length rows.now) uses.now }
+    requires table { IsTable lookup.now.table.now }
+    requires rows { All (λ r. r < length lookup.now.table.now.rows.items) lookup.now.rows.now }
+    requires scopes { All (λ u. needs u.scope ≤ length lookup.now.rows.now) uses.now }
     requires plain { All
         (λ u. ArePlain (map (word_at words.now) (dotted u.reference.now.words))) uses.now }
-    ensures meant { IfOk result (λ ms. (w : Workspace)
-        (names : List (List (List ℕ))) → IsReadBy table.now seen.now rows.now names file w
-        → AreMeant table.now w (map (reference_by file names (word_at words.now)) uses.now)
+    ensures meant { IfOk result (λ ms. (w : Workspace) (names : List (List (List ℕ)))
+        → IsReadBy lookup.now.table.now lookup.now.seen.now lookup.now.rows.now names
+        lookup.now.file w
+        → AreMeant lookup.now.table.now w
+        (map (reference_by lookup.now.file names (word_at words.now)) uses.now)
         (map first_token_of_use uses.now) ms.items) }
-    ensures fault { IfErr result (λ e. (w : Workspace)
-        (names : List (List (List ℕ))) → IsReadBy table.now seen.now rows.now names file w
-        → IsReferenceError w (reference_by file names (word_at words.now)) file uses.now e) }
+    ensures fault { IfErr result (λ e. (w : Workspace) (names : List (List (List ℕ)))
+        → IsReadBy lookup.now.table.now lookup.now.seen.now lookup.now.rows.now names
+        lookup.now.file w
+        → IsReferenceError w (reference_by lookup.now.file names (word_at words.now))
+        lookup.now.file uses.now e) }
 {
+    let file = lookup.file;
     let mut meant = Vec::new(alloc);
     for used in uses {
         let scope = match used.scope {
             Above::Outermost => 0,
-            Above::Below(k) => rows[k] + 1,
+            Above::Below(k) => lookup.rows[k] + 1,
         };
-        let row = resolved_row(table, seen, words, scope, used.reference);
+        let row = resolved_row(lookup.table, lookup.seen, words, scope, used.reference);
         let token = token_of(used.reference);
         let word = words.get(used.reference.words.first);
         let first = word_key(word);
-        match sound_row(table, row, used.wants_message) {
+        match sound_row(lookup.table, row, used.wants_message) {
             Ok(row) => meant
                 .push(Meant { token, first, row })
                 .map_err(NoMemory::from)?,
@@ -88,7 +103,7 @@ pub(crate) fn meanings(
 }
 
 /// The token that a reference begins with.
-fn token_of(reference: &Reference) -> u32
+pub fn token_of(reference: &Reference) -> u32
     ensures { result ≡ first_of reference.now.dot reference.now.words }
 {
     match reference.dot {

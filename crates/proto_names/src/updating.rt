@@ -25,7 +25,7 @@ ghost use Rattle.proto_names_table.specs.Tables.{IsTable};
 use crate::all_references::file_meanings;
 use crate::link_log::{DeclarationLog, LinkLog, NamesLog};
 use crate::parts::{Declarations, LinkParts, Resolutions};
-use crate::references::ReferenceError;
+use crate::references::{Lookup, ReferenceError};
 use proto_base::laws::added_are_cut;
 use proto_base::{Change, NoMemory, change_all_at, change_at};
 use proto_file_sets::FileSet;
@@ -150,16 +150,13 @@ fn resolve_file(
     are_read(resolver.files);
     let listing = list_file(alloc, resolver.files.tree(file))?;
     let place = file as usize;
-    let found = file_meanings(
-        alloc,
-        resolver.files,
+    let lookup = Lookup {
         file,
-        &resolver.declarations.table,
-        &resolver.seen[place],
-        &resolver.declarations.rows[place],
-        &listing,
-    );
-    match found {
+        table: &resolver.declarations.table,
+        seen: &resolver.seen[place],
+        rows: &resolver.declarations.rows[place],
+    };
+    match file_meanings(alloc, resolver.files, &lookup, &listing) {
         Ok(own) => {
             change_at(meant, log, place, own)?;
             Ok(true)

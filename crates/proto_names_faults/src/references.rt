@@ -25,11 +25,12 @@ use crate::flaw::{Flaw, add_flaw};
 use crate::listings::listings;
 use crate::located::listed;
 use crate::names::{Names, names_of_files};
-use crate::resolving::{View, kind_fault, resolved_kind, token_of};
+use crate::resolving::{kind_fault, resolved_kind};
 use crate::sight::all_sight;
 use proto_base::{Fault, NoMemory};
 use proto_file_sets::FileSet;
 use proto_files::{Files, Words, are_read};
+use proto_names::{Lookup, token_of};
 use proto_names_outline::listing::{Listing, Use};
 use std::alloc::Global;
 
@@ -104,13 +105,13 @@ fn flaws_of_uses(
     are_read(files);
     let mut found = Vec::new(alloc);
     for file in 0..files.len() {
-        let view = View {
+        let lookup = Lookup {
             file: file as u32,
             table: &names.table,
             seen: &seen[file],
             rows: &names.rows[file],
         };
-        add_file_flaws(files, &view, &listings[file], &mut found)?;
+        add_file_flaws(files, &lookup, &listings[file], &mut found)?;
     }
     Ok(found)
 }
@@ -118,47 +119,47 @@ fn flaws_of_uses(
 /// Adds the flaws of the references of one file.
 fn add_file_flaws(
     files: &Files,
-    view: &View,
+    lookup: &Lookup,
     listing: &Listing,
     found: &mut Vec<Flaw>,
 ) -> Result<(), NoMemory>
-    requires file { view.now.file < length files.now }
-    requires table { IsTable view.now.table.now }
-    requires listing { (r : ReadOf) × ReadsIn (file_at files.now view.now.file).profile
-        (file_at files.now view.now.file).bytes r.tokens r.tree × IsListing r listing.now }
-    requires rows { length view.now.rows.now ≡ length listing.now.declared.items }
-    requires within { All (λ r. r < length view.now.table.now.rows.items) view.now.rows.now }
+    requires file { lookup.now.file < length files.now }
+    requires table { IsTable lookup.now.table.now }
+    requires listing { (r : ReadOf) × ReadsIn (file_at files.now lookup.now.file).profile
+        (file_at files.now lookup.now.file).bytes r.tokens r.tree × IsListing r listing.now }
+    requires rows { length lookup.now.rows.now ≡ length listing.now.declared.items }
+    requires within { All (λ r. r < length lookup.now.table.now.rows.items) lookup.now.rows.now }
     ensures { OnOk result ((reads : List ReadOf) → AreRead files.now reads
-        → IsFileLinked view.now.table.now view.now.seen.now view.now.rows.now files.now reads
-        view.now.file
-        → AreAdded (IsFaultIn files.now reads view.now.file) found.old.items found.new.items) }
+        → IsFileLinked lookup.now.table.now lookup.now.seen.now lookup.now.rows.now files.now reads
+        lookup.now.file
+        → AreAdded (IsFaultIn files.now reads lookup.now.file) found.old.items found.new.items) }
 {
-    let words = Words::new(files, view.file);
-    add_use_flaws(view, &words, &listing.used, found)
+    let words = Words::new(files, lookup.file);
+    add_use_flaws(lookup, &words, &listing.used, found)
 }
 
 /// Adds the flaws of these references of a file.
 fn add_use_flaws(
-    view: &View,
+    lookup: &Lookup,
     words: &Words,
     uses: &[Use],
     found: &mut Vec<Flaw>,
 ) -> Result<(), NoMemory>
-    requires table { IsTable view.now.table.now }
-    requires rows { All (λ r. r < length view.now.table.now.rows.items) view.now.rows.now }
-    requires scopes { All (λ u. needs u.scope ≤ length view.now.rows.now) uses.now }
+    requires table { IsTable lookup.now.table.now }
+    requires rows { All (λ r. r < length lookup.now.table.now.rows.items) lookup.now.rows.now }
+    requires scopes { All (λ u. needs u.scope ≤ length lookup.now.rows.now) uses.now }
     requires plain { All
         (λ u. ArePlain (map (word_at words.now) (dotted u.reference.now.words))) uses.now }
     ensures { OnOk result ((w : Workspace) (names : List (List (List ℕ)))
-        → IsReadBy view.now.table.now view.now.seen.now view.now.rows.now names view.now.file w
-        → AreAdded (IsListedFault w (reference_by view.now.file names (word_at words.now))
-        view.now.file uses.now) found.old.items found.new.items) }
+        → IsReadBy lookup.now.table.now lookup.now.seen.now lookup.now.rows.now names lookup.now.file w
+        → AreAdded (IsListedFault w (reference_by lookup.now.file names (word_at words.now))
+        lookup.now.file uses.now) found.old.items found.new.items) }
 {
     for used in uses {
-        let kind = resolved_kind(view, words, used);
+        let kind = resolved_kind(lookup, words, used);
         let token = token_of(used.reference);
         let fault = kind_fault(kind, used.wants_message);
-        add_flaw(found, view.file, token, fault)?;
+        add_flaw(found, lookup.file, token, fault)?;
     }
     Ok(())
 }

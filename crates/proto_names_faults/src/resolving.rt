@@ -3,7 +3,7 @@
 ghost use Rattle.std.specs.Prelude.{◌≡◌, ◌<◌, ◌≤◌, ℕ, List, length, map, option_and_then};
 ghost use Rattle.std.specs.List.{All};
 ghost use Rattle.proto_text.specs.Texts.{word_at};
-ghost use Rattle.proto_tree.specs.References.{dotted, first_of};
+ghost use Rattle.proto_tree.specs.References.{dotted};
 ghost use Rattle.proto_names_outline.specs.Listing.{needs};
 ghost use Rattle.proto_names_rules.specs.Joined.{ArePlain};
 ghost use Rattle.proto_names_rules.specs.Names.{Workspace};
@@ -12,44 +12,30 @@ ghost use Rattle.proto_names.specs.Referring.{IsReadBy, reference_by};
 ghost use Rattle.proto_names_faults.specs.Resolving.{IsKindOf, kind_fault, kind_in, type_fault};
 
 use proto_base::FaultKind;
-use proto_file_sets::FileSet;
 use proto_files::Words;
-use proto_names::resolved_row;
+use proto_names::{Lookup, resolved_row};
 use proto_names_outline::listing::{Above, Use};
 use proto_names_rules::Kind;
 use proto_names_table::table::Table;
-use proto_tree::Reference;
-
-/// By what the references of a file are resolved.
-#[derive(Clone, Copy)]
-pub(crate) struct View<'a> {
-    /// The number of the file, from 0.
-    pub(crate) file: u32,
-    /// The names of all files.
-    pub(crate) table: &'a Table,
-    /// The files that this one sees.
-    pub(crate) seen: &'a FileSet,
-    /// The rows of what it declares, its package first.
-    pub(crate) rows: &'a [usize],
-}
 
 /// The kind of what a reference resolves to; none where it resolves to nothing. Takes no memory.
-pub(crate) fn resolved_kind(view: &View, words: &Words, used: &Use) -> Option<Kind>
-    requires table { IsTable view.now.table.now }
-    requires rows { All (λ r. r < length view.now.table.now.rows.items) view.now.rows.now }
-    requires scope { needs used.now.scope ≤ length view.now.rows.now }
+pub(crate) fn resolved_kind(lookup: &Lookup, words: &Words, used: &Use) -> Option<Kind>
+    requires table { IsTable lookup.now.table.now }
+    requires rows { All (λ r. r < length lookup.now.table.now.rows.items) lookup.now.rows.now }
+    requires scope { needs used.now.scope ≤ length lookup.now.rows.now }
     requires plain { ArePlain
         (map (word_at words.now) (dotted used.now.reference.now.words)) }
     ensures { (w : Workspace) (names : List (List (List ℕ)))
-        → IsReadBy view.now.table.now view.now.seen.now view.now.rows.now names view.now.file w
-        → IsKindOf w (reference_by view.now.file names (word_at words.now) used.now) result }
+        → IsReadBy lookup.now.table.now lookup.now.seen.now lookup.now.rows.now names
+        lookup.now.file w
+        → IsKindOf w (reference_by lookup.now.file names (word_at words.now) used.now) result }
 {
     let scope = match used.scope {
         Above::Outermost => 0,
-        Above::Below(k) => view.rows[k] + 1,
+        Above::Below(k) => lookup.rows[k] + 1,
     };
-    let row = resolved_row(view.table, view.seen, words, scope, used.reference);
-    kind_at_row(view.table, row)
+    let row = resolved_row(lookup.table, lookup.seen, words, scope, used.reference);
+    kind_at_row(lookup.table, row)
 }
 
 /// The kind of the name with this row.
@@ -59,16 +45,6 @@ fn kind_at_row(table: &Table, row: Option<usize>) -> Option<Kind>
     let row = row?;
     let found = table.rows.get(row)?;
     Some(found.symbol.kind)
-}
-
-/// The token that a reference begins with.
-pub(crate) fn token_of(reference: &Reference) -> u32
-    ensures { result ≡ first_of reference.now.dot reference.now.words }
-{
-    match reference.dot {
-        Some(dot) => dot,
-        None => reference.words.first,
-    }
 }
 
 /// What is wrong with a reference that resolves to a name of this kind, or to nothing.

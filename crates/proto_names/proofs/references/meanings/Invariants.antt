@@ -5,5 +5,5 @@ use Rattle.proto_names.specs.Referring.{first_token_of_use, reference_by, AreMea
 use Rattle.proto_names.proofs.references.meanings.Given as goal
 
 abbrev pub invariant-loop-used : goal.invariant-loop-used
-invariant-loop-used l = (w : Workspace) (names : List (List (List ℕ))) → IsReadBy l.table l.seen l.rows names l.file w
-    → AreMeant l.table w (map (reference_by l.file names (word_at l.words)) (take l.used-index l.uses)) (map first_token_of_use (take l.used-index l.uses)) l.meant.items
+invariant-loop-used l = (w : Workspace) (names : List (List (List ℕ))) → IsReadBy l.lookup.table.now l.lookup.seen.now l.lookup.rows.now names l.lookup.file w
+    → AreMeant l.lookup.table.now w (map (reference_by l.lookup.file names (word_at l.words)) (take l.used-index l.uses)) (map first_token_of_use (take l.used-index l.uses)) l.meant.items

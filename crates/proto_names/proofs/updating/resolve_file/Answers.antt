@@ -13,14 +13,14 @@ bounds-resolver-place c =
     let are = c.are_read.ensures.1 in
     sees_within c.args.resolver.declarations.now.table c.args.resolver.seen.now c.args.resolver.declarations.now.rows.items c.args.resolver.files.now reads c.args.file (c.requires.linked reads are)
 
-pub file_meanings-found-requires-clause-listing : goal.file_meanings-found-requires-clause-listing
-file_meanings-found-requires-clause-listing c =
+pub file_meanings-requires-clause-listing : goal.file_meanings-requires-clause-listing
+file_meanings-requires-clause-listing c =
     let reads = c.are_read.ensures.0 in
     let are = c.are_read.ensures.1 in
     (read_at reads c.args.file, are.trees c.args.file c.requires.file, listing_at c.args.resolver.files.now reads c.args.file (tree_of_file c.tree.result.now) c.in_ok-listing.listing are c.requires.file c.tree.ensures c.in_ok-listing.ensures.sound c.in_ok-listing.ensures.declared c.in_ok-listing.ensures.used)
 
-pub file_meanings-found-requires-clause-rows : goal.file_meanings-found-requires-clause-rows
-file_meanings-found-requires-clause-rows c =
+pub file_meanings-requires-clause-rows : goal.file_meanings-requires-clause-rows
+file_meanings-requires-clause-rows c =
     let reads = c.are_read.ensures.0 in
     let are = c.are_read.ensures.1 in
     let own = rows_at c.args.resolver.declarations.now.rows.items c.args.file (omega (arith, c.requires.file, c.requires.paired)) c.index.result.now c.index.ensures c.deref.result.now c.deref.ensures.value in

@@ -12,19 +12,19 @@ use Rattle.proto_names_faults.proofs.references.add_file_flaws.Goals as goal
 
 pub add_use_flaws-requires-clause-plain : goal.add_use_flaws-requires-clause-plain
 add_use_flaws-requires-clause-plain c =
-    let bytes = (file_at c.args.files.now c.args.view.now.file).bytes in
+    let bytes = (file_at c.args.files.now c.args.lookup.now.file).bytes in
     let r = c.requires.listing.0 in
     let reads = c.requires.listing.1 in
     let tokens = one_token_list bytes r.tokens c.new-words.ensures.some.0 reads.tokens_are c.new-words.ensures.some.1 in
     let words : map (lexeme_at bytes) r.tokens ≡ c.new-words.result = ap (map (lexeme_at bytes)) tokens ∙ sym c.new-words.ensures.some.2 in
     subst (λ (us : List Use). All (λ u. ArePlain (map (word_at c.new-words.result) (dotted u.reference.now.words))) us) (sym c.deref.ensures.value)
     (subst (λ (ls : List Lexeme). All (λ u. ArePlain (map (word_at ls) (dotted u.reference.now.words))) c.args.listing.now.used.items) words
-    (words_plain (file_at c.args.files.now c.args.view.now.file).profile bytes r c.args.listing.now reads c.requires.listing.2))
+    (words_plain (file_at c.args.files.now c.args.lookup.now.file).profile bytes r c.args.listing.now reads c.requires.listing.2))
 
 pub returns : goal.returns
 returns c =
     let files = c.args.files.now in
-    let file = c.args.view.now.file in
+    let file = c.args.lookup.now.file in
     let listing = c.args.listing.now in
     on_ok_weaker c.add_use_flaws.result
     (λ h reads are linked.

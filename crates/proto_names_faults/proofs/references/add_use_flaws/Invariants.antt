@@ -6,5 +6,5 @@ use Rattle.proto_names_faults.specs.Common.{AreAdded, IsListedFault}
 use Rattle.proto_names_faults.proofs.references.add_use_flaws.Given as goal
 
 abbrev pub invariant-loop-used : goal.invariant-loop-used
-invariant-loop-used l = (w : Workspace) (names : List (List (List ℕ))) → IsReadBy l.view.table.now l.view.seen.now l.view.rows.now names l.view.file w
-    → AreAdded (IsListedFault w (reference_by l.view.file names (word_at l.words)) l.view.file (take l.used-index l.uses)) l.fn.found.items l.found.items
+invariant-loop-used l = (w : Workspace) (names : List (List (List ℕ))) → IsReadBy l.lookup.table.now l.lookup.seen.now l.lookup.rows.now names l.lookup.file w
+    → AreAdded (IsListedFault w (reference_by l.lookup.file names (word_at l.words)) l.lookup.file (take l.used-index l.uses)) l.fn.found.items l.found.items
