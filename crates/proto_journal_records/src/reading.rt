@@ -21,12 +21,13 @@ ghost use Rattle.proto_journal_records.specs.declared.fault.JournalFault.TheVari
 
 use crate::fault::JournalFault;
 use crate::record::{Record, State, Version};
-use crate::writing::line_of;
+use crate::writing::bytes_of;
 use json::{Error, Scratch, Value};
 use proto_base::NoMemory;
 use proto_edit_entries::{Change, Edit, Entry};
 use proto_text::{Splice, Splices};
 use std::alloc::Global;
+use std::mem;
 
 fn small_number_at(value: &Value<'_>, key: &str) -> Option<u32>
     ensures { (n : ℕ) → n < 2 ^ 32
@@ -390,28 +391,53 @@ fn read_shape(
     read_record(alloc, version, &value)
 }
 
+/// What is kept from line to line, so that a line takes no memory for itself.
+#[derive(Drop)]
+pub(crate) struct LineBuffers {
+    scratch: Scratch,
+    /// The bytes of the last line that was written.
+    written: Vec<u8>,
+}
+
+impl LineBuffers {
+    /// Buffers of no line yet. Takes no memory.
+    pub(crate) fn new(alloc: Global) -> LineBuffers {
+        LineBuffers {
+            scratch: Scratch::new(alloc),
+            written: Vec::new(alloc),
+        }
+    }
+}
+
+// Whether a line, without its line feed, is the text of a record. The bytes of that are put into
+// the buffer.
 fn is_text_of(
     alloc: Global,
     version: Version,
-    bytes: &[u8],
+    line: &[u8],
     noted: &Record,
+    written: &mut Vec<u8>,
 ) -> Result<bool, NoMemory>
     requires { IsTold version noted.now.edit }
-    ensures same { IfOk result (λ b. IsTrue b ↔ (record_text version noted.now ≡ bytes.now)) }
+    ensures same { IfOk result
+        (λ b. IsTrue b ↔ (compact_text (record_data version noted.now) ≡ line.now)) }
     ensures is { OnOk result (IsRecord version noted.now) }
 {
-    let text = line_of(alloc, version, &noted.parts())?;
-    Ok(text.as_bytes() == bytes)
+    let buffer = mem::replace(written, Vec::new(alloc));
+    let bytes = bytes_of(buffer, version, &noted.parts())?;
+    let is_same = bytes.as_slice() == line;
+    *written = bytes;
+    Ok(is_same)
 }
 
 /// The record that has these bytes for its text in this version: a line with its line feed. Each
 /// record has one spelling, and any other is BadJournal, as are bytes that are no record's text.
-/// Beside that it fails only when out of memory. The scratch is kept from line to line.
+/// Beside that it fails only when out of memory.
 pub(crate) fn read_line(
     alloc: Global,
     version: Version,
     bytes: &[u8],
-    scratch: &mut Scratch,
+    buffers: &mut LineBuffers,
 ) -> Result<Record, JournalFault>
     ensures ok { IfOk result (λ r. (record_text version r ≡ bytes.now) × IsRecord version r) }
     ensures err { IfErr result (λ e. (e ≡ JournalFault.BadJournal) ⊎ (e ≡ JournalFault.NoMemory)) }
@@ -424,10 +450,10 @@ pub(crate) fn read_line(
     if *last != b'\n' {
         return Err(JournalFault::BadJournal);
     }
-    let Some(found) = read_shape(alloc, version, line, scratch)? else {
+    let Some(found) = read_shape(alloc, version, line, &mut buffers.scratch)? else {
         return Err(JournalFault::BadJournal);
     };
-    let is_same = is_text_of(alloc, version, bytes, &found)?;
+    let is_same = is_text_of(alloc, version, line, &found, &mut buffers.written)?;
     if is_same {
         Ok(found)
     } else {
@@ -444,6 +470,6 @@ pub fn read_entry(alloc: Global, bytes: &[u8]) -> Result<Record, JournalFault>
     ensures bad { result ≡ Err JournalFault.BadJournal
         → (r : RecordOf) → IsRecord second r → record_text second r ≢ bytes.now }
 {
-    let mut scratch = Scratch::new(alloc);
-    read_line(alloc, Version::Second, bytes, &mut scratch)
+    let mut buffers = LineBuffers::new(alloc);
+    read_line(alloc, Version::Second, bytes, &mut buffers)
 }

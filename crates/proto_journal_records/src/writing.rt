@@ -1,10 +1,12 @@
 //! The text of a record.
 
 ghost use Rattle.std.specs.Prelude.{◌≡◌, [], ◌∷◌, ◌++◌, All, IfOk, OnOk, Option, codes, decimal, map, option_map};
+ghost use Rattle.std.specs.Str.{IsUtf8};
 ghost use Rattle.std.specs.String.{string_bytes};
 ghost use Rattle.json.specs.Token.{begin_object, end_object, key as key_token, number, string};
 ghost use Rattle.serde_json.specs.Data.{array};
 ghost use Rattle.serde_json.specs.View.{items_of};
+ghost use Rattle.serde_json.specs.Written.{compact_text};
 ghost use Rattle.proto_text.specs.Splicing.{edit_of, edits};
 ghost use Rattle.proto_edit_entries.specs.EditsAsked.{Asked, asked};
 ghost use Rattle.proto_edit_entries.specs.Entries.{change_of, IsEntry};
@@ -256,6 +258,26 @@ fn write_record(
     }
 }
 
+/// The bytes of the record of these parts before its line feed, in a buffer, in place of what that
+/// held. The first version does not tell the edit, so none is given there.
+pub(crate) fn bytes_of(
+    buffer: Vec<u8>,
+    version: Version,
+    parts: &RecordParts,
+) -> Result<Vec<u8>, NoMemory>
+    requires { IsTold version (record_of parts.now).edit }
+    ensures text { IfOk result (λ bytes. bytes.items
+        ≡ compact_text (record_data version (record_of parts.now))) }
+    ensures utf8 { IfOk result (λ bytes. IsUtf8 bytes.items) }
+    ensures is { OnOk result (IsRecord version (record_of parts.now)) }
+{
+    let mut buffer = buffer;
+    buffer.clear();
+    let mut writer = Writer::new(buffer);
+    write_record(&mut writer, version, parts)?;
+    Ok(writer.into_inner())
+}
+
 /// The text of the record of these parts, with its line feed. The first version does not tell the
 /// edit, so none is given there.
 pub fn line_of(alloc: Global, version: Version, parts: &RecordParts) -> Result<String, NoMemory>
@@ -264,10 +286,8 @@ pub fn line_of(alloc: Global, version: Version, parts: &RecordParts) -> Result<S
         (λ s. string_bytes s ≡ record_text version (record_of parts.now)) }
     ensures is { OnOk result (IsRecord version (record_of parts.now)) }
 {
-    let bytes = Vec::with_capacity(alloc, LINE_ROOM)?;
-    let mut writer = Writer::new(bytes);
-    write_record(&mut writer, version, parts)?;
-    let mut text = String::from_utf8(writer.into_inner()).unwrap();
+    let bytes = bytes_of(Vec::with_capacity(alloc, LINE_ROOM)?, version, parts)?;
+    let mut text = String::from_utf8(bytes).unwrap();
     text.push('\n')?;
     Ok(text)
 }

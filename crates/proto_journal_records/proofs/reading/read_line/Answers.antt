@@ -1,5 +1,6 @@
 use Rattle.std.proofs.Common.{rules, ◌≡◌, [], ◌∷◌, ◌++◌, length, ap, sym, ◌∙◌, true≢false}
-use Rattle.proto_journal_records.specs.RecordText.{record_text}
+use Rattle.serde_json.specs.Written.{compact_text}
+use Rattle.proto_journal_records.specs.RecordText.{record_data, record_text}
 use Rattle.proto_journal_records.proofs.RecordTexts.{line_parts, text_some}
 use Rattle.proto_journal_records.proofs.reading.read_line.Goals as goal
 
@@ -27,7 +28,16 @@ returns-else-is_same-clause-bad c = λ is r h e.
     let p = line_parts c.args.version r c.args.bytes.now c.in-Some.line.now c.in-Some.last.now split e in
     let found = c.in_ok-found.ensures.shape r h p.1 in
     let same : c.in-Some-2.found ≡ r = rw c.in-Some-2.is at found in
-    true≢false (sym (c.in_ok-is_same.ensures.same.1 (ap (record_text c.args.version) same ∙ e)) ∙ c.if-is_same.false)
+    true≢false (sym (c.in_ok-is_same.ensures.same.1 (ap (λ s. compact_text (record_data c.args.version s)) same ∙ sym p.1)) ∙ c.if-is_same.false)
 
 pub is_text_of-requires : goal.is_text_of-requires
 is_text_of-requires c = let told = c.in_ok-found.ensures.told in rw c.in-Some-2.is at told
+
+pub returns-then-is_same-clause-ok : goal.returns-then-is_same-clause-ok
+unfolding record_text
+returns-then-is_same-clause-ok c =
+    let line = c.in-Some.line.now in
+    let split : c.args.bytes.now ≡ line ++ c.in-Some.last.now ∷ [] = search rules in
+    let ends : c.in-Some.last.now ≡ 10 = search rules in
+    let same : compact_text (record_data c.args.version c.in-Some-2.found) ≡ line = c.in_ok-is_same.ensures.same.0 c.if-is_same.true in
+    (ap (λ s. s ++ 10 ∷ []) same ∙ ap (λ b. line ++ b ∷ []) (sym ends) ∙ sym split, c.in_ok-is_same.ensures.is)
