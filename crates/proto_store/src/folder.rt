@@ -2,7 +2,7 @@
 
 ghost use Rattle.std.specs.Prelude.{◌≡◌, ◌⊎◌, ◌+◌, ◌-◌, ◌^◌, ◌<◌, [], IfOk, IsErr, OnErr, OnOk, map, option_map};
 ghost use Rattle.std.specs.String.{string_bytes};
-ghost use Rattle.proto_base.specs.declared.profile.Profile.TheVariants.{AsWritten, Core};
+ghost use Rattle.proto_base.specs.declared.profile.Profile.TheVariants.{Core};
 ghost use Rattle.proto_store.specs.Stores.{AreOf, Counts, HoldsBytes, HoldsJournal, ListsPaths, unknown, with_file, with_journal};
 
 mod foreseeing;
@@ -84,19 +84,11 @@ impl<'a, R: Files + Clock + AllocGlobal> FolderStore<'a, R> {
         FolderStore::of_language(rt, root, Profile::Core)
     }
 
-    /// The store of the folder at this path, whose files are of the language as written.
-    pub fn as_written(rt: &'a R, root: &'a str) -> FolderStore<'a, R>
+    /// The store of the folder at this path, whose files are of this language.
+    pub fn of_language(rt: &'a R, root: &'a str, profile: Profile) -> FolderStore<'a, R>
         ensures root { result.root.now ≡ root.now }
         ensures failures { result.failures ≡ 0 }
-        ensures language { result.profile ≡ AsWritten }
-    {
-        FolderStore::of_language(rt, root, Profile::AsWritten)
-    }
-
-    // The store of the folder at this path, whose files are of a language.
-    fn of_language(rt: &'a R, root: &'a str, profile: Profile) -> FolderStore<'a, R>
-        ensures root { result.root.now ≡ root.now }
-        ensures failures { result.failures ≡ 0 }
+        ensures count { ⟦<FolderStore<'a, R> as Store>⟧.failure_count result ≡ 0 }
         ensures language { result.profile ≡ profile }
     {
         FolderStore {

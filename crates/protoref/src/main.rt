@@ -76,20 +76,6 @@ fn words<R: Env + AllocGlobal>(rt: &R) -> Result<Vec<String>, UsageError> {
     }
 }
 
-// The store of the folder at a path, whose files are of a language.
-fn store_of<'a, R: Files + Clock + AllocGlobal>(
-    rt: &'a R,
-    profile: Profile,
-    root: &'a str,
-) -> FolderStore<'a, R>
-    ensures { ⟦<FolderStore<'a, R> as Store>⟧.failure_count result ≡ 0 }
-{
-    match profile {
-        Profile::Core => FolderStore::new(rt, root),
-        Profile::AsWritten => FolderStore::as_written(rt, root),
-    }
-}
-
 // Runs a command over the folder at a path, whose files are of a language.
 fn run_over<R: Files<File = File> + Clock + Print + AllocGlobal>(
     rt: &R,
@@ -97,7 +83,7 @@ fn run_over<R: Files<File = File> + Clock + Print + AllocGlobal>(
     command: Command,
     root: &str,
 ) -> Result<u8, &'static str> {
-    let mut store = store_of(rt, profile, root);
+    let mut store = FolderStore::of_language(rt, root, profile);
     let mut kept = Retained::new();
     let code = match begin(&mut store, way_for(&command)) {
         Ok(()) => {

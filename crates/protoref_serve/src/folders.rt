@@ -1,10 +1,10 @@
 //! The folders of the machine.
 
-ghost use Rattle.std.specs.Prelude.{◌≡◌, None};
+ghost use Rattle.std.specs.Prelude.{None};
 
 use proto_base::Profile;
 use proto_session::{Folders, ReadOnly, read_folder};
-use proto_store::{FolderStore, ReadingFault, Store};
+use proto_store::{FolderStore, ReadingFault};
 use std::alloc::Global;
 use std::fs::{File, TryLockError};
 use std::rt::{Clock, Files};
@@ -37,22 +37,8 @@ impl<'a, R: Files<File = File> + Clock + AllocGlobal> Folders for HostFolders<'a
         // Held while the folder is read: a command that writes waits for it.
         let _lock = shared_lock(self.rt, folder)?;
         // The store is made for each reading, and can only be read.
-        let mut store = ReadOnly::new(store_of(self.rt, profile, folder));
+        let mut store = ReadOnly::new(FolderStore::of_language(self.rt, folder, profile));
         read_folder(alloc, &mut store)
-    }
-}
-
-// The store of the folder at a path, whose files are of a language.
-fn store_of<'a, R: Files + Clock + AllocGlobal>(
-    rt: &'a R,
-    profile: Profile,
-    root: &'a str,
-) -> FolderStore<'a, R>
-    ensures { ⟦<FolderStore<'a, R> as Store>⟧.failure_count result ≡ 0 }
-{
-    match profile {
-        Profile::Core => FolderStore::new(rt, root),
-        Profile::AsWritten => FolderStore::as_written(rt, root),
     }
 }
 
