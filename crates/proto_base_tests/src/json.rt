@@ -427,11 +427,17 @@ fn descriptors_as_json(rt: HostRuntime) {
     }
 }
 
-// A file whose message has another in it, unless memory is refused.
-fn nested_file(alloc: Global) -> Result<FileDescriptor, NoMemory> {
+// A message that has another in it.
+fn nested_message(alloc: Global) -> Result<MessageDescriptor, NoMemory> {
     let inner = empty_message(alloc, String::from_str(alloc, "N")?, false);
     let mut outer = empty_message(alloc, String::from_str(alloc, "M")?, false);
     outer.nested_type.push(inner)?;
+    Ok(outer)
+}
+
+// A file of that message, unless memory is refused.
+fn nested_file(alloc: Global) -> Result<FileDescriptor, NoMemory> {
+    let outer = nested_message(alloc)?;
     let mut file = empty_file(alloc, String::from_str(alloc, "a.proto")?, Syntax::Proto2);
     file.message_type.push(outer)?;
     Ok(file)

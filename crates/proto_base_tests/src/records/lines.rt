@@ -447,14 +447,41 @@ fn is_import_told<R: AllocGlobal + Abort>(rt: &R, file: &str, path: &str) -> boo
     is_added
 }
 
+// A name, a new name, and whether a record may tell of that rename.
+const RENAMES: &[(&str, &str, bool)] = &[
+    ("A.b_c", "d_e", true),
+    ("X.y", "message", true),
+    (".A.b_c", "d_e", false),
+    ("", "d_e", false),
+    ("A.b_c", "a.b", false),
+    ("1Entry.b", "d_e", false),
+];
+
+// A field, and whether a record may tell of its deletion.
+const DELETIONS: &[(&str, bool)] = &[
+    ("A.b_c", true),
+    ("b_c", true),
+    ("A.", false),
+    ("A..b_c", false),
+];
+
+// A file, a path, and whether a record may tell of that import.
+const IMPORTS: &[(&str, &str, bool)] = &[
+    ("a.proto", "p/b.proto", true),
+    ("a.proto", "b", false),
+    ("", "b.proto", false),
+    ("../a.proto", "b.proto", false),
+];
+
 #[test]
 fn records_of_edits(rt: HostRuntime) {
-    assert!(rt; is_told(&rt, "A.b_c", "d_e") && is_told(&rt, "X.y", "message"));
-    assert!(rt; !is_told(&rt, ".A.b_c", "d_e") && !is_told(&rt, "", "d_e"));
-    assert!(rt; !is_told(&rt, "A.b_c", "a.b") && !is_told(&rt, "1Entry.b", "d_e"));
-    assert!(rt; is_deletion_told(&rt, "A.b_c") && is_deletion_told(&rt, "b_c"));
-    assert!(rt; !is_deletion_told(&rt, "A.") && !is_deletion_told(&rt, "A..b_c"));
-    assert!(rt; is_import_told(&rt, "a.proto", "p/b.proto"));
-    assert!(rt; !is_import_told(&rt, "a.proto", "b") && !is_import_told(&rt, "", "b.proto"));
-    assert!(rt; !is_import_told(&rt, "../a.proto", "b.proto"));
+    for (name, to, may) in RENAMES {
+        expect(&rt, is_told(&rt, name, to) == *may, name);
+    }
+    for (name, may) in DELETIONS {
+        expect(&rt, is_deletion_told(&rt, name) == *may, name);
+    }
+    for (file, path, may) in IMPORTS {
+        expect(&rt, is_import_told(&rt, file, path) == *may, path);
+    }
 }
