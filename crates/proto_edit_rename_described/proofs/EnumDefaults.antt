@@ -1,5 +1,5 @@
 -- A default of an enum's field is one of the enum's values after a rename (for the crates above).
-use Rattle.std.proofs.Common.{◌≡◌, ℕ, ◌<◌, ◌==◌, true, false, ◌&&◌, ◌≢◌, ◌⊎◌, if◌then◌else◌, List, [], length, map, Option, Some, None, option_map, refl, sym, ap, ap₂, subst, ◌∙◌, inl, inr, option_and_then, Contains, find, bytes_eq}
+use Rattle.std.proofs.Common.{◌≡◌, ℕ, ◌<◌, ◌==◌, true, false, ◌&&◌, ◌≢◌, ◌⊎◌, if◌then◌else◌, List, length, map, Option, Some, None, option_map, refl, sym, ap, ap₂, subst, ◌∙◌, inl, inr, option_and_then, Contains, find, bytes_eq}
 use Rattle.proto_base.proofs.Common.{and_parts, cases_Bool, cond-true, cond-false, any_from, any_to, contains_map, from_map, same_from_word, word_from_same}
 pub use Rattle.proto_base.proofs.Common.{found_in_map}
 use Rattle.proto_case.specs.Camel.{entry_name}
