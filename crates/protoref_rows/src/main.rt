@@ -38,6 +38,7 @@ const TABLES: &[(&str, Kind)] = &[
     ("lists.rows", Kind::Edits),
     ("compile.rows", Kind::Commands),
     ("lint.rows", Kind::Commands),
+    ("shop.rows", Kind::Commands),
     ("changes.rows", Kind::Commands),
     ("journals.rows", Kind::Commands),
 ];

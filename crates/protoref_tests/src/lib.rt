@@ -27,9 +27,7 @@ mod recoveries;
 #[cfg(test)]
 mod roots;
 #[cfg(test)]
-mod sample;
 #[cfg(test)]
-mod shop;
 #[cfg(test)]
 mod stops;
 #[cfg(test)]
