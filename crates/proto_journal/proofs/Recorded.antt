@@ -1,15 +1,16 @@
 -- Journals with one record more and with one less, and what a call reads of them.
-use Rattle.std.proofs.Common.{arith, ◌≡◌, ◌⊎◌, ℕ, true, false, List, [], ◌∷◌, ◌++◌, length, Option, Some, None, Ok, Err, refl, sym, ap, ◌∙◌, subst, append_assoc, append-nil}
+use Rattle.std.proofs.Common.{arith, ◌≡◌, ◌⊎◌, ℕ, true, false, List, [], ◌∷◌, ◌++◌, length, Option, Some, None, Result, Ok, Err, IfOk, MatchOption, option_to_list, refl, sym, ap, ◌∙◌, subst, append_assoc, append-nil}
+use Rattle.std.specs.Global.{Vec}
 use Rattle.proto_journal_records.specs.declared.fault.JournalFault.{JournalFault}
 use Rattle.proto_journal_records.specs.declared.fault.JournalFault.TheVariants.{BadJournal, NoMemory}
 use Rattle.proto_journal_records.specs.declared.record.State.{State}
 use Rattle.proto_journal_records.specs.declared.record.State.TheVariants as state
 use Rattle.proto_journal_records.specs.declared.record.Version.{Version}
 use Rattle.proto_journal_records.specs.declared.record.Version.TheVariants.{Second}
-use Rattle.proto_journal_records.proofs.Common.{record_text, IsJournal, is_last_open, is_open, done, journal_text, HasOpenEntry, IsReady, IsUnreadable, CountsFault, Over, RecordOf, IsJournalIn, IsReadyWith, unread}
+use Rattle.proto_journal_records.proofs.Common.{record_text, IsJournal, is_last_open, is_open, done, journal_text, HasOpenEntry, IsReadInOneWay, IsReady, IsUnreadable, CountsFault, Over, RecordOf, IsJournalIn, unread}
 pub use Rattle.proto_journal_records.proofs.OneRecovery.{last_of}
 use Rattle.proto_store.specs.Stores.{Held, HoldsJournal}
-use Rattle.proto_journal.specs.Common.{IsUnready, LastOutcome, IsReadyText}
+use Rattle.proto_journal.specs.Common.{HasLast, IsUnready, IsReadyText}
 
 -- ---- texts
 
@@ -43,19 +44,46 @@ pub ready_there : (h : Option Held) (bytes : List ℕ) (v : Version) (records : 
 ready_there None bytes v records e j o = tt
 ready_there (Some there) bytes v records e j o = (v, records, record { journal = subst (λ (t : List ℕ). IsJournalIn v t records) e j; closed = o })
 
-pub ready_by : (h : Option Held) (bytes : List ℕ) (v : Version) (records : List RecordOf) → HoldsJournal h bytes → IsJournalIn v bytes records → is_last_open records ≡ false
-    → Over h (λ held. IsReadyWith v records held × (bytes ≡ held.journal))
-ready_by None bytes v records e j o = tt
-ready_by (Some there) bytes v records e j o = (record { journal = subst (λ (t : List ℕ). IsJournalIn v t records) e j; closed = o }, e)
+-- a journal and its last record: none of its records is open
+pub closed_journal : (v : Version) (bytes : List ℕ) (last : Option RecordOf) → HasLast v bytes last → (records : List RecordOf) × IsJournalIn v bytes records × (is_last_open records ≡ false)
+closed_journal v bytes None j = ([], j, refl)
+closed_journal v bytes (Some r) j = (j.0 ++ done r.edit r.entry ∷ [], j.1, last_of j.0 (done r.edit r.entry))
+
+pub last_ready : (h : Option Held) (bytes : List ℕ) (v : Version) (last : Option RecordOf) → HoldsJournal h bytes → HasLast v bytes last → Over h IsReady
+last_ready h bytes v last e j = let closed = closed_journal v bytes last j in ready_there h bytes v closed.0 e closed.1 closed.2
 
 -- the text of a ready journal in the second version is that which it has, or is made of its records
-pub ready_as_it_is : (h : Option Held) (bytes : List ℕ) (records : List RecordOf) → Over h (λ held. IsReadyWith Second records held × (bytes ≡ held.journal)) → Over h (IsReadyText bytes)
-ready_as_it_is None bytes records r = tt
-ready_as_it_is (Some there) bytes records r = (Second, records, r.0, r.1 ∙ r.0.journal.text)
+pub text_as_it_is : (bytes : List ℕ) (last : Option RecordOf) → HasLast Second bytes last → (held : Held) → bytes ≡ held.journal → IsReadyText bytes held
+text_as_it_is bytes last j held e =
+    let closed = closed_journal Second bytes last j in
+    (Second, closed.0, record { journal = subst (λ (t : List ℕ). IsJournalIn Second t closed.0) e closed.1; closed = closed.2 }, closed.1.text)
 
-pub ready_made : (h : Option Held) (bytes text : List ℕ) (v : Version) (records : List RecordOf) → Over h (λ held. IsReadyWith v records held × (bytes ≡ held.journal)) → text ≡ journal_text Second records → Over h (IsReadyText text)
-ready_made None bytes text v records r e = tt
-ready_made (Some there) bytes text v records r e = (v, records, r.0, e)
+pub text_made : (bytes text : List ℕ) (v : Version) (last : Option RecordOf) (records : List RecordOf) → IsReadInOneWay → HasLast v bytes last → IsJournal bytes records → text ≡ journal_text Second records
+    → (held : Held) → bytes ≡ held.journal → IsReadyText text held
+text_made bytes text v last records one j read made held e =
+    let closed = closed_journal v bytes last j in
+    let same : closed.0 ≡ records = (one bytes v read.0 closed.0 records closed.1 read.1).0 in (
+      read.0,
+      records,
+      record {
+        journal = subst (λ (t : List ℕ). IsJournalIn read.0 t records) e read.1;
+        closed = subst (λ (rs : List RecordOf). is_last_open rs ≡ false) same closed.2;
+      },
+      made,
+    )
+
+pub second_made : {E : Type 0} (r : Result (Vec ℕ) E) (bytes shown : List ℕ) (v : Version) (last : Option RecordOf) (records : List RecordOf) → bytes ≡ shown → IsReadInOneWay → HasLast v bytes last → IsJournal bytes records
+    → IfOk r (λ text. text.items ≡ journal_text Second records) → IfOk r (λ text. (held : Held) → shown ≡ held.journal → IsReadyText text.items held)
+second_made (Ok text) bytes shown v last records is one j read made = λ held e. text_made bytes text.items v last records one j read made held (is ∙ e)
+second_made (Err x) bytes shown v last records is one j read made = tt
+
+pub text_over : (h : Option Held) (bytes text : List ℕ) → HoldsJournal h bytes → ((held : Held) → bytes ≡ held.journal → IsReadyText text held) → Over h (IsReadyText text)
+text_over None bytes text e is = tt
+text_over (Some there) bytes text e is = is there e
+
+pub ready_of_text : (h : Option Held) (text : List ℕ) → Over h (IsReadyText text) → Over h IsReady
+ready_of_text None text is = tt
+ready_of_text (Some there) text is = (is.0, is.1, is.2)
 
 pub not_read : (h : Option Held) (bytes : List ℕ) (f : JournalFault) → HoldsJournal h bytes → (f ≡ BadJournal) ⊎ (f ≡ NoMemory)
     → (f ≡ BadJournal → (records : List RecordOf) → IsJournal bytes records → ⊥) → IsUnready h f
@@ -63,11 +91,7 @@ not_read h bytes f e which bad = unread (IsUnready h) f which (λ is. unreadable
 
 -- ---- the last entry
 
-pub no_last : (bytes : List ℕ) (f : JournalFault) → (f ≡ BadJournal) ⊎ (f ≡ NoMemory)
-    → (f ≡ BadJournal → (records : List RecordOf) → IsJournal bytes records → ⊥) → LastOutcome bytes (Err f)
-no_last bytes f which bad = unread (λ (z : JournalFault). LastOutcome bytes (Err z)) f which bad tt
-
-pub last_there : (bytes : List ℕ) (v : Version) (records before : List RecordOf) (r : RecordOf) → IsJournalIn v bytes records → is_last_open records ≡ false → records ≡ before ++ r ∷ [] → LastOutcome bytes (Ok (v, r))
+pub last_there : (bytes : List ℕ) (v : Version) (records before : List RecordOf) (r : RecordOf) → IsJournalIn v bytes records → is_last_open records ≡ false → records ≡ before ++ r ∷ [] → HasLast v bytes (Some r)
 last_there bytes v records before r j o e =
     let whole : IsJournalIn v bytes (before ++ r ∷ []) = subst (λ (rs : List RecordOf). IsJournalIn v bytes rs) e j in
     let closed : is_last_open (before ++ r ∷ []) ≡ false = subst (λ (rs : List RecordOf). is_last_open rs ≡ false) e o in
@@ -77,8 +101,17 @@ no_record : (records : List RecordOf) → length records ≡ 0 → records ≡ [
 no_record [] e = refl
 no_record (r ∷ rs) e = absurd (omega arith)
 
-pub nothing_there : (bytes : List ℕ) (v : Version) (records : List RecordOf) → IsJournalIn v bytes records → length records ≡ 0 → bytes ≡ []
-nothing_there bytes v records j e = j.text ∙ ap (journal_text v) (no_record records e)
+pub nothing_there : (bytes : List ℕ) (v : Version) (records : List RecordOf) → IsJournalIn v bytes records → length records ≡ 0 → HasLast v bytes None
+nothing_there bytes v records j e = subst (λ (rs : List RecordOf). IsJournalIn v bytes rs) (no_record records e) j
+
+pub last_popped : (bytes : List ℕ) (v : Version) (records rest : List RecordOf) (last : Option RecordOf) → IsJournalIn v bytes records → is_last_open records ≡ false → records ≡ rest ++ option_to_list last
+    → (last ≡ None → length records ≡ 0) → HasLast v bytes last
+last_popped bytes v records rest None j o e empty = nothing_there bytes v records j (empty refl)
+last_popped bytes v records rest (Some r) j o e empty = last_there bytes v records rest r j o e
+
+pub none_case : {T : Type 0} (P : Type 0) (Q : T → Type 0) (o : Option T) → MatchOption o P Q → o ≡ None → P
+none_case P Q None p e = p
+none_case P Q (Some x) p e = cc
 
 -- ---- counts
 

@@ -1,5 +1,5 @@
 -- What an undo answers, from what it read, made and wrote.
-use Rattle.std.proofs.Common.{◌≡◌, ◌⊎◌, inl, inr, ℕ, List, [], ◌∷◌, ◌++◌, Option, Some, None, Ok, Err, refl, sym, ◌∙◌, subst, option_map}
+use Rattle.std.proofs.Common.{◌≡◌, ◌⊎◌, inl, inr, ℕ, List, [], ◌∷◌, ◌++◌, Option, Some, None, Err, refl, sym, ◌∙◌, subst, option_map}
 use Rattle.proto_files.specs.GivenFiles.{FileOf, paths_of}
 use Rattle.proto_edit_entries.proofs.Common.{ChangeOf, Asked}
 use Rattle.proto_edit_entries.specs.declared.refusal.Refusal.{Refusal}
@@ -11,30 +11,33 @@ use Rattle.proto_journal_records.specs.declared.fault.JournalFault.TheVariants a
 use Rattle.proto_journal_records.specs.declared.record.Version.{Version}
 use Rattle.proto_journal_records.proofs.Common.{fault_of_refusal, done, opened, CountsFault, IsStoreOrMemory, Over, OverBoth, IsBetween, Keeps, RecordOf, IsJournalIn}
 use Rattle.proto_store.specs.Stores.{Held, HoldsJournal, languages_of}
-use Rattle.proto_journal.specs.Common.{EndsIn, IsTornByUndo, IsUndone, IsUndoCut, UndoOutcome, LastOutcome, Passes, Reopens, Shortens, held}
+use Rattle.proto_journal.specs.Common.{EndsIn, IsTornByUndo, IsUndone, IsUndoCut, UndoOutcome, HasLast, IsUnready, Passes, Reopens, Shortens, held}
 use Rattle.proto_journal.proofs.Committed.{stays}
-use Rattle.proto_journal.proofs.Recorded.{last_open_there, over_journal, unreadable}
+use Rattle.proto_journal.proofs.Recorded.{over_journal}
 
 abbrev pub EndsSo : List ChangeOf → Held → Type 0
 EndsSo entry held = (version : Version) × (records : List RecordOf) × EndsIn version records entry held
 
-pub ends_there : (old : Option Held) (journal : List ℕ) (version : Version) (last : RecordOf) → HoldsJournal old journal → LastOutcome journal (Ok (version, last)) → Over old (EndsSo last.entry)
+pub ends_there : (old : Option Held) (journal : List ℕ) (version : Version) (last : RecordOf) → HoldsJournal old journal → HasLast version journal (Some last) → Over old (EndsSo last.entry)
 ends_there None journal version last there l = tt
 ends_there (Some then) journal version last there l =
     (version, l.0, (last.edit, subst (λ (t : List ℕ). IsJournalIn version t (l.0 ++ done last.edit last.entry ∷ [])) there l.1))
 
 -- ---- refused
 
-pub no_entry : (from : List FileOf) (old new : Option Held) (journal : List ℕ) (f : JournalFault) → new ≡ old → HoldsJournal old journal → LastOutcome journal (Err f) → UndoOutcome from from old new (Err f)
-no_entry from old new journal fault.BadJournal same there l = (stays from old new same, unreadable old journal there l)
-no_entry from old new journal fault.NothingToUndo same there l = (stays from old new same, over_journal old journal (λ (t : List ℕ). t ≡ []) there l)
-no_entry from old new journal fault.OpenEntry same there l = (stays from old new same, last_open_there old journal l.0 there l.1 l.2)
-no_entry from old new journal fault.Store same there l = absurd l
-no_entry from old new journal fault.JournalFull same there l = absurd l
-no_entry from old new journal fault.NoMemory same there l = stays from old new same
-no_entry from old new journal (fault.Refused r) same there l = absurd l
+pub not_ready : (from : List FileOf) (old new : Option Held) (f : JournalFault) → new ≡ old → IsUnready old f → UndoOutcome from from old new (Err f)
+not_ready from old new fault.BadJournal same r = (stays from old new same, r)
+not_ready from old new fault.NothingToUndo same r = absurd r
+not_ready from old new fault.OpenEntry same r = (stays from old new same, r)
+not_ready from old new fault.Store same r = (refl, inl same)
+not_ready from old new fault.JournalFull same r = absurd r
+not_ready from old new fault.NoMemory same r = stays from old new same
+not_ready from old new (fault.Refused x) same r = absurd r
 
-pub stale : (from : List FileOf) (old new : Option Held) (journal : List ℕ) (version : Version) (last : RecordOf) (r : Refusal) → new ≡ old → HoldsJournal old journal → LastOutcome journal (Ok (version, last))
+pub no_entry : (from : List FileOf) (old new : Option Held) (journal : List ℕ) (version : Version) → new ≡ old → HoldsJournal old journal → HasLast version journal None → UndoOutcome from from old new (Err fault.NothingToUndo)
+no_entry from old new journal version same there l = (stays from old new same, over_journal old journal (λ (t : List ℕ). t ≡ []) there l.text)
+
+pub stale : (from : List FileOf) (old new : Option Held) (journal : List ℕ) (version : Version) (last : RecordOf) (r : Refusal) → new ≡ old → HoldsJournal old journal → HasLast version journal (Some last)
     → (entry : List ChangeOf) → entry ≡ last.entry → IsUndoRefusal from entry r → UndoOutcome from from old new (Err (fault_of_refusal r))
 stale from old new journal version last refusal.Stale same there l entry is u =
     (stays from old new same, (last.entry, subst (λ (e : List ChangeOf). IsUndoRefusal from e refusal.Stale) is u, ends_there old journal version last there l))
@@ -45,15 +48,6 @@ pub not_asked : (from : List FileOf) (old new : Option Held) (f : JournalFault) 
 not_asked from old new fault.Store same s = (refl, inl same)
 not_asked from old new fault.NoMemory same s = stays from old new same
 not_asked from old new f same s = absurd s
-
-pub counts_no_entry : (before after : ℕ) (journal : List ℕ) (f : JournalFault) → after ≡ before → LastOutcome journal (Err f) → CountsFault before after f
-counts_no_entry before after journal fault.BadJournal same l = same
-counts_no_entry before after journal fault.NothingToUndo same l = same
-counts_no_entry before after journal fault.OpenEntry same l = same
-counts_no_entry before after journal fault.Store same l = absurd l
-counts_no_entry before after journal fault.JournalFull same l = same
-counts_no_entry before after journal fault.NoMemory same l = same
-counts_no_entry before after journal (fault.Refused r) same l = same
 
 pub counts_stale : (before after : ℕ) (r : Refusal) → after ≡ before → CountsFault before after (fault_of_refusal r)
 counts_stale before after refusal.NoMemory same = same

@@ -4,4 +4,4 @@ pub use Rattle.proto_journal.specs.Commits.{CommitOutcome, IsCommitCut, IsCommit
 pub use Rattle.proto_journal.specs.Laws.{CommitsAreOne, CutCommitsComeBack, CutUndosComeBack, IsBackInSecond, IsSameAnswer, IsSameRefusal, UndosAreOne}
 pub use Rattle.proto_journal.specs.Loads.{IsUnready}
 pub use Rattle.proto_journal.specs.Undoing.{EndsIn, IsStale, IsTornByUndo, IsUndoCut, IsUndone, UndoOutcome}
-pub use Rattle.proto_journal.specs.Written.{AddsTo, IsReadyText, IsUnprepared, IsUnwritten, LastOutcome, Passes, Reopens, Shortens, held}
+pub use Rattle.proto_journal.specs.Written.{AddsTo, HasLast, IsReadyText, IsUnprepared, IsUnwritten, Passes, Reopens, Shortens, held}

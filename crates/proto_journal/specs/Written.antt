@@ -1,5 +1,5 @@
 -- Where a store stands while files and journal are written, and what is made before.
-use Rattle.std.specs.Prelude.{◌≡◌, ◌≢◌, ◌⊎◌, ◌<◌, List, [], ◌∷◌, ◌++◌, length, true, false, Option, Some, option_map, Result, Ok, Err}
+use Rattle.std.specs.Prelude.{◌≡◌, ◌≢◌, ◌⊎◌, ◌<◌, List, [], ◌∷◌, ◌++◌, length, false, Option, None, Some, option_map}
 use Rattle.proto_base.specs.Texts.{Text}
 use Rattle.proto_files.specs.GivenFiles.{FileOf}
 use Rattle.proto_edit_entries.specs.Entries.{ChangeOf}
@@ -11,7 +11,7 @@ use Rattle.proto_journal_records.specs.declared.record.Version.{Version}
 use Rattle.proto_journal_records.specs.declared.record.Version.TheVariants.{Second}
 use Rattle.proto_journal_records.specs.Records.{RecordOf, done, opened}
 use Rattle.proto_journal_records.specs.RecordText.{record_text}
-use Rattle.proto_journal_records.specs.Journals.{IsJournal, IsJournalIn, is_last_open, journal_limit, journal_text}
+use Rattle.proto_journal_records.specs.Journals.{IsJournalIn, is_last_open, journal_limit, journal_text}
 use Rattle.proto_store.specs.Stores.{Held, with_file}
 use Rattle.proto_journal_records.specs.Known.{OverBoth}
 use Rattle.proto_journal_records.specs.ReadJournals.{IsReadyWith}
@@ -64,6 +64,13 @@ Passes before after first last old new = (new ≡ old)
 
 -- ---- made before
 
+-- the bytes are a journal in this version of which no entry is open, and this is its last record,
+-- where it has any
+abbrev pub HasLast : Version → Text → Option RecordOf → Type 0
+HasLast version journal None = IsJournalIn version journal []
+HasLast version journal (Some last) = (records : List RecordOf)
+    × IsJournalIn version journal (records ++ done last.edit last.entry ∷ [])
+
 -- the text is that of a journal that is ready, in the second version
 abbrev pub IsReadyText : Text → Held → Type 0
 IsReadyText text held = (version : Version) × (records : List RecordOf)
@@ -111,17 +118,3 @@ IsUnprepared from e journal fault.OpenEntry = ⊥
 IsUnprepared from e journal fault.Store = ⊥
 IsUnprepared from e journal (fault.Refused refusal.NoMemory) = ⊥
 IsUnprepared from e journal (fault.Refused r) = IsRefusal from e r
-
--- the last record of a journal, which is done, and its version; or why there is none to undo
-abbrev pub LastOutcome : Text → Result (Version × RecordOf) JournalFault → Type 0
-LastOutcome journal (Ok (version, last)) = (records : List RecordOf)
-    × IsJournalIn version journal (records ++ done last.edit last.entry ∷ [])
-LastOutcome journal (Err fault.BadJournal) =
-    (records : List RecordOf) → IsJournal journal records → ⊥
-LastOutcome journal (Err fault.OpenEntry) =
-    (records : List RecordOf) × IsJournal journal records × (is_last_open records ≡ true)
-LastOutcome journal (Err fault.NothingToUndo) = journal ≡ []
-LastOutcome journal (Err fault.NoMemory) = Unit {0}
-LastOutcome journal (Err fault.Store) = ⊥
-LastOutcome journal (Err fault.JournalFull) = ⊥
-LastOutcome journal (Err (fault.Refused r)) = ⊥

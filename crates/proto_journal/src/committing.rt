@@ -8,9 +8,9 @@ ghost use Rattle.proto_journal_records.specs.Known.{CountsJournal};
 ghost use Rattle.proto_journal.specs.Written.{AddsTo, IsUnprepared, IsUnwritten};
 ghost use Rattle.proto_edit_entries.specs.EditsAsked.{IsNotable};
 ghost use Rattle.proto_journal_records.specs.Records.{done, opened};
-ghost use Rattle.proto_store.specs.Stores.{HoldsFiles};
+ghost use Rattle.proto_store.specs.Stores.{HoldsFiles, HoldsJournal};
 
-use crate::reading::ready_text;
+use crate::reading::{ReadyJournal, journal_again, ready_journal};
 use crate::writing::{ChangedFiles, ask_store, write_through};
 use proto_base::MAX_JOURNAL_LEN;
 use proto_edit::laws::accepted_are_notable;
@@ -122,8 +122,46 @@ pub fn commit<S: Store>(
         (S.holds store.old) (S.holds store.new) result }
     ensures count { CountsJournal (S.failure_count store.old) (S.failure_count store.new) result }
 {
-    let journal = ready_text(alloc, store)?;
-    let made = prepare(alloc, journal.as_slice(), workspace, &edit)?;
+    let journal = ready_journal(alloc, store)?;
+    put_edit(alloc, store, journal, workspace, edit)
+}
+
+/// The same after a journal was read: where the store's has the same bytes still, it is not parsed
+/// again. Answers and what is left are those of `commit`, whatever journal is given.
+pub fn commit_after<S: Store>(
+    alloc: Global,
+    store: &mut S,
+    known: ReadyJournal,
+    workspace: &mut Workspace,
+    edit: Edit,
+) -> Result<Entry, JournalFault>
+    requires room { S.failure_count store.old < 2 ^ 64 - 1 }
+    requires loaded { HoldsFiles (S.holds store.old) workspace.old }
+    ensures outcome { CommitOutcome (asked edit) workspace.old workspace.new
+        (S.holds store.old) (S.holds store.new) result }
+    ensures count { CountsJournal (S.failure_count store.old) (S.failure_count store.new) result }
+{
+    let journal = journal_again(alloc, store, known)?;
+    put_edit(alloc, store, journal, workspace, edit)
+}
+
+// Makes an edit in a store with this journal.
+fn put_edit<S: Store>(
+    alloc: Global,
+    store: &mut S,
+    journal: ReadyJournal,
+    workspace: &mut Workspace,
+    edit: Edit,
+) -> Result<Entry, JournalFault>
+    requires room { S.failure_count store.old < 2 ^ 64 - 1 }
+    requires journal { HoldsJournal (S.holds store.old) journal }
+    requires loaded { HoldsFiles (S.holds store.old) workspace.old }
+    ensures outcome { CommitOutcome (asked edit) workspace.old workspace.new
+        (S.holds store.old) (S.holds store.new) result }
+    ensures count { CountsJournal (S.failure_count store.old) (S.failure_count store.new) result }
+{
+    let text = journal.into_second(alloc)?;
+    let made = prepare(alloc, text.as_slice(), workspace, &edit)?;
     match ask_store(alloc, store, made.entry.changes()) {
         Ok(()) => {}
         Err(fault) => {

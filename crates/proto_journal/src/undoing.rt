@@ -4,35 +4,20 @@ ghost use Rattle.std.specs.Prelude.{◌-◌, ◌^◌, ◌<◌, IfOk};
 ghost use Rattle.proto_journal_records.specs.Journals.{IsTold};
 ghost use Rattle.proto_journal_records.specs.Known.{CountsJournal};
 ghost use Rattle.proto_journal.specs.Undoing.{UndoOutcome};
-ghost use Rattle.proto_journal.specs.Written.{LastOutcome, Reopens, Shortens};
-ghost use Rattle.proto_store.specs.Stores.{HoldsFiles};
+ghost use Rattle.proto_journal.specs.Written.{Reopens, Shortens};
+ghost use Rattle.proto_store.specs.Stores.{HoldsFiles, HoldsJournal};
 
+use crate::reading::{ReadyJournal, journal_again, ready_journal};
 use crate::writing::{ChangedFiles, ask_store, write_through};
 use proto_base::NoMemory;
 use proto_edit::{Entry, Workspace};
 use proto_journal_records::laws::{journals_grow_and_shrink, records_have_one_text};
 use proto_journal_records::{
-    JournalFault, Record, RecordParts, State, Version, last_is_open, read_journal, with_record,
-    without_last,
+    JournalFault, Record, RecordParts, State, Version, with_record, without_last,
 };
 use proto_store::{Store, StoreFault};
 use std::alloc::Global;
 use std::mem;
-
-// The last record of a journal, which is done, and its version.
-fn last_record(alloc: Global, journal: &[u8]) -> Result<(Version, Record), JournalFault>
-    ensures { LastOutcome journal.now result }
-{
-    let read = read_journal(alloc, journal)?;
-    let (version, mut records) = read;
-    if last_is_open(records.as_slice()) {
-        return Err(JournalFault::OpenEntry);
-    }
-    match records.pop() {
-        Some(last) => Ok((version, last)),
-        None => Err(JournalFault::NothingToUndo),
-    }
-}
 
 // The journal without its last record.
 fn shortened_journal(journal: &[u8]) -> &[u8]
@@ -86,13 +71,52 @@ pub fn undo_last<S: Store>(
         (S.holds store.old) (S.holds store.new) result }
     ensures count { CountsJournal (S.failure_count store.old) (S.failure_count store.new) result }
 {
-    let journal = match store.read_journal() {
-        Ok(journal) => journal,
-        Err(StoreFault::Failed) => return Err(JournalFault::Store),
+    let journal = ready_journal(alloc, store)?;
+    put_back(alloc, store, journal, workspace)
+}
+
+/// The same after a journal was read: where the store's has the same bytes still, it is not parsed
+/// again. Answers and what is left are those of `undo_last`, whatever journal is given.
+pub fn undo_last_after<S: Store>(
+    alloc: Global,
+    store: &mut S,
+    known: ReadyJournal,
+    workspace: &mut Workspace,
+) -> Result<Entry, JournalFault>
+    requires room { S.failure_count store.old < 2 ^ 64 - 1 }
+    requires loaded { HoldsFiles (S.holds store.old) workspace.old }
+    ensures outcome { UndoOutcome workspace.old workspace.new
+        (S.holds store.old) (S.holds store.new) result }
+    ensures count { CountsJournal (S.failure_count store.old) (S.failure_count store.new) result }
+{
+    let journal = journal_again(alloc, store, known)?;
+    put_back(alloc, store, journal, workspace)
+}
+
+// Undoes the last entry of a store with this journal.
+fn put_back<S: Store>(
+    alloc: Global,
+    store: &mut S,
+    journal: ReadyJournal,
+    workspace: &mut Workspace,
+) -> Result<Entry, JournalFault>
+    requires room { S.failure_count store.old < 2 ^ 64 - 1 }
+    requires journal { HoldsJournal (S.holds store.old) journal }
+    requires loaded { HoldsFiles (S.holds store.old) workspace.old }
+    ensures outcome { UndoOutcome workspace.old workspace.new
+        (S.holds store.old) (S.holds store.new) result }
+    ensures count { CountsJournal (S.failure_count store.old) (S.failure_count store.new) result }
+{
+    let ReadyJournal {
+        bytes,
+        version,
+        last,
+    } = journal;
+    let undone = match last {
+        Some(undone) => undone,
+        None => return Err(JournalFault::NothingToUndo),
     };
-    let text = journal.as_slice();
-    let found = last_record(alloc, text)?;
-    let (version, undone) = found;
+    let text = bytes.as_slice();
     let first = reopened_journal(alloc, version, text, &undone)?;
     let next = workspace.without_entry(alloc, undone.entry())?;
     let last = shortened_journal(text);

@@ -92,7 +92,7 @@ AnswersUndo before after result =
 
 -- a change may begin over these files; or none may, as the answer tells
 abbrev pub Begins : Option Held → Beginning → Type 0
-Begins before (beginning.Over files) = MayBegin files before
+Begins before (beginning.Over files journal) = MayBegin files before
 Begins before (beginning.Never answer) =
     IsNotReady before (printed_text answer) (status_of answer)
     ⊎ HasFault before (printed_text answer) (status_of answer)

@@ -11,7 +11,7 @@ ghost use Rattle.protoref_commands.specs.Told.{TellsOf};
 
 use crate::beginning::{Beginning, begin};
 use crate::telling::outcome_answer;
-use proto_journal::{Edit, Store, Workspace, commit, undo_last};
+use proto_journal::{Edit, ReadyJournal, Store, Workspace, commit_after, undo_last_after};
 use protoref_output::{Answer, RunFault};
 use std::alloc::Global;
 
@@ -27,7 +27,9 @@ pub fn edit_answer<S: Store>(alloc: Global, edit: Edit, store: &mut S) -> Result
 {
     let beginning = begin(alloc, store)?;
     match beginning {
-        Beginning::Over(workspace) => answer_of_commit(alloc, edit, store, workspace),
+        Beginning::Over(workspace, journal) => {
+            answer_of_commit(alloc, edit, store, workspace, journal)
+        }
         Beginning::Never(answer) => Ok(answer),
     }
 }
@@ -38,6 +40,7 @@ fn answer_of_commit<S: Store>(
     edit: Edit,
     store: &mut S,
     mut workspace: Workspace,
+    journal: ReadyJournal,
 ) -> Result<Answer, RunFault>
     requires room { S.failure_count store.old < 2 ^ 64 - 1 }
     requires loaded { HoldsFiles (S.holds store.old) workspace }
@@ -45,7 +48,7 @@ fn answer_of_commit<S: Store>(
         (S.holds store.old) (S.holds store.new) result }
     ensures count { CountsStore (S.failure_count store.old) (S.failure_count store.new) result }
 {
-    let outcome = commit(alloc, store, &mut workspace, edit);
+    let outcome = commit_after(alloc, store, journal, &mut workspace, edit);
     let answer = outcome_answer(alloc, workspace.files(), outcome);
     workspace.release();
     answer
@@ -63,7 +66,7 @@ pub fn undo_answer<S: Store>(alloc: Global, store: &mut S) -> Result<Answer, Run
 {
     let beginning = begin(alloc, store)?;
     match beginning {
-        Beginning::Over(workspace) => answer_of_undo(alloc, store, workspace),
+        Beginning::Over(workspace, journal) => answer_of_undo(alloc, store, workspace, journal),
         Beginning::Never(answer) => Ok(answer),
     }
 }
@@ -73,13 +76,14 @@ fn answer_of_undo<S: Store>(
     alloc: Global,
     store: &mut S,
     mut workspace: Workspace,
+    journal: ReadyJournal,
 ) -> Result<Answer, RunFault>
     requires room { S.failure_count store.old < 2 ^ 64 - 1 }
     requires loaded { HoldsFiles (S.holds store.old) workspace }
     ensures told { TellsOf UndoOutcome workspace (S.holds store.old) (S.holds store.new) result }
     ensures count { CountsStore (S.failure_count store.old) (S.failure_count store.new) result }
 {
-    let outcome = undo_last(alloc, store, &mut workspace);
+    let outcome = undo_last_after(alloc, store, journal, &mut workspace);
     let answer = outcome_answer(alloc, workspace.files(), outcome);
     workspace.release();
     answer

@@ -4,5 +4,6 @@ mod allocations;
 mod calls;
 mod failing;
 mod journals;
+mod known;
 mod rows;
 mod three_files;

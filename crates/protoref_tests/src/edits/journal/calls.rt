@@ -88,8 +88,8 @@ pub(crate) fn store_of(
     MemoryStore::new(alloc, files, journal.as_bytes().to_vec(alloc)?)
 }
 
-// Which of the two texts the workspace has, or none.
-fn text_of(workspace: &Workspace) -> &'static str {
+/// Which of the two texts the workspace has, or none.
+pub(crate) fn text_of(workspace: &Workspace) -> &'static str {
     let files = workspace.files();
     if files.len() != 1 {
         return "";
