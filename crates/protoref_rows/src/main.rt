@@ -4,13 +4,22 @@
 //!     protoref_rows              every row
 //!     protoref_rows TABLE        the rows of a table
 //!     protoref_rows TABLE:LINE   the row that stands at a line of a table
+//!     protoref_rows walk         no row: the edits of one workspace that standard input has
+//!     protoref_rows all          these, and then every row
 #![tactic(auto)]
 
+mod all_faults;
 mod commands;
 mod edits;
+mod ever;
 mod fault;
 mod files;
+mod input;
+mod library_example;
 mod row;
+mod same;
+mod step;
+mod walking;
 
 use crate::commands::difference_of_commands;
 use crate::edits::difference_of_edits;
@@ -48,14 +57,31 @@ fn main(rt: HostRuntime) -> io::Result<()> {
     // The first word is the name of the program itself.
     match words.as_slice() {
         [_program] => try_tables(&rt, None, None),
-        [_program, place] => match place.as_str().split_once(':') {
-            Some((table, line)) => match line.parse() {
-                Ok(line) => try_tables(&rt, Some(table), Some(line)),
-                Err(_) => rt.println("no number of a line"),
-            },
-            None => try_tables(&rt, Some(place.as_str()), None),
-        },
+        [_program, word] => try_word(&rt, word.as_str()),
         _ => rt.println("more than one table or row"),
+    }
+}
+
+// A walk, everything, or what stands at a place.
+fn try_word(rt: &HostRuntime, word: &str) -> io::Result<()> {
+    match word {
+        "walk" => walking::run(rt),
+        "all" => {
+            walking::run(rt)?;
+            try_tables(rt, None, None)
+        }
+        place => try_place(rt, place),
+    }
+}
+
+// The rows of a table, or the one at a line of it.
+fn try_place<R: Files + Print + AllocGlobal>(rt: &R, place: &str) -> io::Result<()> {
+    match place.split_once(':') {
+        Some((table, line)) => match line.parse() {
+            Ok(line) => try_tables(rt, Some(table), Some(line)),
+            Err(_) => rt.println("no number of a line"),
+        },
+        None => try_tables(rt, Some(place), None),
     }
 }
 

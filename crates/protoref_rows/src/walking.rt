@@ -1,36 +1,30 @@
-//! Walks through edits and undos of one workspace, each made in place, and holds the workspace
-//! after each against one that is opened anew from its bytes.
+//! Walks through edits and undos of one workspace, each made in place, and compares the workspace
+//! after each with one that is opened anew from its bytes.
 //!
 //! What is read are texts, each as its length in bytes, a colon, the text and a comma: how many
 //! files, for each its path and its text; then the steps, each as three texts: the kind of an edit
 //! with its two words, or `undo` with two empty ones, which takes back the last edit that stands.
 //! Where the text `library` stands first, the example of docs/library.md is run before the walk; where
 //! `faults` does, all faults of the files are printed, and nothing is walked.
-#![tactic(auto)]
-
-mod all_faults;
-mod ever;
-mod input;
-mod library_example;
-mod same;
-mod step;
 
 use crate::ever::add_declared;
 use crate::input::{Given, next_text, read_files};
 use crate::same::difference;
 use crate::step::{Step, next_step};
+use crate::{all_faults, library_example};
 use proto_edit::{Edit, Entry, OpenFault, Refusal, Workspace};
 use std::io;
 
-fn main(rt: HostRuntime) -> io::Result<()> {
+/// Reads standard input, and does what it asks.
+pub(crate) fn run(rt: &HostRuntime) -> io::Result<()> {
     let text = io::read_to_string(rt.alloc(), rt.reader())?;
     match text.strip_prefix("7:library,") {
         Some(rest) => {
-            library_example::run(&rt)?;
+            library_example::run(rt)?;
             rt.println("")?;
-            read(&rt, rest)
+            read(rt, rest)
         }
-        None => read_or_list(&rt, &text),
+        None => read_or_list(rt, &text),
     }
 }
 
