@@ -53,20 +53,32 @@ module _ (files : List FileOf) (file : ℕ) (within : file < length files) (scen
       ∙ ap (λ (s : Scene). file_described s (file_at files file).path (read_at reads file).tree) (is reads are)
       ∙ caps_keep_the_descriptor (scene_of (Some past) files reads file) (file_at files file).path (read_at reads file).tree refl
 
-described_all : (files : List FileOf) (reads : List ReadOf) (n : ℕ) (ds : List FileDescriptor) (rs : List ReadOf) → length ds ≡ length rs
-    → Each (λ k d. file_desc d ≡ described_at files reads (n + k) (read_at rs k).tree) ds → map file_desc ds ≡ described_from files reads n rs
-described_all files reads n [] [] e h = refl
-described_all files reads n [] (r ∷ rs) e h = absurd (omega (arith, e))
-described_all files reads n (d ∷ ds) [] e h = absurd (omega (arith, e))
-described_all files reads n (d ∷ ds) (r ∷ rs) e h =
-    let now : file_desc d ≡ described_at files reads n r.tree = subst (λ (m : ℕ). file_desc d ≡ described_at files reads m r.tree) (omega arith) (h 0 d (omega arith)) in
-    let later : Each (λ k x. file_desc x ≡ described_at files reads (suc n + k) (read_at rs k).tree) ds =
-    λ (k : ℕ) (x : FileDescriptor) (l : k < length ds). subst (λ (m : ℕ). file_desc (get_or ds k x) ≡ described_at files reads m (read_at rs k).tree) (omega arith) (h (suc k) x (omega (arith, l))) in
-    ap (λ (z : FileDesc). z ∷ map file_desc ds) now ∙ ap (λ (zs : List FileDesc). described_at files reads n r.tree ∷ zs) (described_all files reads (suc n) ds rs (omega (arith, e)) later)
+module _ {A : Type 0} (desc : A → FileDesc) where
+  described_all : (files : List FileOf) (reads : List ReadOf) (n : ℕ) (ds : List A) (rs : List ReadOf) → length ds ≡ length rs
+      → Each (λ k d. desc d ≡ described_at files reads (n + k) (read_at rs k).tree) ds → map desc ds ≡ described_from files reads n rs
+  described_all files reads n [] [] e h = refl
+  described_all files reads n [] (r ∷ rs) e h = absurd (omega (arith, e))
+  described_all files reads n (d ∷ ds) [] e h = absurd (omega (arith, e))
+  described_all files reads n (d ∷ ds) (r ∷ rs) e h =
+      let now : desc d ≡ described_at files reads n r.tree = subst (λ (m : ℕ). desc d ≡ described_at files reads m r.tree) (omega arith) (h 0 d (omega arith)) in
+      let later : Each (λ k x. desc x ≡ described_at files reads (suc n + k) (read_at rs k).tree) ds =
+      λ (k : ℕ) (x : A) (l : k < length ds). subst (λ (m : ℕ). desc (get_or ds k x) ≡ described_at files reads m (read_at rs k).tree) (omega arith) (h (suc k) x (omega (arith, l))) in
+      ap (λ (z : FileDesc). z ∷ map desc ds) now ∙ ap (λ (zs : List FileDesc). described_at files reads n r.tree ∷ zs) (described_all files reads (suc n) ds rs (omega (arith, e)) later)
 
-pub all_described : (files : List FileOf) (reads : List ReadOf) (ds : List FileDescriptor) → length ds ≡ length reads → Each (λ k d. file_desc d ≡ described_at files reads k (read_at reads k).tree) ds → map file_desc ds ≡ described_from files reads 0 reads
-all_described files reads ds e h =
-    described_all files reads 0 ds reads e (λ (k : ℕ) (d : FileDescriptor) l. subst (λ (m : ℕ). file_desc (get_or ds k d) ≡ described_at files reads m (read_at reads k).tree) (omega arith) (h k d l))
+  pub each_described : (files : List FileOf) (reads : List ReadOf) (ds : List A) → length ds ≡ length reads → Each (λ k d. desc d ≡ described_at files reads k (read_at reads k).tree) ds → map desc ds ≡ described_from files reads 0 reads
+  each_described files reads ds e h =
+      described_all files reads 0 ds reads e (λ (k : ℕ) (d : A) l. subst (λ (m : ℕ). desc (get_or ds k d) ≡ described_at files reads m (read_at reads k).tree) (omega arith) (h k d l))
+
+abbrev pub all_described : (files : List FileOf) (reads : List ReadOf) (ds : List FileDescriptor) → length ds ≡ length reads → Each (λ k d. file_desc d ≡ described_at files reads k (read_at reads k).tree) ds → map file_desc ds ≡ described_from files reads 0 reads
+all_described = each_described file_desc
+
+same_list : (ds : List FileDesc) → map (λ d. d) ds ≡ ds
+same_list [] = refl
+same_list (d ∷ ds) = ap (λ (zs : List FileDesc). d ∷ zs) (same_list ds)
+
+-- the same of descriptors that are told
+pub all_told : (files : List FileOf) (reads : List ReadOf) (ds : List FileDesc) → length ds ≡ length reads → Each (λ k d. d ≡ described_at files reads k (read_at reads k).tree) ds → ds ≡ described_from files reads 0 reads
+all_told files reads ds e h = sym (same_list ds) ∙ each_described (λ d. d) files reads ds e h
 
 -- what is answered for a file with a flaw
 pub file_error : (files : List FileOf) (file : ℕ) (f : Flaw) (e : SchemaFault) → IsFaultOf files file f e → ((reads : List ReadOf) → AreRead files reads → IsLeastOfFlaws (Contains (flaws_of files reads file)) (Some f)) → IsLeastFlawError files file e

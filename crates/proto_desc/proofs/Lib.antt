@@ -6,6 +6,7 @@ pub mod LeastCheckFault
 mod MadePut
 mod NewTextFaults
 mod Opened
+mod PrintedTexts
 mod ReadTexts
 mod Renewed
 mod ReplacedTexts

@@ -5,6 +5,7 @@ pub mod Common
 pub mod Edited
 pub mod NewTexts
 pub mod Opening
+pub mod Printing
 pub mod Renewing
 pub mod Views
 pub mod Whole

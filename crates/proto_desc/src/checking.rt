@@ -1,6 +1,6 @@
 //! Checking linked files, with their descriptors or without.
 
-ghost use Rattle.std.specs.Prelude.{◌<◌, ◌++◌, length, map, IfOk, IfErr};
+ghost use Rattle.std.specs.Prelude.{◌<◌, ◌++◌, length, map, string_bytes, IfOk, IfErr};
 ghost use Rattle.std.specs.List.{Contains};
 ghost use Rattle.proto_tree.specs.File.{tree_of_file};
 ghost use Rattle.proto_files.specs.Faults.{HasNoFault};
@@ -9,6 +9,7 @@ ghost use Rattle.proto_desc_checks.specs.FileFlaws.{file_flaws};
 ghost use Rattle.proto_desc_numbers.specs.Flaws.{IsLeastOfFlaws};
 ghost use Rattle.proto_desc.specs.Checked.{AreDescribed, CheckFaults, IsCheckError};
 ghost use Rattle.proto_resolved.specs.Scenes.{AreScenes, IsSceneOf};
+ghost use Rattle.proto_desc.specs.Printing.{IsJsonOf};
 ghost use Rattle.proto_desc.specs.CheckSteps.{AreOfWorkspace, HasNoFlaw, IsFaultOf, IsLeastFlawError};
 ghost use Rattle.proto_resolved.specs.Enums.{IsEnumTable};
 ghost use Rattle.proto_desc_extensions.specs.Listed.{AreWorkspaceFlaws};
@@ -18,6 +19,7 @@ ghost use Rattle.proto_desc_affected.specs.Checked.{AreKeptOf};
 
 use crate::described::file_descriptor;
 use crate::descriptors::Descriptors;
+use crate::json_form::{close, push_file};
 use indexmap::IndexMap;
 use proto_ast::Scene;
 use proto_base::{NoMemory, SchemaFault};
@@ -168,6 +170,48 @@ pub fn check(alloc: Global, files: &Files, link: &Link) -> Result<Descriptors, S
     let file = describe(alloc, &linked)?;
     let kept = file_summaries(alloc, &linked)?;
     Ok(Descriptors { file, kept })
+}
+
+/// The JSON text of the descriptors of the files, of which one is there at a time.
+fn json_of(alloc: Global, linked: &Linked<'_>, scenes: &[Scene]) -> Result<String, NoMemory>
+    requires { AreScenes linked.now.files scenes.now }
+    ensures { IfOk result (λ text. IsJsonOf linked.now.files (string_bytes text)) }
+{
+    let files = linked.files();
+    let mut text = String::new(alloc);
+    for file in 0..linked.file_count() as u32 {
+        let path = files.path(file);
+        let descriptor = file_descriptor(alloc, &scenes[file as usize], path, files.tree(file))?;
+        push_file(alloc, &mut text, &descriptor)?;
+    }
+    close(&mut text)?;
+    Ok(text)
+}
+
+/// The same where the checks find no fault, with the enums of all files.
+fn print_with(
+    alloc: Global,
+    linked: &Linked<'_>,
+    table: &[IndexMap<u32, EnumRow>],
+) -> Result<String, SchemaFault>
+    requires { IsEnumTable linked.now.files table.now }
+    ensures clean { IfOk result (λ _. HasNoFault (CheckFaults linked.now.files)) }
+    ensures text { IfOk result (λ text. IsJsonOf linked.now.files (string_bytes text)) }
+    ensures fault { IfErr result (IsCheckError linked.now.files) }
+{
+    let scenes = scenes(alloc, linked, table)?;
+    check_files(alloc, linked, &scenes)?;
+    Ok(json_of(alloc, linked, &scenes)?)
+}
+
+/// The JSON text of what `check` answers.
+pub(crate) fn print(alloc: Global, linked: &Linked<'_>) -> Result<String, SchemaFault>
+    ensures clean { IfOk result (λ _. HasNoFault (CheckFaults linked.now.files)) }
+    ensures text { IfOk result (λ text. IsJsonOf linked.now.files (string_bytes text)) }
+    ensures fault { IfErr result (IsCheckError linked.now.files) }
+{
+    let table = enum_table(alloc, linked.files())?;
+    print_with(alloc, linked, &table)
 }
 
 /// The same, and no descriptors.

@@ -5,7 +5,6 @@
 mod checking;
 mod described;
 mod described_items;
-mod described_schema;
 mod descriptor_copies;
 mod descriptors;
 mod file_options;
@@ -13,6 +12,7 @@ mod head;
 mod json_form;
 pub mod laws;
 mod new_texts;
+mod printed_schema;
 mod put_texts;
 mod renewing;
 mod replacing;
@@ -21,9 +21,9 @@ mod texts;
 
 pub use checking::{check, pass_checks};
 pub use described::file_descriptor;
-pub use described_schema::DescribedSchema;
 pub use descriptors::Descriptors;
 pub use json_form::{files_to_json, to_json};
+pub use printed_schema::PrintedSchema;
 pub use proto_base::{NoMemory, SchemaFault as CheckFault, SchemaFault as OpenFault};
 pub use proto_descriptors::{
     CType, EnumDescriptor, EnumOptions, EnumReservedRange, EnumValueDescriptor, EnumValueOptions,

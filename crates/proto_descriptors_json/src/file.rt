@@ -32,6 +32,32 @@ pub fn text_of_files(
     }
 }
 
+/// The text of one file, as `text_of_files` has it in its list. Fails only when out of memory.
+pub fn text_of_file(alloc: Global, file: &FileDescriptor) -> Result<String, NoMemory>
+    ensures { IfOk result (λ s. string_bytes s ≡ file_text (file_desc file.now)) }
+{
+    match serde_json::to_string(alloc, &OneFile { file }) {
+        Ok(text) => Ok(text),
+        Err(_error) => Err(NoMemory),
+    }
+}
+
+/// A file alone.
+#[derive(Drop)]
+struct OneFile<'a> {
+    file: &'a FileDescriptor,
+}
+
+impl Described for OneFile<'_> {
+    ghost writes = { λ one. PutsValue (file_text (file_desc one.file.now)) };
+}
+
+impl Serialize for OneFile<'_> {
+    fn serialize<S: Serializer>(&self, out: &mut S) -> Result<(), S::Error> {
+        self.file.send(out)
+    }
+}
+
 /// One object, with the list of these files at this key.
 #[derive(Drop)]
 struct FileList<'a> {

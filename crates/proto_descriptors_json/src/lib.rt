@@ -11,5 +11,5 @@ mod options;
 mod service;
 mod values;
 
-pub use file::text_of_files;
+pub use file::{text_of_file, text_of_files};
 pub use key_order::keys_rise;

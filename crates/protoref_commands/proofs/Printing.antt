@@ -1,10 +1,9 @@
 -- What is printed over files that compile, and over others.
 use Rattle.std.specs.Io.KnownBytes.{Keeps}
 use Rattle.std.proofs.Common.{◌≡◌, ℕ, List, ◌++◌, IfErr, IfOk, IsErrOf, codes, refl, sym, ap, subst, ◌∙◌, Option, Some, None, Result, Ok, Err}
-use Rattle.proto_descriptors.specs.Descriptors.{FileDesc}
-use Rattle.proto_descriptors_json.specs.DescriptorText.{json_text}
 use Rattle.proto_journal_records.specs.Known.{Over}
-use Rattle.proto_desc.proofs.Common.{AreDescribed, IsSortedOf, WorkspaceFaults}
+use Rattle.proto_desc.proofs.Common.{IsSortedOf, WorkspaceFaults}
+use Rattle.proto_desc.specs.Printing.{IsJsonOf}
 use Rattle.proto_files.proofs.Common.{FaultAt, HasNoFault, IsLeastFault, ReadOf, AreRead, FileOf}
 use Rattle.proto_lint_rules.specs.declared.rule_set.RuleSet.{RuleSet}
 use Rattle.protoref_output.proofs.Common.{status_of, printed_text, IsLineOver}
@@ -42,11 +41,11 @@ tells_fault held fault (Err x) least line s = tt
 -- ---- compile
 
 -- over files that compile
-pub described_prints : (before after : Option Held) (w : List FileOf) (ds : List FileDesc) (r : Result Answer RunFault) → Compiles before w → after ≡ before
-    → AreDescribed w ds → (reads : List ReadOf) × AreRead w reads
-    → IfOk r (λ a. printed_text a ≡ json_text ds ++ codes "\n") → IfOk r (λ a. status_of a ≡ Done) → IfErr r (λ e. e ≡ ends.NoMemory) → Answers asked.Compile before after r
-described_prints None after w ds (Ok a) opens same d e t s m = (same, tt)
-described_prints (Some held) after w ds (Ok a) opens same d e t s m = (
+pub printed_compiles : (before after : Option Held) (w : List FileOf) (text : List ℕ) (r : Result Answer RunFault) → Compiles before w → after ≡ before
+    → IsJsonOf w text → (reads : List ReadOf) × AreRead w reads
+    → IfOk r (λ a. printed_text a ≡ text ++ codes "\n") → IfOk r (λ a. status_of a ≡ Done) → IfErr r (λ e. e ≡ ends.NoMemory) → Answers asked.Compile before after r
+printed_compiles None after w text (Ok a) opens same d e t s m = (same, tt)
+printed_compiles (Some held) after w text (Ok a) opens same d e t s m = (
   same,
   subst (λ (z : Status). PrintsCompiled held.files (printed_text a) z) (sym s)
       (record {
@@ -55,12 +54,12 @@ described_prints (Some held) after w ds (Ok a) opens same d e t s m = (
         in_order = opens.0;
         are_read = e.1;
         clean = opens.1;
-        text_is = t ∙ ap (λ (l : List FileDesc). json_text l ++ codes "\n") (d e.0 e.1);
+        text_is = t ∙ ap (λ (l : List ℕ). l ++ codes "\n") (d e.0 e.1);
       }),
 )
-described_prints before after w ds (Err ends.Store) opens same d e t s m = same
-described_prints before after w ds (Err ends.NoMemory) opens same d e t s m = same
-described_prints before after w ds (Err ends.Output) opens same d e t s m = cc
+printed_compiles before after w text (Err ends.Store) opens same d e t s m = same
+printed_compiles before after w text (Err ends.NoMemory) opens same d e t s m = same
+printed_compiles before after w text (Err ends.Output) opens same d e t s m = cc
 
 -- over others
 faulty_compiles : (before after : Option Held) (a : Answer) → TellsFault before a → after ≡ before → Answers asked.Compile before after (Ok a)

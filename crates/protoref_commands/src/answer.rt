@@ -1,28 +1,21 @@
 //! The answers over schemas that compile.
 
-ghost use Rattle.std.specs.Prelude.{◌≡◌, ◌++◌, IfErr, IfOk, codes, map};
-ghost use Rattle.proto_descriptors.specs.Views.{file_desc};
-ghost use Rattle.proto_descriptors_json.specs.DescriptorText.{json_text};
+ghost use Rattle.std.specs.Prelude.{◌≡◌, ◌++◌, IfErr, IfOk, codes, string_bytes};
 ghost use Rattle.protoref_output.specs.Answers.{status_of, printed_text};
 ghost use Rattle.protoref_commands.specs.Linted.{IsLintOf};
 
-use proto_desc::{CheckedSchema, FileDescriptor, files_to_json};
+use proto_desc::CheckedSchema;
 use proto_lint::{RuleSet, lint};
 use proto_names::are_read;
 use protoref_output::{Answer, RunFault, Status, lines_of_findings};
 use std::alloc::Global;
 
-// The answer of their descriptors.
-pub(crate) fn descriptors_answer(
-    alloc: Global,
-    files: &[FileDescriptor],
-) -> Result<Answer, RunFault>
-    ensures text { IfOk result (λ answer.
-        printed_text answer ≡ json_text (map file_desc files.now) ++ codes "\n") }
+// The answer of the text of descriptors, on a line.
+pub(crate) fn descriptors_answer(mut text: String) -> Result<Answer, RunFault>
+    ensures text { IfOk result (λ answer. printed_text answer ≡ string_bytes text ++ codes "\n") }
     ensures status { IfOk result (λ answer. status_of answer ≡ Status.Done) }
     ensures err { IfErr result (λ e. e ≡ RunFault.NoMemory) }
 {
-    let mut text = files_to_json(alloc, files)?;
     text.push('\n')?;
     Ok(Answer::Text(text, Status::Done))
 }

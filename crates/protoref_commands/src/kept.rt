@@ -2,21 +2,22 @@
 
 ghost use Rattle.std.specs.Prelude.{◌≡◌, None};
 
-use proto_desc::{CheckedSchema, DescribedSchema};
+use proto_desc::CheckedSchema;
+use proto_files::Files;
 use std::mem;
 
 /// What a run still holds when it has ended. A caller that goes on drops it by `release`; a program
 /// that ends need not.
 #[derive(Drop)]
 pub struct Retained {
-    described: Option<DescribedSchema>,
+    files: Option<Files>,
     checked: Option<CheckedSchema>,
 }
 
-// Lets schemas with descriptors go, by the call that proves no drop.
-fn let_go(described: Option<DescribedSchema>) {
-    match described {
-        Some(schema) => schema.release(),
+// Lets files go, by the call that proves no drop.
+fn let_go(files: Option<Files>) {
+    match files {
+        Some(files) => files.release(),
         None => {}
     }
 }
@@ -31,18 +32,18 @@ fn let_checked_go(checked: Option<CheckedSchema>) {
 impl Retained {
     /// Nothing is held yet.
     pub fn new() -> Retained
-        ensures described { result.described ≡ None }
+        ensures files { result.files ≡ None }
         ensures checked { result.checked ≡ None }
     {
         Retained {
-            described: None,
+            files: None,
             checked: None,
         }
     }
 
-    /// Keeps schemas with their descriptors, in place of any kept before.
-    pub(crate) fn keep(&mut self, schema: DescribedSchema) {
-        let_go(mem::replace(&mut self.described, Some(schema)));
+    /// Keeps files, in place of any kept before.
+    pub(crate) fn keep(&mut self, files: Files) {
+        let_go(mem::replace(&mut self.files, Some(files)));
     }
 
     /// Keeps schemas without descriptors, in place of any kept before.
@@ -52,7 +53,7 @@ impl Retained {
 
     /// Lets all of it go.
     pub fn release(self) {
-        let_go(self.described);
+        let_go(self.files);
         let_checked_go(self.checked);
     }
 }

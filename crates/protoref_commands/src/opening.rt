@@ -1,6 +1,7 @@
 //! The schemas of a store, and what is answered where they do not compile.
 
-ghost use Rattle.std.specs.Prelude.{◌≡◌, ◌-◌, ◌^◌, ◌<◌, IfErr, IfOk, IsErrOf};
+ghost use Rattle.std.specs.Prelude.{◌≡◌, ◌-◌, ◌^◌, ◌<◌, IfErr, IfOk, IsErrOf, string_bytes};
+ghost use Rattle.proto_desc.specs.Printing.{IsJsonOf};
 ghost use Rattle.proto_desc.specs.Whole.{WorkspaceFaults};
 ghost use Rattle.proto_files.specs.Faults.{IsLeastFault, fault_at};
 ghost use Rattle.proto_journal.specs.Loads.{CountsLoad, IsLoadFault};
@@ -9,32 +10,34 @@ ghost use Rattle.proto_journal_records.specs.Known.{Over};
 ghost use Rattle.protoref_commands.specs.Printed.{Compiles, TellsFault};
 
 use proto_base::Fault;
-use proto_desc::{CheckedSchema, DescribedSchema};
+use proto_desc::{CheckedSchema, PrintedSchema};
 use proto_journal::{LoadFault, sound_files};
 use proto_store::Store;
 use protoref_output::{Answer, RunFault, fault_answer};
 use std::alloc::Global;
 
-// The schemas of a store. Where the paths alone have a fault, no file is read.
-pub(crate) fn open_described<S: Store>(
+// The schemas of a store, with the text of their descriptors. Where the paths alone have a fault, no
+// file is read.
+pub(crate) fn open_printed<S: Store>(
     alloc: Global,
     store: &mut S,
-) -> Result<DescribedSchema, LoadFault>
+) -> Result<PrintedSchema, LoadFault>
     requires { S.failure_count store.old < 2 ^ 64 - 1 }
-    ensures compiles { IfOk result (Compiles (S.holds store.old)) }
+    ensures compiles { IfOk result (λ s. Compiles (S.holds store.old) s.files) }
+    ensures text { IfOk result (λ s. IsJsonOf s.files (string_bytes s.text)) }
     ensures fault { IfErr result (IsLoadFault (S.holds store.old)) }
     ensures same { S.holds store.new ≡ S.holds store.old }
     ensures count { CountsLoad (S.failure_count store.old) (S.failure_count store.new) result }
 {
     let profile = store.profile();
     let files = sound_files(alloc, store)?;
-    match DescribedSchema::open_as(alloc, files, profile) {
+    match PrintedSchema::open_as(alloc, files, profile) {
         Ok(schema) => Ok(schema),
         Err(fault) => Err(LoadFault::from(fault)),
     }
 }
 
-// The same without descriptors. One function for both would be generic over which schemas are
+// The same without a text. One function for both would be generic over which schemas are
 // opened, by a trait whose clauses are those of two types: longer than the two.
 pub(crate) fn open_checked<S: Store>(
     alloc: Global,

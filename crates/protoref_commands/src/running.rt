@@ -10,8 +10,10 @@ use crate::command::Command;
 use crate::kept::Retained;
 use crate::logging::log_answer;
 use crate::migrating::migrate_answer;
-use crate::opening::{faulty, open_checked, open_described};
+use crate::opening::{faulty, open_checked, open_printed};
 use crate::recovering::recover_answer;
+use proto_desc::PrintedSchema;
+use proto_files::are_read;
 use proto_journal::LoadFault;
 use proto_lint::RuleSet;
 use proto_store::Store;
@@ -91,11 +93,11 @@ fn compile_answer<S: Store>(
     ensures outcome { Answers Command.Compile (S.holds store.old) (S.holds store.new) result }
     ensures count { CountsStore (S.failure_count store.old) (S.failure_count store.new) result }
 {
-    match open_described(alloc, store) {
-        Ok(schema) => {
-            let answer = descriptors_answer(alloc, schema.descriptors());
-            kept.keep(schema);
-            answer
+    match open_printed(alloc, store) {
+        Ok(PrintedSchema { files, text }) => {
+            are_read(&files);
+            kept.keep(files);
+            descriptors_answer(text)
         }
         Err(LoadFault::Schema(fault)) => faulty(alloc, store, &fault),
         Err(LoadFault::Store) => Err(RunFault::Store),
