@@ -1,7 +1,8 @@
 -- What proofs of the crates above name of this crate, passed on from one place. Declares nothing.
 pub use Rattle.proto_ast.proofs.ItemBlocks.{no_block_in_enum, no_block_in_method, no_blocks, no_method_within, none_within, wanted_turn, wanted_within, no_block_in_oneof}
 pub use Rattle.proto_ast.proofs.JoinedTrees.{blocks_joined, statements_joined}
-pub use Rattle.proto_ast.specs.JsonNames.{json_name_of, json_word, name_digest, written_or}
+pub use Rattle.proto_ast.specs.JsonNames.{json_name_of, name_digest}
+pub use Rattle.proto_case.specs.Camel.{json_word, written_or}
 pub use Rattle.proto_ast.specs.Labels.{has_label, is_label_word}
 pub use Rattle.proto_ast.specs.Numbers.{number_value, past}
 pub use Rattle.proto_ast.specs.Options.{c_types, fits_kind, idempotency_levels, is_allowed, is_named, is_one_of, is_text_value, is_true, is_word_of, js_types, optimize_modes, text_of_constant, text_option, truth_named, truth_of, truth_option, value_kind_as, value_named, word_of, word_option}

@@ -1,26 +1,16 @@
 //! The names of fields in JSON.
 
-ghost use Rattle.std.specs.Prelude.{◌≡◌, is_some, not, option_map, IfOk, IfSome};
+ghost use Rattle.std.specs.Prelude.{◌≡◌, is_some, not, IfOk, IfSome};
 ghost use Rattle.std.specs.String.{string_bytes};
-ghost use Rattle.proto_ast.specs.JsonNames.{json_name_of, name_digest, written_or};
+ghost use Rattle.proto_ast.specs.JsonNames.{json_name_of, name_digest};
 ghost use Rattle.proto_ast.specs.Views.{field_of};
 
 use crate::fields::{FieldAt, options_between};
 use crate::option_values::text_option;
 use crate::scene::Scene;
 use proto_base::NoMemory;
-use proto_case::{camel_digest, camel_from};
+use proto_case::{camel_digest, written_or};
 use std::alloc::Global;
-
-fn written_or(alloc: Global, written: Option<String>, word: &str) -> Result<String, NoMemory>
-    ensures { IfOk result (λ name. string_bytes name
-        ≡ written_or (option_map string_bytes written) word.now) }
-{
-    match written {
-        Some(name) => Ok(name),
-        None => camel_from(alloc, false, word),
-    }
-}
 
 /// The name of a field in JSON: the text of its option `json_name`, where it has one; else its word
 /// without each `_`, the character after one in upper case.

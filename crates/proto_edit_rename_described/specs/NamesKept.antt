@@ -6,7 +6,8 @@ use Rattle.proto_base.specs.Texts.{Text}
 use Rattle.proto_ast.specs.Options.{text_option}
 use Rattle.proto_ast.specs.Parts.{FieldOf}
 use Rattle.proto_ast.specs.Scenes.{Scene, text, value}
-use Rattle.proto_ast.specs.JsonNames.{json_name_of, json_word}
+use Rattle.proto_ast.specs.JsonNames.{json_name_of}
+use Rattle.proto_case.specs.Camel.{json_word}
 use Rattle.proto_desc_checks.specs.FileFlaws.{json_clashes, name_flaws}
 
 -- this token has the word afterwards, and the others of the list their own

@@ -4,13 +4,13 @@ use Rattle.std.specs.List.{list_any, Contains}
 use Rattle.std.specs.Option.{option_and_then}
 use Rattle.std.specs.Prelude.{Option, ℕ, Bool, ◌==◌, ◌&&◌, if◌then◌else◌, List, [], ◌∷◌, ◌++◌, flat_map, Some, None, codes, find, false, suc, map, true, ◌≡◌, ◌≢◌, ◌+◌, ◌<◌, length, ◌-◌, not, ◌⊎◌, option_map, is_some}
 use Rattle.std.specs.Str.{bytes_eq}
-use Rattle.proto_ast.specs.JsonNames.{json_name_of, json_word}
+use Rattle.proto_ast.specs.JsonNames.{json_name_of}
 use Rattle.proto_ast.specs.Options.{is_named, text_option}
 use Rattle.proto_ast.specs.Parts.{FieldOf, fields_in, blocks_in, BlockOf, values_in, reserved_names_in}
 use Rattle.proto_ast.specs.Scenes.{Scene, value, text}
 use Rattle.proto_base.specs.Ascii as ascii
 use Rattle.proto_base.specs.Texts.{Text, text_limit, Path}
-use Rattle.proto_case.specs.Camel.{entry_name}
+use Rattle.proto_case.specs.Camel.{entry_name, json_word}
 use Rattle.proto_desc_build.specs.Described.{package_prefix}
 use Rattle.proto_desc_checks_laws.specs.Renamed.{constant_tokens}
 use Rattle.proto_descriptors.specs.Descriptors.{FieldDesc, EnumValueDesc, EnumDesc, MessageDesc, Messages, NoMessages, Message as OneMessage, MethodDesc, ServiceDesc, FileDesc}
