@@ -118,7 +118,7 @@ impl Descriptors {
         }
     }
 
-    /// The files that the edit affects. Where it is told which have to be looked at again,
+    /// The files that the edit affects. Where it is told which have to be re-checked,
     /// these are asked, and those that refer to an enum of an edited file or have an `extend`
     /// block; else all files. Fails only when out of memory.
     fn affected(

@@ -126,8 +126,8 @@ pub fn commit<S: Store>(
     put_edit(alloc, store, journal, workspace, edit)
 }
 
-/// The same after a journal was read: where the store's has the same bytes still, it is not parsed
-/// again. Answers and what is left are those of `commit`, whatever journal is given.
+/// Makes an edit as `commit` does, whatever journal is given: where the store's journal has the
+/// same bytes, it is not parsed again.
 pub fn commit_after<S: Store>(
     alloc: Global,
     store: &mut S,

@@ -61,7 +61,7 @@ impl ReadyJournal {
         }
     }
 
-    /// Lets it go. A crate that ends it by this call need not prove how each of its parts is
+    /// Drops it. A crate that ends it by this call need not prove how each of its parts is
     /// dropped. No clause: it is gone after it, and nothing is left to speak of.
     pub fn release(self) {}
 }

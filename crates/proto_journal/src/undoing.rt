@@ -75,8 +75,8 @@ pub fn undo_last<S: Store>(
     put_back(alloc, store, journal, workspace)
 }
 
-/// The same after a journal was read: where the store's has the same bytes still, it is not parsed
-/// again. Answers and what is left are those of `undo_last`, whatever journal is given.
+/// Undoes the last entry as `undo_last` does, whatever journal is given: where the store's journal
+/// has the same bytes, it is not parsed again.
 pub fn undo_last_after<S: Store>(
     alloc: Global,
     store: &mut S,
