@@ -1,6 +1,7 @@
 pub mod TornStores
 pub mod UnreadJournals
 mod Apart
+mod Behind
 pub mod Comebacks
 mod CompactText
 mod DataTexts

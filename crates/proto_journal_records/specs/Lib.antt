@@ -1,4 +1,5 @@
 pub mod Common
+pub mod Behind
 pub mod DataTokens
 pub mod FaultTable
 pub mod Journals

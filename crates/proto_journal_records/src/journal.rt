@@ -9,9 +9,10 @@ ghost use Rattle.proto_journal_records.specs.Records.{RecordOf, record_of};
 ghost use Rattle.proto_journal_records.specs.declared.fault.JournalFault.TheVariants as JournalFault;
 
 use crate::fault::JournalFault;
-use crate::reading::{LineBuffers, read_line};
+use crate::reading::read_line;
 use crate::record::{Record, RecordParts, State, Version};
 use crate::writing::{entry_text, line_of};
+use json::Scratch;
 use memchr::memchr;
 use proto_base::{MAX_JOURNAL_LEN, NoMemory};
 use std::alloc::Global;
@@ -73,7 +74,7 @@ fn read_all(alloc: Global, version: Version, bytes: &[u8]) -> Result<Vec<Record>
     if bytes.len() > MAX_JOURNAL_LEN {
         return Err(JournalFault::BadJournal);
     }
-    let mut buffers = LineBuffers::new(alloc);
+    let mut scratch = Scratch::new(alloc);
     let mut records = Vec::new(alloc);
     let mut left = bytes;
     while !left.is_empty() {
@@ -81,7 +82,7 @@ fn read_all(alloc: Global, version: Version, bytes: &[u8]) -> Result<Vec<Record>
             return Err(JournalFault::BadJournal);
         }
         let (line, rest) = first_line(left);
-        let noted = read_line(alloc, version, line, &mut buffers)?;
+        let noted = read_line(alloc, version, line, &mut scratch)?;
         records.push(noted)?;
         left = rest;
     }

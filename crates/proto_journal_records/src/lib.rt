@@ -5,6 +5,7 @@
 mod fault;
 mod journal;
 pub mod laws;
+mod matching;
 mod migrating;
 mod putting;
 mod reading;

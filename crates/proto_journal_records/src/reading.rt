@@ -20,14 +20,13 @@ ghost use Rattle.proto_journal_records.specs.Records.{RecordOf};
 ghost use Rattle.proto_journal_records.specs.declared.fault.JournalFault.TheVariants as JournalFault;
 
 use crate::fault::JournalFault;
+use crate::matching::is_text_of;
 use crate::record::{Record, State, Version};
-use crate::writing::bytes_of;
 use json::{Error, Scratch, Value};
 use proto_base::NoMemory;
 use proto_edit_entries::{Change, Edit, Entry};
 use proto_text::{Splice, Splices};
 use std::alloc::Global;
-use std::mem;
 
 fn small_number_at(value: &Value<'_>, key: &str) -> Option<u32>
     ensures { (n : ℕ) → n < 2 ^ 32
@@ -391,45 +390,6 @@ fn read_shape(
     read_record(alloc, version, &value)
 }
 
-/// What is kept from line to line, so that a line takes no memory for itself.
-#[derive(Drop)]
-pub(crate) struct LineBuffers {
-    scratch: Scratch,
-    /// The bytes of the last line that was written.
-    written: Vec<u8>,
-}
-
-impl LineBuffers {
-    /// Buffers of no line yet. Takes no memory.
-    pub(crate) fn new(alloc: Global) -> LineBuffers {
-        LineBuffers {
-            scratch: Scratch::new(alloc),
-            written: Vec::new(alloc),
-        }
-    }
-}
-
-// Whether a line, without its line feed, is the text of a record. The bytes of that are put into
-// the buffer.
-fn is_text_of(
-    alloc: Global,
-    version: Version,
-    line: &[u8],
-    noted: &Record,
-    written: &mut Vec<u8>,
-) -> Result<bool, NoMemory>
-    requires { IsTold version noted.now.edit }
-    ensures same { IfOk result
-        (λ b. IsTrue b ↔ (compact_text (record_data version noted.now) ≡ line.now)) }
-    ensures is { OnOk result (IsRecord version noted.now) }
-{
-    let buffer = mem::replace(written, Vec::new(alloc));
-    let bytes = bytes_of(buffer, version, &noted.parts())?;
-    let is_same = bytes.as_slice() == line;
-    *written = bytes;
-    Ok(is_same)
-}
-
 /// The record that has these bytes for its text in this version: a line with its line feed. Each
 /// record has one spelling, and any other is BadJournal, as are bytes that are no record's text.
 /// Beside that it fails only when out of memory.
@@ -437,7 +397,7 @@ pub(crate) fn read_line(
     alloc: Global,
     version: Version,
     bytes: &[u8],
-    buffers: &mut LineBuffers,
+    scratch: &mut Scratch,
 ) -> Result<Record, JournalFault>
     ensures ok { IfOk result (λ r. (record_text version r ≡ bytes.now) × IsRecord version r) }
     ensures err { IfErr result (λ e. (e ≡ JournalFault.BadJournal) ⊎ (e ≡ JournalFault.NoMemory)) }
@@ -450,11 +410,10 @@ pub(crate) fn read_line(
     if *last != b'\n' {
         return Err(JournalFault::BadJournal);
     }
-    let Some(found) = read_shape(alloc, version, line, &mut buffers.scratch)? else {
+    let Some(found) = read_shape(alloc, version, line, scratch)? else {
         return Err(JournalFault::BadJournal);
     };
-    let is_same = is_text_of(alloc, version, line, &found, &mut buffers.written)?;
-    if is_same {
+    if is_text_of(version, line, &found) {
         Ok(found)
     } else {
         Err(JournalFault::BadJournal)
@@ -470,6 +429,5 @@ pub fn read_entry(alloc: Global, bytes: &[u8]) -> Result<Record, JournalFault>
     ensures bad { result ≡ Err JournalFault.BadJournal
         → (r : RecordOf) → IsRecord second r → record_text second r ≢ bytes.now }
 {
-    let mut buffers = LineBuffers::new(alloc);
-    read_line(alloc, Version::Second, bytes, &mut buffers)
+    read_line(alloc, Version::Second, bytes, &mut Scratch::new(alloc))
 }

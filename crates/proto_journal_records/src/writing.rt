@@ -258,22 +258,15 @@ fn write_record(
     }
 }
 
-/// The bytes of the record of these parts before its line feed, in a buffer, in place of what that
-/// held. The first version does not tell the edit, so none is given there.
-pub(crate) fn bytes_of(
-    buffer: Vec<u8>,
-    version: Version,
-    parts: &RecordParts,
-) -> Result<Vec<u8>, NoMemory>
+// The bytes of the record of these parts before its line feed.
+fn bytes_of(alloc: Global, version: Version, parts: &RecordParts) -> Result<Vec<u8>, NoMemory>
     requires { IsTold version (record_of parts.now).edit }
     ensures text { IfOk result (λ bytes. bytes.items
         ≡ compact_text (record_data version (record_of parts.now))) }
     ensures utf8 { IfOk result (λ bytes. IsUtf8 bytes.items) }
     ensures is { OnOk result (IsRecord version (record_of parts.now)) }
 {
-    let mut buffer = buffer;
-    buffer.clear();
-    let mut writer = Writer::new(buffer);
+    let mut writer = Writer::new(Vec::with_capacity(alloc, LINE_ROOM)?);
     write_record(&mut writer, version, parts)?;
     Ok(writer.into_inner())
 }
@@ -286,7 +279,7 @@ pub fn line_of(alloc: Global, version: Version, parts: &RecordParts) -> Result<S
         (λ s. string_bytes s ≡ record_text version (record_of parts.now)) }
     ensures is { OnOk result (IsRecord version (record_of parts.now)) }
 {
-    let bytes = bytes_of(Vec::with_capacity(alloc, LINE_ROOM)?, version, parts)?;
+    let bytes = bytes_of(alloc, version, parts)?;
     let mut text = String::from_utf8(bytes).unwrap();
     text.push('\n')?;
     Ok(text)

@@ -22,22 +22,22 @@ returns-in_default-2-clause-bad c = λ is r h e.
     let found = c.in_ok-found.ensures.shape r h p.1 in
     rw c.in_default-2.is at found
 
-pub returns-else-is_same-clause-bad : goal.returns-else-is_same-clause-bad
-returns-else-is_same-clause-bad c = λ is r h e.
+pub returns-else-is_text_of-clause-bad : goal.returns-else-is_text_of-clause-bad
+returns-else-is_text_of-clause-bad c = λ is r h e.
     let split : c.args.bytes.now ≡ c.in-Some.line.now ++ c.in-Some.last.now ∷ [] = search rules in
     let p = line_parts c.args.version r c.args.bytes.now c.in-Some.line.now c.in-Some.last.now split e in
     let found = c.in_ok-found.ensures.shape r h p.1 in
     let same : c.in-Some-2.found ≡ r = rw c.in-Some-2.is at found in
-    true≢false (sym (c.in_ok-is_same.ensures.same.1 (ap (λ s. compact_text (record_data c.args.version s)) same ∙ sym p.1)) ∙ c.if-is_same.false)
+    true≢false (sym (c.is_text_of.ensures.same.1 (ap (λ s. compact_text (record_data c.args.version s)) same ∙ sym p.1)) ∙ c.if-is_text_of.false)
 
 pub is_text_of-requires : goal.is_text_of-requires
 is_text_of-requires c = let told = c.in_ok-found.ensures.told in rw c.in-Some-2.is at told
 
-pub returns-then-is_same-clause-ok : goal.returns-then-is_same-clause-ok
+pub returns-then-is_text_of-clause-ok : goal.returns-then-is_text_of-clause-ok
 unfolding record_text
-returns-then-is_same-clause-ok c =
+returns-then-is_text_of-clause-ok c =
     let line = c.in-Some.line.now in
     let split : c.args.bytes.now ≡ line ++ c.in-Some.last.now ∷ [] = search rules in
     let ends : c.in-Some.last.now ≡ 10 = search rules in
-    let same : compact_text (record_data c.args.version c.in-Some-2.found) ≡ line = c.in_ok-is_same.ensures.same.0 c.if-is_same.true in
-    (ap (λ s. s ++ 10 ∷ []) same ∙ ap (λ b. line ++ b ∷ []) (sym ends) ∙ sym split, c.in_ok-is_same.ensures.is)
+    let same : compact_text (record_data c.args.version c.in-Some-2.found) ≡ line = c.is_text_of.ensures.same.0 c.if-is_text_of.true in
+    (ap (λ s. s ++ 10 ∷ []) same ∙ ap (λ b. line ++ b ∷ []) (sym ends) ∙ sym split, c.is_text_of.ensures.is)
