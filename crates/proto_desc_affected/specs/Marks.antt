@@ -1,5 +1,5 @@
 -- Marks of files, one for each: those that an edit affects, and those whose enums they mean.
-use Rattle.std.specs.Prelude.{◌≡◌, ◌⊎◌, ℕ, ◌<◌, Bool, true, false, not, ◌||◌, List, [], length, get_or, Some, option_map}
+use Rattle.std.specs.Prelude.{◌≡◌, ◌⊎◌, ℕ, ◌<◌, Bool, true, false, not, ◌||◌, List, [], length, get_or, Option, Some, option_map}
 use Rattle.std.specs.List.{All}
 use Rattle.indexmap.specs.IndexMap.{IndexMap}
 use Rattle.proto_files.specs.Faults.{HasNoFault}
@@ -16,6 +16,7 @@ use Rattle.proto_resolved.specs.Meanings.{HasEnumsMeant}
 use Rattle.proto_resolved.specs.declared.enum_table.EnumRow.{EnumRow}
 use Rattle.proto_desc_extensions.specs.Extends.{has_extend}
 use Rattle.proto_desc_affected.specs.Checked.{AreKeptOf, IsKeptStill, FileSummaryOf, is_message_kind, kept_by_link, nothing_kept}
+use Rattle.proto_desc_affected.specs.StillEnums.{is_still_to}
 use Rattle.proto_desc_affected.specs.Unaffected.{AreSoundlyEdited}
 
 -- each file that is not marked is not edited, and by the link its references mean what is kept
@@ -35,27 +36,32 @@ AreUnsureKept places files l ks unsure marks =
 
 -- ---- by marks that are told
 
--- who refers to the name in this row has to be checked again, where that is edited: the name is no
--- message's, or this file, which refers to it, had an `extend` block
-abbrev pub counts_to : LinkOf → List FileSummaryOf → ℕ → ℕ → Bool
-counts_to l ks row file =
-    not (is_message_kind (option_map (λ n. n.kind) (name_at l row)))
+-- who refers to the name in this row has to be checked again, where that is edited: the name is
+-- neither a message's nor an enum's that is to this file, which refers to it, what is kept of it; or
+-- the file had an `extend` block
+abbrev pub counts_to : LinkOf → List FileSummaryOf → (ℕ → Option Bool) → ℕ → ℕ → Bool
+counts_to l ks still row file =
+    not (is_message_kind (option_map (λ n. n.kind) (name_at l row))
+    || is_still_to (get_or ks file nothing_kept).is_proto3 (still row))
     || (get_or ks file nothing_kept).has_extend
 
 -- the file of this reference to the name in this row is marked, if the name counts to it
-abbrev pub IsUserMarked : LinkOf → List FileSummaryOf → List Bool → ℕ → RefId → Type 0
-IsUserMarked l ks marks row r =
-    counts_to l ks row r.file ≡ true → r.file < length marks → IsMarked marks r.file
+abbrev pub IsUserMarked
+    : LinkOf → List FileSummaryOf → (ℕ → Option Bool) → List Bool → ℕ → RefId → Type 0
+IsUserMarked l ks still marks row r =
+    counts_to l ks still row r.file ≡ true → r.file < length marks → IsMarked marks r.file
 
 -- so it is with each reference to the name in this row
-abbrev pub AreUsersMarked : LinkOf → List FileSummaryOf → List Bool → ℕ → Type 0
-AreUsersMarked l ks marks row = All (IsUserMarked l ks marks row) (get_or l.references row [])
+abbrev pub AreUsersMarked
+    : LinkOf → List FileSummaryOf → (ℕ → Option Bool) → List Bool → ℕ → Type 0
+AreUsersMarked l ks still marks row =
+    All (IsUserMarked l ks still marks row) (get_or l.references row [])
 
 -- so it is with each name that one of the files at these places declares
 abbrev pub AreUsersOfFilesMarked
-    : List ℕ → LinkOf → List FileSummaryOf → List Bool → Type 0
-AreUsersOfFilesMarked places l ks marks =
-    All (λ file. All (AreUsersMarked l ks marks) (get_or l.rows file [])) places
+    : List ℕ → LinkOf → List FileSummaryOf → (ℕ → Option Bool) → List Bool → Type 0
+AreUsersOfFilesMarked places l ks still marks =
+    All (λ file. All (AreUsersMarked l ks still marks) (get_or l.rows file [])) places
 
 -- where what is kept is of files without faults, and the marks that are told are of the files that
 -- have to be re-checked once these are edited: each file that is not marked is not edited, and

@@ -150,6 +150,14 @@ fn is_left_out(
     is_kept_still(link, edited, still, kept, file)
 }
 
+/// What is kept of files, and the enums of edited files that are what is kept of them, as
+/// `still_enums` tells.
+#[derive(Clone, Copy)]
+struct Summaries<'a> {
+    files: &'a [FileSummary],
+    still: &'a IndexMap<usize, bool>,
+}
+
 /// Those of the unsure files that are edited, at these places, or of which a reference, by
 /// the link now, does not mean what is kept of it, or means what stands in an edited file. If the
 /// file has no `extend` block, a message may stand there, where it was one, and an enum, where it
@@ -158,22 +166,24 @@ fn unsure_to_check(
     alloc: Global,
     linked: &Linked<'_>,
     places: &[u32],
-    kept: &[FileSummary],
+    kept: Summaries,
     unsure: &FileSet,
 ) -> Result<FileSet, NoMemory>
     requires places { All (λ place. place < length linked.now.files) places.now }
-    requires paired { length kept.now ≡ length linked.now.files }
+    requires paired { length kept.files.now ≡ length linked.now.files }
+    requires still { AreStillEnums linked.now.files linked.now.link
+        (file_summaries_of kept.files.now) (get nat_eq kept.still.now) }
     ensures len { IfOk result (λ affected. length affected ≡ length linked.now.files) }
     ensures others { IfOk result (λ affected. AreUnsureKept places.now linked.now.files
-        linked.now.link (file_summaries_of kept.now) unsure.now affected) }
+        linked.now.link (file_summaries_of kept.entry.files.now) unsure.now affected) }
 {
     let link = linked.link();
     let mut edited = FileSet::new(alloc, linked.file_count())?;
     mark_places(&mut edited, places);
-    let still = still_enums(alloc, linked, kept, places)?;
     let mut affected = FileSet::new(alloc, linked.file_count())?;
     for file in 0..linked.file_count() as u32 {
-        if !is_left_out(link, &edited, &still, unsure, &kept[file as usize], file) {
+        let own = &kept.files[file as usize];
+        if !is_left_out(link, &edited, kept.still, unsure, own, file) {
             affected.insert(file);
         }
     }
@@ -197,6 +207,11 @@ pub fn files_to_check(
         linked.now.link (file_summaries_of kept.now) affected) }
 {
     let unsure = FileSet::all(alloc, linked.file_count())?;
+    let still = still_enums(alloc, linked, kept, places)?;
+    let kept = Summaries {
+        files: kept,
+        still: &still,
+    };
     unsure_to_check(alloc, linked, places, kept, &unsure)
 }
 
@@ -210,21 +225,35 @@ fn had_extend(kept: &[FileSummary], file: u32) -> bool
     }
 }
 
-/// Puts a file into the set that refers to a name, unless that is a message's and the file had no
-/// `extend` block.
-fn mark_user(marks: &mut FileSet, link: &Link, kept: &[FileSummary], name: SymbolId, user: RefId)
-    ensures stay { MarksStay marks.old marks.new }
-    ensures marked { IsUserMarked link.now (file_summaries_of kept.now) marks.new name.row user }
+/// Whether a file was proto3, by what is kept of it; false where nothing is.
+fn was_proto3(kept: &[FileSummary], file: u32) -> bool
+    ensures { result ≡ (get_or (file_summaries_of kept.now) file nothing_kept).is_proto3 }
 {
-    if !is_message(link.kind_of(name)) || had_extend(kept, user.file) {
+    match kept.get(file as usize) {
+        Some(kept) => kept.is_proto3,
+        None => false,
+    }
+}
+
+/// Puts a file into the set that refers to a name, unless that is a message's, or an enum's that is
+/// to the file what is kept of it, and the file had no `extend` block.
+fn mark_user(marks: &mut FileSet, link: &Link, kept: Summaries, name: SymbolId, user: RefId)
+    ensures stay { MarksStay marks.old marks.new }
+    ensures marked { IsUserMarked link.now (file_summaries_of kept.entry.files.now)
+        (get nat_eq kept.entry.still.now) marks.new name.row user }
+{
+    let proto3 = was_proto3(kept.files, user.file);
+    let is_same = is_message(link.kind_of(name)) || is_still(kept.still, proto3, name);
+    if !is_same || had_extend(kept.files, user.file) {
         mark_file(marks, Some(user.file));
     }
 }
 
 /// Puts so into the set the files that refer to a name.
-fn mark_users_of_name(marks: &mut FileSet, link: &Link, kept: &[FileSummary], name: SymbolId)
+fn mark_users_of_name(marks: &mut FileSet, link: &Link, kept: Summaries, name: SymbolId)
     ensures stay { MarksStay marks.old marks.new }
-    ensures marked { AreUsersMarked link.now (file_summaries_of kept.now) marks.new name.row }
+    ensures marked { AreUsersMarked link.now (file_summaries_of kept.entry.files.now)
+        (get nat_eq kept.entry.still.now) marks.new name.row }
 {
     for user in link.references(name) {
         mark_user(marks, link, kept, name, *user);
@@ -235,13 +264,14 @@ fn mark_users_of_name(marks: &mut FileSet, link: &Link, kept: &[FileSummary], na
 fn mark_users_at(
     marks: &mut FileSet,
     link: &Link,
-    kept: &[FileSummary],
+    kept: Summaries,
     names: &DeclaredNames<'_>,
     place: usize,
 )
     ensures stay { MarksStay marks.old marks.new }
     ensures marked { IfSome (slice_get names.now.rows.now place)
-        (AreUsersMarked link.now (file_summaries_of kept.now) marks.new) }
+        (AreUsersMarked link.now (file_summaries_of kept.entry.files.now)
+        (get nat_eq kept.entry.still.now) marks.new) }
 {
     if let Some(name) = names.get(place) {
         mark_users_of_name(marks, link, kept, name);
@@ -249,9 +279,10 @@ fn mark_users_at(
 }
 
 /// The same of each name that a file declares.
-fn mark_users_of_file(marks: &mut FileSet, link: &Link, kept: &[FileSummary], file: u32)
+fn mark_users_of_file(marks: &mut FileSet, link: &Link, kept: Summaries, file: u32)
     ensures stay { MarksStay marks.old marks.new }
-    ensures marked { All (AreUsersMarked link.now (file_summaries_of kept.now) marks.new)
+    ensures marked { All (AreUsersMarked link.now (file_summaries_of kept.entry.files.now)
+        (get nat_eq kept.entry.still.now) marks.new)
         (get_or link.now.rows file []) }
 {
     let names = link.declared_in(file);
@@ -261,10 +292,10 @@ fn mark_users_of_file(marks: &mut FileSet, link: &Link, kept: &[FileSummary], fi
 }
 
 /// The same of each name that the files at these places declare.
-fn mark_users(marks: &mut FileSet, link: &Link, kept: &[FileSummary], places: &[u32])
+fn mark_users(marks: &mut FileSet, link: &Link, kept: Summaries, places: &[u32])
     ensures stay { MarksStay marks.old marks.new }
-    ensures marked { AreUsersOfFilesMarked
-        places.now link.now (file_summaries_of kept.now) marks.new }
+    ensures marked { AreUsersOfFilesMarked places.now link.now
+        (file_summaries_of kept.entry.files.now) (get nat_eq kept.entry.still.now) marks.new }
 {
     for place in places {
         mark_users_of_file(marks, link, kept, *place);
@@ -273,8 +304,9 @@ fn mark_users(marks: &mut FileSet, link: &Link, kept: &[FileSummary], places: &[
 
 /// The files that an edit of the files at these places affects, by those that have to be
 /// re-checked, which are told. Of these, and of the files that refer to a name of an edited file,
-/// where it is no message's or they had an `extend` block, it is asked what their references mean;
-/// no other file is asked. Fails only when out of memory.
+/// where it is neither a message's nor an enum's that is to them what is kept of it, or they had an
+/// `extend` block, it is asked what their references mean; no other file is asked. Fails only when
+/// out of memory.
 pub fn told_files_to_check(
     alloc: Global,
     linked: &Linked<'_>,
@@ -293,6 +325,11 @@ pub fn told_files_to_check(
     // lists that are walked here.
     marks_tell_kept();
     links_have_what_is_kept();
+    let still = still_enums(alloc, linked, kept, places)?;
+    let kept = Summaries {
+        files: kept,
+        still: &still,
+    };
     let mut unsure = told.copy(alloc)?;
     mark_users(&mut unsure, linked.link(), kept, places);
     unsure_to_check(alloc, linked, places, kept, &unsure)

@@ -12,7 +12,7 @@ loop-file-preserved c =
     let files = c.args.linked.now.files in
     let places = c.args.places.now in
     let l = c.args.linked.now.link in
-    let kept = c.args.kept.now in
+    let kept = c.args.kept.files.now in
     let unsure = c.args.unsure.now in
     let file = c.loop-file.file in
     let was = c.loop-file.affected in
@@ -33,8 +33,8 @@ loop-file-preserved c =
                 (below_more (λ k. get_or was k false ≡ false → (get_or unsure k false ≡ false) ⊎ IsKeptStill places files l (file_summaries_of kept) k) file c.loop-file.invariant.others
                 (λ _. elim ((rw c.link-link.ensures.link at c.is_left_out.ensures) w.if-not-is_left_out.false) [
                   | inl sure ↦ inl sure
-                  | inr stays ↦ inr (stays places c.mark_places.ensures.marked files (file_summaries_of kept) c.in_ok-still.ensures within
-                      (get_or-map file_summary_of kept file c.index-kept-file.result nothing_kept (omega (arith, within, c.requires.paired)) ∙ ap file_summary_of (sym c.index-kept-file.is)))
+                  | inr stays ↦ inr (stays places c.mark_places.ensures.marked files (file_summaries_of kept) c.requires.still within
+                      (get_or-map file_summary_of kept file c.index-kept-file.result nothing_kept (omega (arith, within, c.requires.paired))))
                 ]));
           }
     ]
