@@ -1,7 +1,8 @@
 """Workspaces to time programs on, and the time and memory of a run.
 
 A workspace has hundreds to thousands of files in eight packages: messages with scalar fields, references within and across
-files, maps, oneofs and enums. Another has its files in hundreds of packages, and one has custom options.
+files, maps, oneofs and enums. Another has its files in hundreds of packages, one has small files with long packages and many
+comments, and one has custom options.
 """
 
 import os
@@ -71,6 +72,77 @@ def write_packages(folder, files, packages):
         os.makedirs(os.path.dirname(os.path.join(folder, path)), exist_ok=True)
         with open(os.path.join(folder, path), "w") as stream:
             stream.write(text)
+        paths.append(path)
+        total += len(text)
+    return paths, total
+
+
+LICENSE = """// Copyright 2026 Example Authors
+//
+// Licensed under the Example License, Version 2.0 (the "License"); you may not use this file except in compliance with the License.
+// You may obtain a copy of the License at
+//
+//     https://example.com/licenses/LICENSE-2.0
+//
+// Unless required by applicable law or agreed to in writing, software distributed under the License is distributed on an "AS IS"
+// BASIS, WITHOUT WARRANTIES OR CONDITIONS OF ANY KIND, either express or implied. See the License for the specific language that
+// governs permissions and limitations under the License.
+
+"""
+
+
+def documented(file, package, others):
+    """A small file of a long package, with a comment on each field, value and method; `others` are the numbers and packages of files
+    that it imports."""
+    lines = []
+    for number in range(1, 6):
+        lines.append(f"  // The attribute {number} of a resource, as callers of this service see it.")
+        lines.append("  // It is empty where nothing is known of the resource, and at most 256 characters long.")
+        lines.append(f"  string attribute_{number} = {number};")
+    for number, (other, place) in enumerate(others, 6):
+        lines.append("  // The resource of another service that this one depends on.")
+        lines.append(f"  {place}.Resource{other} dependency_{number} = {number};")
+    fields = "\n".join(lines)
+    return f"""// A resource of the service, with its state.
+message Resource{file} {{
+{fields}
+
+  // The state that the resource is in.
+  State{file} state = 15;
+}}
+
+// The states of a resource.
+enum State{file} {{
+  // Nothing is known of the state.
+  STATE_{file}_UNSPECIFIED = 0;
+
+  // The resource is in use, and may be changed by callers with the role of an editor.
+  STATE_{file}_ACTIVE = 1;
+}}
+
+// The service that keeps these resources.
+service Keeper{file} {{
+  // Answers one of them, as it is now.
+  rpc Get{file}(Resource{file}) returns (Resource{file});
+}}
+"""
+
+
+def write_documented(folder, files):
+    """Writes so many small files with long packages and comments, as services are written for others to read; answers their paths and
+    how many bytes they are."""
+    places, paths, total = [], [], 0
+    for file in range(files):
+        package = f"example.cloud.platform.area{file % 12}.products.service{file % 219}.resources.v1"
+        path = package.replace(".", "/") + f"/resource_definitions_{file:04}.proto"
+        others = [other for other in (file - 1, file - 219, file - 12) if other >= 0]
+        imports = "".join(f'import "{paths[other]}";\n' for other in others)
+        body = documented(file, package, [(other, places[other]) for other in others])
+        text = f'{LICENSE}syntax = "proto3";\n\npackage {package};\n\n{imports}\n{body}'
+        os.makedirs(os.path.dirname(os.path.join(folder, path)), exist_ok=True)
+        with open(os.path.join(folder, path), "w") as stream:
+            stream.write(text)
+        places.append(package)
         paths.append(path)
         total += len(text)
     return paths, total
