@@ -1,5 +1,5 @@
 -- The marks of what changed are those of the files that have to be re-resolved.
-use Rattle.std.proofs.Common.{◌≡◌, ℕ, ◌+◌, ◌<◌, Bool, true, false, List, [], ◌∷◌, ◌++◌, length, get_or, map, option_map, Option, Some, sym, ◌∙◌, ap, subst, inl, inr, arith, All, Contains, true≢false}
+use Rattle.std.proofs.Common.{◌≡◌, ℕ, ◌<◌, Bool, true, false, List, [], ◌∷◌, ◌++◌, length, get_or, map, option_map, Option, Some, sym, ◌∙◌, ap, subst, inl, inr, arith, All, Contains, true≢false}
 use Rattle.proto_base.proofs.Common.{All-contains, Vec, any_to, both_ways, contains_filter, contains_map, false_from_ne_true, from_map, same_Some, same_from_word, slice_get-get_or}
 use Rattle.proto_case.specs.Camel.{entry_name}
 use Rattle.proto_files.proofs.Common.{FileOf, ReadOf}

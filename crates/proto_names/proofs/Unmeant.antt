@@ -1,5 +1,5 @@
 -- A name that no file declares has no references.
-use Rattle.std.proofs.Common.{◌≡◌, ℕ, suc, ◌+◌, ◌<◌, ◌==◌, cond, List, [], ◌∷◌, ◌++◌, length, get_or, map, None, Some, sym, ◌∙◌, ap, ap₂, inl, inr, arith, refl, All, filter, eqb-true}
+use Rattle.std.proofs.Common.{◌≡◌, ℕ, suc, ◌<◌, ◌==◌, cond, List, [], ◌∷◌, ◌++◌, length, get_or, map, None, Some, sym, ◌∙◌, ap, ap₂, inl, inr, arith, refl, All, filter, eqb-true}
 use Rattle.proto_base.proofs.Common.{cases_Bool, none-some}
 use Rattle.proto_names.proofs.MeantBy.{references_more}
 use Rattle.proto_names.specs.Common.{LinkOf, Meant, MeantBy, NameOf, RefId, all_meant, meant_in_file, name_at, references_to}

@@ -1,7 +1,7 @@
 -- The imports of files and what each file sees, before some are edited and now.
-use Rattle.std.specs.Prelude.{◌≡◌, ℕ, ◌<◌, Bool, List, [], length, get_or, Option, Some, None}
+use Rattle.std.specs.Prelude.{◌≡◌, ◌⊎◌, ℕ, ◌<◌, Bool, false, List, [], length, get_or, map, Option, Some, None}
 use Rattle.std.specs.Global.{Vec}
-use Rattle.std.specs.List.{Contains}
+use Rattle.std.specs.List.{Contains, filter}
 use Rattle.proto_files.specs.FilesRead.{AreRead, ReadOf}
 use Rattle.proto_files.specs.GivenFiles.{FileOf}
 use Rattle.proto_names_imports.specs.Importing.{all_imports}
@@ -36,6 +36,20 @@ pub record WasSight (places : List ℕ) (files : List FileOf) (imports : List (L
   pub were_read : AreRead before was
   pub listed : AreLinkImports before was imports
   pub sight : IsSightOf before was seen
+
+-- the files that these imports name publicly, in their order
+abbrev pub public_files : List FileImport → List ℕ
+public_files is = map (λ i. i.to) (filter (λ i. i.is_public) is)
+
+-- a file that sees what is marked is at none of these places; and where one at these places now has
+-- these imports, for each place in order, it names the same files publicly as before, or this file
+-- does not see it
+pub record KeepsSight (places : List ℕ) (before now : List (List FileImport)) (marks : List Bool)
+    (file : ℕ) : Type 0 where
+  pub apart : Contains places file → ⊥
+  pub each : (k : ℕ) → k < length places
+      → (public_files (get_or before (get_or places k 0) []) ≡ public_files (get_or now k []))
+      ⊎ (get_or marks (get_or places k 0) false ≡ false)
 
 -- the marks of all files but these are as they were
 abbrev pub StayBut : List ℕ → List (List Bool) → List (List Bool) → Type 0

@@ -16,8 +16,8 @@ use crate::references::{Lookup, ReferenceError, meanings};
 use proto_base::NoMemory;
 use proto_file_sets::FileSet;
 use proto_files::{Files, Words, are_read};
+use proto_names_affected::FileMeanings;
 use proto_names_outline::listing::Listing;
-use proto_names_table::Meant;
 use std::alloc::Global;
 
 /// What the references of each file mean, in order; else the least that is faulty, by file, token
@@ -28,7 +28,7 @@ pub(crate) fn all_meanings(
     seen: &[FileSet],
     declarations: &Declarations,
     listings: &[Listing],
-) -> Result<Vec<Vec<Meant>>, ReferenceError>
+) -> Result<Vec<FileMeanings>, ReferenceError>
     requires table { IsTable declarations.now.table }
     requires listings { AreListings files.now listings.now }
     requires seen { length seen.now ≡ length files.now }
@@ -80,7 +80,7 @@ pub(crate) fn file_meanings(
     files: &Files,
     lookup: &Lookup,
     listing: &Listing,
-) -> Result<Vec<Meant>, ReferenceError>
+) -> Result<FileMeanings, ReferenceError>
     requires file { lookup.now.file < length files.now }
     requires table { IsTable lookup.now.table.now }
     requires listing { (r : ReadOf) × ReadsIn (file_at files.now lookup.now.file).profile

@@ -5,6 +5,7 @@ ghost use Rattle.std.specs.List.{All};
 ghost use Rattle.proto_names.specs.Linking.{meant_in_file, all_meant, references_to};
 
 use proto_base::NoMemory;
+use proto_names_affected::FileMeanings;
 use proto_names_table::{Meant, RefId};
 use std::alloc::Global;
 
@@ -12,7 +13,7 @@ use std::alloc::Global;
 pub(crate) fn references_by_name(
     alloc: Global,
     count: usize,
-    meant: &[Vec<Meant>],
+    meant: &[FileMeanings],
 ) -> Result<Vec<Vec<RefId>>, NoMemory>
     requires count { length meant.now ≤ 2 ^ 32 }
     requires within { All (λ v. All (λ m. m.row < count) v.items) meant.now }
@@ -22,7 +23,7 @@ pub(crate) fn references_by_name(
 {
     let mut references = empty_lists(alloc, count)?;
     for file in 0..meant.len() {
-        put_all(&mut references, file as u32, &meant[file])?;
+        put_all(&mut references, file as u32, meant[file].as_slice())?;
     }
     Ok(references)
 }

@@ -1,7 +1,7 @@
 //! The names of linked files, which files see them, and the references that mean them.
 
 ghost use Rattle.std.specs.Prelude.{◌≡◌, ◌≢◌, ◌↔◌, ℕ, ◌<◌, ◌==◌, true, List, [], length, map, get_or, slice_get, option_map, option_and_then, Some, None, IfOk, IfSome, IfNone, if◌then◌else◌};
-ghost use Rattle.std.specs.List.{All, AllPairs};
+ghost use Rattle.std.specs.List.{All, AllPairs, list_any};
 ghost use Rattle.proto_files.specs.GivenFiles.{FileOf, file_at as file_at_place};
 ghost use Rattle.proto_text.specs.Texts.{words};
 ghost use Rattle.proto_text.specs.Tokens.{AreTokens};
@@ -229,7 +229,7 @@ impl Link {
         ensures { option_map (λ id. id.row) result ≡ meant_at self.now file token }
     {
         let meant = self.parts.resolutions.meant.get(file as usize)?;
-        let row = row_of_token(meant, token)?;
+        let row = row_of_token(meant.as_slice(), token)?;
         Some(SymbolId { row })
     }
 
@@ -242,6 +242,18 @@ impl Link {
         match self.parts.resolutions.meant.get(file as usize) {
             Some(meant) => meant.as_slice(),
             None => &[],
+        }
+    }
+
+    /// Whether a reference of the file begins with a word of this key (`word_key`); false where
+    /// there is no such file. Where none does, that mostly takes a few steps, however many
+    /// references the file has. Takes no memory.
+    pub fn begins_with(&self, file: u32, key: u32) -> bool
+        ensures { result ≡ list_any (λ m. m.first == key) (get_or self.now.meant file []) }
+    {
+        match self.parts.resolutions.meant.get(file as usize) {
+            Some(meant) => meant.begins_with(key),
+            None => false,
         }
     }
 

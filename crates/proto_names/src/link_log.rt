@@ -11,9 +11,10 @@ ghost use Rattle.proto_names_table.specs.Tables.{IsTable, IsUnchanged};
 use crate::parts::{Declarations, ImportGraph, LinkParts, Resolutions};
 use proto_base::{Change, roll_back};
 use proto_file_sets::FileSet;
+use proto_names_affected::FileMeanings;
 use proto_names_affected::renewed_references::cut_references;
 use proto_names_imports::import::FileImport;
-use proto_names_table::{Meant, RefId};
+use proto_names_table::RefId;
 use proto_names_update::name_log::NameLog;
 use std::alloc::Global;
 
@@ -39,7 +40,7 @@ pub(crate) struct DeclarationLog {
 #[derive(Drop)]
 pub(crate) struct ResolutionLog {
     /// Of what the references of each file mean.
-    pub(crate) meant: Vec<Change<Vec<Meant>>>,
+    pub(crate) meant: Vec<Change<FileMeanings>>,
     /// Of the references to each name.
     pub(crate) references: Vec<Change<Vec<RefId>>>,
     /// How many lists of references there were.

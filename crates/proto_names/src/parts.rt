@@ -5,12 +5,13 @@ ghost use Rattle.std.specs.Prelude.{◌≡◌, map, IfOk};
 ghost use Rattle.proto_names.specs.LinkOfParts.{link_of};
 ghost use Rattle.proto_names_table.specs.Tables.{AreAlike, IsTable};
 
-use crate::copying::{copied, copied_sets};
+use crate::copying::{copied, copied_meanings, copied_sets};
 use proto_base::NoMemory;
 use proto_file_sets::FileSet;
+use proto_names_affected::FileMeanings;
 use proto_names_imports::import::FileImport;
+use proto_names_table::RefId;
 use proto_names_table::table::Table;
-use proto_names_table::{Meant, RefId};
 use std::alloc::Global;
 
 /// What files import, and which files each sees.
@@ -35,7 +36,7 @@ pub(crate) struct Declarations {
 pub(crate) struct Resolutions {
     /// For each file, its references by their first tokens, which rise, with the keys of their
     /// first words and the rows of the names that they mean.
-    pub(crate) meant: Vec<Vec<Meant>>,
+    pub(crate) meant: Vec<FileMeanings>,
     /// For each name, the references that mean it.
     pub(crate) references: Vec<Vec<RefId>>,
 }
@@ -84,7 +85,7 @@ impl Resolutions {
         ensures references { IfOk result (λ copy. map (λ v. v.items) copy.references.items
             ≡ map (λ v. v.items) self.now.references.items) }
     {
-        let meant = copied(alloc, &self.meant)?;
+        let meant = copied_meanings(alloc, &self.meant)?;
         let references = copied(alloc, &self.references)?;
         Ok(Resolutions { meant, references })
     }

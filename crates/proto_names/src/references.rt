@@ -11,9 +11,10 @@ ghost use Rattle.proto_names.specs.Referring.{first_token_of_use, reference_by, 
 ghost use Rattle.proto_names_table.specs.Tables.{IsTable};
 
 use crate::resolve::resolved_row;
-use proto_base::{NoMemory, OrNoMemory, word_key};
+use proto_base::{OrNoMemory, word_key};
 use proto_file_sets::FileSet;
 use proto_files::Words;
+use proto_names_affected::FileMeanings;
 use proto_names_outline::listing::{Above, Use};
 use proto_names_rules::Kind;
 use proto_names_table::Meant;
@@ -63,7 +64,7 @@ pub(crate) fn meanings(
     lookup: &Lookup,
     words: &Words,
     uses: &[Use],
-) -> Result<Vec<Meant>, ReferenceError>
+) -> Result<FileMeanings, ReferenceError>
     requires table { IsTable lookup.now.table.now }
     requires rows { All (λ r. r < length lookup.now.table.now.rows.items) lookup.now.rows.now }
     requires scopes { All (λ u. needs u.scope ≤ length lookup.now.rows.now) uses.now }
@@ -82,7 +83,7 @@ pub(crate) fn meanings(
         lookup.now.file uses.now e) }
 {
     let file = lookup.file;
-    let mut meant = Vec::new(alloc);
+    let mut meant = FileMeanings::new(alloc, uses.len())?;
     for used in uses {
         let scope = match used.scope {
             Above::Outermost => 0,
@@ -93,9 +94,7 @@ pub(crate) fn meanings(
         let word = words.get(used.reference.words.first);
         let first = word_key(word);
         match sound_row(lookup.table, row, used.wants_message) {
-            Ok(row) => meant
-                .push(Meant { token, first, row })
-                .map_err(NoMemory::from)?,
+            Ok(row) => meant.push(Meant { token, first, row })?,
             Err(flaw) => return Err(ReferenceError::Fault(BadReference { file, token, flaw })),
         }
     }

@@ -1,23 +1,25 @@
 //! The imports of files and what each file sees, once some of them are edited.
 
-ghost use Rattle.std.specs.Prelude.{◌≡◌, ℕ, ◌<◌, ◌≤◌, ◌^◌, List, [], length, get_or, map, None, IfOk, OnOk};
+ghost use Rattle.std.specs.Prelude.{◌≡◌, ℕ, ◌<◌, ◌≤◌, ◌^◌, List, [], true, false, length, get_or, map, None, IfOk, OnOk};
 ghost use Rattle.std.specs.List.{All};
 ghost use Rattle.proto_files.specs.FilesRead.{AreRead, ReadOf};
 ghost use Rattle.proto_base.specs.Undone.{AreWithin, undone};
 ghost use Rattle.proto_names_imports.specs.Importing.{all_imports};
 ghost use Rattle.proto_names_rules.specs.Marks.{MarksSeen};
 ghost use Rattle.proto_names_rules.specs.Names.{Workspace};
-ghost use Rattle.proto_names.specs.Sight.{AreLinkImports, IsSightOf, StayBut, WasSight, undone_seen};
+ghost use Rattle.proto_names_affected.specs.Marking.{IsMarked, MarksStay};
+ghost use Rattle.proto_names.specs.Sight.{AreLinkImports, IsSightOf, KeepsSight, StayBut, WasSight, public_files, undone_seen};
 
 use crate::link_log::GraphLog;
 use crate::parts::ImportGraph;
 use proto_base::{NoMemory, change_all_at};
 use proto_file_sets::FileSet;
 use proto_files::Files;
+use proto_names_affected::marking::mark_places;
 use proto_names_imports::import::FileImport;
 use proto_names_imports::import_cycles::has_no_cycle;
 use proto_names_imports::laws::{kept_imports_stay, listed_imports_are_known};
-use proto_names_imports::sight::all_seen;
+use proto_names_imports::sight::{public_targets, seen_again};
 use proto_names_update::NotUpdated;
 use proto_names_update::kept_imports::{all_imports_kept, imports_at};
 use std::alloc::Global;
@@ -63,20 +65,91 @@ impl ImportGraph {
             return Ok(Vec::new(alloc));
         }
         let now = imports_at(alloc, files, places)?;
+        let stale = files_to_ask(alloc, &self.imports, &self.seen, places, &now)?;
         change_all_at(&mut self.imports, &mut log.imports, places, now)?;
         if !has_no_cycle(alloc, &self.imports)? {
             return Err(NotUpdated::NeedsRebuild);
         }
-        let others = update_seen(alloc, &self.imports, &mut self.seen, &mut log.seen)?;
+        let others = update_seen(alloc, &self.imports, &stale, &mut self.seen, &mut log.seen)?;
         Ok(others)
     }
 }
 
+/// The files that may see others once those at these places have these imports in place of theirs:
+/// these, and where one of them imports others publicly, each that saw it. Fails only when out of
+/// memory.
+fn files_to_ask(
+    alloc: Global,
+    imports: &[Vec<FileImport>],
+    seen: &[FileSet],
+    places: &[u32],
+    now: &[Vec<FileImport>],
+) -> Result<FileSet, NoMemory>
+    requires places { All (λ place. place < length imports.now) places.now }
+    requires seen { length seen.now ≡ length imports.now }
+    requires paired { length now.now ≡ length places.now }
+    ensures len { IfOk result (λ stale. length stale ≡ length imports.now) }
+    ensures others { IfOk result (λ stale. (file : ℕ) → file < length imports.now
+        → get_or stale file false ≡ false
+        → KeepsSight places.now (map (λ v. v.items) imports.now) (map (λ v. v.items) now.now)
+        (get_or seen.now file []) file) }
+{
+    let mut stale = FileSet::new(alloc, seen.len())?;
+    mark_places(&mut stale, places);
+    for k in 0..places.len() {
+        let place = places[k];
+        if !import_same_publicly(alloc, &imports[place as usize], &now[k])? {
+            mark_who_sees(&mut stale, seen, place);
+        }
+    }
+    Ok(stale)
+}
+
+/// Whether both lists name the same files publicly, in the same order. Fails only when out of
+/// memory.
+fn import_same_publicly(
+    alloc: Global,
+    one: &[FileImport],
+    other: &[FileImport],
+) -> Result<bool, NoMemory>
+    ensures { IfOk result (λ same. same ≡ true → public_files one.now ≡ public_files other.now) }
+{
+    let one = public_targets(alloc, one)?;
+    let other = public_targets(alloc, other)?;
+    Ok(one.as_slice() == other.as_slice())
+}
+
+/// Puts the files into the set that see the one with this number.
+fn mark_who_sees(marks: &mut FileSet, seen: &[FileSet], place: u32)
+    requires { length seen.now ≡ length marks.old }
+    ensures stay { MarksStay marks.old marks.new }
+    ensures marked { (file : ℕ) → file < length marks.old
+        → get_or (get_or seen.now file []) place false ≡ true → IsMarked marks.new file }
+{
+    for file in 0..seen.len() {
+        mark_if_sees(marks, file, &seen[file], place);
+    }
+}
+
+/// Puts a file into the set, if it sees the one with this number.
+#[tactic(auto, using(proto_names_affected::proofs::Inserted::inserted_stay, proto_names_affected::proofs::Inserted::inserted_marked))]
+fn mark_if_sees(marks: &mut FileSet, file: usize, seen: &FileSet, place: u32)
+    requires { file < length marks.old }
+    ensures stay { MarksStay marks.old marks.new }
+    ensures marked { get_or seen.now place false ≡ true → IsMarked marks.new file }
+{
+    if seen.contains(place) {
+        marks.insert_at(file);
+    }
+}
+
 /// Puts what each file sees by these imports in place of what it saw, which the log has then;
-/// answers the files that see others than before. Fails only when out of memory.
+/// answers the files that see others than before. What the files see that are not in the set stays.
+/// Fails only when out of memory.
 fn update_seen(
     alloc: Global,
     imports: &[Vec<FileImport>],
+    stale: &FileSet,
     seen: &mut Vec<FileSet>,
     log: &mut Option<Vec<FileSet>>,
 ) -> Result<Vec<u32>, NoMemory>
@@ -84,6 +157,10 @@ fn update_seen(
     requires within { All (λ v. All (λ i. i.to < length imports.now) v.items) imports.now }
     requires paired { length seen.old.items ≡ length imports.now }
     requires none { log.old ≡ None }
+    requires known { (w : Workspace) → w.files ≡ length imports.now
+        → w.imports ≡ all_imports 0 (map (λ v. v.items) imports.now)
+        → (file : ℕ) → file < length imports.now → get_or stale.now file false ≡ false
+        → MarksSeen w file (get_or seen.old.items file []) }
     ensures undone { undone_seen log.new seen.new.items ≡ seen.old.items }
     ensures len { OnOk result (length seen.new.items ≡ length imports.now) }
     ensures exact { OnOk result ((w : Workspace) → w.files ≡ length imports.now
@@ -94,23 +171,30 @@ fn update_seen(
         (λ others. All (λ file. file < length imports.now) others.items) }
     ensures unchanged { IfOk result (λ others. StayBut others.items seen.old.items seen.new.items) }
 {
-    let now = all_seen(alloc, imports)?;
-    let others = changed_sight(alloc, seen, &now)?;
+    let now = seen_again(alloc, imports, stale, seen)?;
+    let others = changed_sight(alloc, stale, seen, &now)?;
     *log = Some(mem::replace(seen, now));
     Ok(others)
 }
 
-/// The files that see others now than before. Fails only when out of memory.
-fn changed_sight(alloc: Global, before: &[FileSet], now: &[FileSet]) -> Result<Vec<u32>, NoMemory>
+/// The files that see others now than before, which are of the set. Fails only when out of memory.
+fn changed_sight(
+    alloc: Global,
+    stale: &FileSet,
+    before: &[FileSet],
+    now: &[FileSet],
+) -> Result<Vec<u32>, NoMemory>
     requires paired { length before.now ≡ length now.now }
     requires few { length now.now ≤ 2 ^ 32 }
+    requires stay { (file : ℕ) → file < length now.now → get_or stale.now file false ≡ false
+        → get_or now.now file [] ≡ get_or before.now file [] }
     ensures within { IfOk result (λ files. All (λ file. file < length now.now) files.items) }
     ensures kept { IfOk result (λ files. StayBut files.items
         before.now now.now) }
 {
     let mut files = Vec::new(alloc);
     for file in 0..now.len() {
-        if !before[file].is_same(&now[file]) {
+        if stale.contains_at(file) && !before[file].is_same(&now[file]) {
             files.push(file as u32)?;
         }
     }

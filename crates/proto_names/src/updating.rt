@@ -30,12 +30,13 @@ use proto_base::laws::added_are_cut;
 use proto_base::{Change, NoMemory, change_all_at, change_at};
 use proto_file_sets::FileSet;
 use proto_files::{Files, are_read};
+use proto_names_affected::FileMeanings;
 use proto_names_affected::changed_files::{Linked, marks_of_changes, outer_rows_at};
 use proto_names_affected::outer_rows::KindRow;
 use proto_names_affected::renewed_references::{grow_references, renew_references};
 use proto_names_affected::sight::{Sighted, mark_by_sight};
 use proto_names_outline::file_listing::list_file;
-use proto_names_table::{Meant, RefId};
+use proto_names_table::RefId;
 use proto_names_update::NotUpdated;
 use proto_names_update::renewed_names::renew_names;
 use std::alloc::Global;
@@ -114,8 +115,8 @@ fn resolve_file(
     alloc: Global,
     resolver: Resolver,
     file: u32,
-    meant: &mut Vec<Vec<Meant>>,
-    log: &mut Vec<Change<Vec<Meant>>>,
+    meant: &mut Vec<FileMeanings>,
+    log: &mut Vec<Change<FileMeanings>>,
 ) -> Result<bool, NoMemory>
     requires table { IsTable resolver.declarations.now.table }
     requires file { file < length resolver.files.now }
@@ -173,8 +174,8 @@ fn resolve_again(
     alloc: Global,
     resolver: Resolver,
     affected: &FileSet,
-    meant: &mut Vec<Vec<Meant>>,
-    log: &mut Vec<Change<Vec<Meant>>>,
+    meant: &mut Vec<FileMeanings>,
+    log: &mut Vec<Change<FileMeanings>>,
 ) -> Result<bool, NoMemory>
     requires table { IsTable resolver.declarations.now.table }
     requires paired { length resolver.declarations.now.rows.items ≡ length resolver.files.now }
@@ -221,7 +222,7 @@ fn mark_others(
     affected: &mut FileSet,
     edited: Edited,
     declarations: &Declarations,
-    meant: &[Vec<Meant>],
+    meant: &[FileMeanings],
 ) -> Result<(), NoMemory>
     requires table { IsTable declarations.now.table }
     requires others { All (λ file. file < length affected.old) edited.others.now }

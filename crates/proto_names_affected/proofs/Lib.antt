@@ -1,3 +1,4 @@
+mod Begun
 mod Changes
 pub mod Inserted
 mod KindRows

@@ -6,7 +6,7 @@ use Rattle.std.proofs.lemmas.Bool.{both_ways, eq-eqb}
 use Rattle.proto_base.proofs.Common.{any_from}
 use Rattle.proto_names_table.specs.declared.ids.Meant.{Meant}
 use Rattle.proto_names_table.specs.declared.ids.RefId.{RefId}
-use Rattle.proto_names_affected.specs.Marking.{MarksStay}
+use Rattle.proto_names_affected.specs.Marking.{MarksStay, begins_so}
 
 pub stay_same : (marks : List Bool) → MarksStay marks marks
 stay_same marks = record { count = refl; set = λ file h. h }
@@ -21,11 +21,11 @@ own_within P (v ∷ vs) zero h = h 0 v (omega arith)
 own_within P (v ∷ vs) (suc row) h = own_within P vs row (λ k d l. h (suc k) d (omega (arith, l)))
 
 -- where no reference passes, none begins with one of the keys
-pub none_begins : (ms : List Meant) (keys : List ℕ) (m : Meant) → list_any (λ (x : Meant). list_any (λ k. x.first == k) keys) ms ≡ false → Contains ms m → Contains keys m.first → ⊥
-none_begins ms keys m none there key =
-    both_ways (list_any (λ (x : Meant). list_any (λ k. x.first == k) keys) ms) none
-    (any_from (λ (x : Meant). list_any (λ k. x.first == k) keys) ms m there
-    (any_from (λ k. m.first == k) keys m.first key (eq-eqb m.first m.first refl)))
+pub none_begins : (keys : List ℕ) (ms : List Meant) (m : Meant) → begins_so keys ms ≡ false → Contains ms m → Contains keys m.first → ⊥
+none_begins keys ms m none there key =
+    both_ways (begins_so keys ms) none
+    (any_from (λ k. list_any (λ (x : Meant). x.first == k) ms) keys m.first key
+    (any_from (λ (x : Meant). x.first == m.first) ms m there (eq-eqb m.first m.first refl)))
 
 pub nothing_there : {X : Type 0} (x : X) → Contains [] x → ⊥
 nothing_there x c = absurd (omega (arith, c.1))

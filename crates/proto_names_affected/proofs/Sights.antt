@@ -1,5 +1,5 @@
 -- What is gathered of the names of files, one row more; and when a file is kept in sight.
-use Rattle.std.proofs.Common.{◌≡◌, ◌⊎◌, ℕ, ◌+◌, ◌<◌, ◌==◌, ◌&&◌, Bool, true, false, not, List, [], ◌∷◌, ◌++◌, length, get_or, map, take, drop, nat_eq, sym, subst, inl, inr, arith, All, refl, take-append-drop}
+use Rattle.std.proofs.Common.{◌≡◌, ◌⊎◌, ℕ, ◌+◌, ◌<◌, ◌&&◌, Bool, true, false, not, List, [], ◌∷◌, ◌++◌, length, get_or, map, take, drop, nat_eq, sym, subst, inl, inr, arith, All, refl, take-append-drop}
 use Rattle.std.specs.Global.{Vec}
 use Rattle.std.specs.List.{Contains, list_all, list_any}
 use Rattle.std.proofs.lemmas.Bool.{and_parts, both_ways, cases_Bool, cases_lt, cond-false, cond-true, eqb-true, not-true}
@@ -10,7 +10,7 @@ use Rattle.indexmap.proofs.CallerLemmas.{Contains-insert_key}
 use Rattle.indexmap.specs.IndexSet.{insert_key}
 use Rattle.proto_base.specs.Words.{word_key}
 use Rattle.proto_names_table.specs.declared.ids.Meant.{Meant}
-use Rattle.proto_names_affected.specs.Marking.{IsMarked, MarksStay}
+use Rattle.proto_names_affected.specs.Marking.{IsMarked, MarksStay, begins_so}
 use Rattle.proto_names_affected.specs.Sight.{AreMoreGathered, HasLastWord, IsGathered, IsKeptInSight, IsNewlySeen, IsOwnOrApart, IsSightMarked, NoneBegins, is_seen_at}
 use Rattle.proto_names_affected.proofs.KindRows.{key_stays, there_cases}
 use Rattle.proto_names_affected.proofs.Marks.{none_begins}
@@ -119,26 +119,23 @@ all_pass p xs h k d l = elim (cases_Bool (p (get_or xs k d))) [
   | inr fails ↦ absurd (both_ways (list_all p xs) (list_all_at p xs k d l fails) h)
 ]
 
-abbrev pub begins : List Meant → List ℕ → Bool
-begins ms keys = list_any (λ (m : Meant). list_any (λ k. m.first == k) keys) ms
-
 module _ (t : Table) (ms : List Meant) where
-  apart : (keys : List ℕ) (row : ℕ) → HasLastWord t keys row → begins ms keys ≡ false → NoneBegins t ms row
-  apart keys row has none front word plain named m there e = none_begins ms keys m none there (subst (Contains keys) (sym e) (has front word plain named))
+  apart : (keys : List ℕ) (row : ℕ) → HasLastWord t keys row → begins_so keys ms ≡ false → NoneBegins t ms row
+  apart keys row has none front word plain named m there e = none_begins keys ms m none there (subst (Contains keys) (sym e) (has front word plain named))
 
-  pub kept_in_sight : (rows : List (List ℕ)) (own : List ℕ) (before now : List Bool) (p k f : List ℕ) → (list_all (λ (m : Meant). is_seen_at t now m.row) ms && (not (begins ms k) && not (begins ms f))) ≡ true
+  pub kept_in_sight : (rows : List (List ℕ)) (own : List ℕ) (before now : List Bool) (p k f : List ℕ) → (list_all (λ (m : Meant). is_seen_at t now m.row) ms && (not (begins_so k ms) && not (begins_so f ms))) ≡ true
       → ((row : ℕ) → Contains p row → Contains own row ⊎ HasLastWord t f row) → ((g : ℕ) → IsNewlySeen before now g → All (IsGathered t p k) (get_or rows g [])) → IsKeptInSight t rows own ms before now
   kept_in_sight rows own before now p k f told foreign gathered =
-      let a = and_parts (list_all (λ (m : Meant). is_seen_at t now m.row) ms) (not (begins ms k) && not (begins ms f)) told in
-      let b = and_parts (not (begins ms k)) (not (begins ms f)) a.1 in
+      let a = and_parts (list_all (λ (m : Meant). is_seen_at t now m.row) ms) (not (begins_so k ms) && not (begins_so f ms)) told in
+      let b = and_parts (not (begins_so k ms)) (not (begins_so f ms)) a.1 in
       record {
         none_hidden = all_pass (λ (m : Meant). is_seen_at t now m.row) ms a.0;
         none_shown = λ g new. All-weaker (IsGathered t p k) (IsOwnOrApart t own ms) (λ row h outer top. elim (h outer top) [
           | inl there ↦ elim (foreign row there) [
             | inl o ↦ inl o
-            | inr has ↦ inr (apart f row has (not-true (begins ms f) b.1))
+            | inr has ↦ inr (apart f row has (not-true (begins_so f ms) b.1))
           ]
-          | inr has ↦ inr (apart k row has (not-true (begins ms k) b.0))
+          | inr has ↦ inr (apart k row has (not-true (begins_so k ms) b.0))
         ]) (get_or rows g []) (gathered g new);
       }
 

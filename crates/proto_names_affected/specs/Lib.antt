@@ -1,4 +1,5 @@
 pub mod ChangedFiles
+pub mod FileMeanings
 pub mod Gathering
 pub mod Marking
 pub mod Merged

@@ -1,6 +1,6 @@
 -- Which files are marked, to be re-resolved.
-use Rattle.std.specs.Prelude.{◌≡◌, ℕ, Bool, true, false, List, [], length, get_or}
-use Rattle.std.specs.List.{All, Contains}
+use Rattle.std.specs.Prelude.{◌≡◌, ℕ, ◌==◌, Bool, true, false, List, [], length, get_or}
+use Rattle.std.specs.List.{All, Contains, list_any}
 use Rattle.proto_names_table.specs.declared.ids.Meant.{Meant}
 use Rattle.proto_names_table.specs.declared.ids.RefId.{RefId}
 
@@ -31,3 +31,7 @@ abbrev pub AreBeginnersMarked : List Bool → List (List Meant) → List ℕ →
 AreBeginnersMarked marks meant keys =
     (file : ℕ) (m : Meant) → Contains (get_or meant file []) m → Contains keys m.first
     → IsMarked marks file
+
+-- one of the references begins with a word of one of these keys
+abbrev pub begins_so : List ℕ → List Meant → Bool
+begins_so keys ms = list_any (λ key. list_any (λ m. m.first == key) ms) keys

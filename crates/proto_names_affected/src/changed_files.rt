@@ -6,12 +6,13 @@ ghost use Rattle.proto_names_affected.specs.ChangedFiles.{AreChangesMarked, IsCh
 ghost use Rattle.proto_names_affected.specs.Marking.{MarksStay};
 ghost use Rattle.proto_names_table.specs.Tables.{IsTable};
 
+use crate::file_meanings::FileMeanings;
 use crate::marking::{mark_beginners, mark_places, mark_users};
 use crate::outer_rows::{KindRow, last_word_keys, outer_rows, rows_below_no_type, rows_not_among};
 use proto_base::NoMemory;
 use proto_file_sets::FileSet;
+use proto_names_table::RefId;
 use proto_names_table::table::Table;
-use proto_names_table::{Meant, RefId};
 use std::alloc::Global;
 
 /// For each of the files at these places the rows of its declarations whose names may hold others
@@ -41,7 +42,7 @@ pub struct Linked<'a> {
     /// For each row the references to its name, as they were.
     pub references: &'a [Vec<RefId>],
     /// For each file what its references mean, as they were.
-    pub meant: &'a [Vec<Meant>],
+    pub meant: &'a [FileMeanings],
 }
 
 /// The files that have to be re-resolved: those at these places;

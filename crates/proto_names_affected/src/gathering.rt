@@ -6,6 +6,7 @@ ghost use Rattle.indexmap.specs.IndexSet.{IsUnique};
 ghost use Rattle.proto_names_affected.specs.Referred.{meant_row};
 ghost use Rattle.proto_names_affected.specs.Gathering.{AreRowsBelow, AreRowsNamed, Gathers, HasGathered, IsSound, marked_meant};
 
+use crate::file_meanings::FileMeanings;
 use indexmap::IndexSet;
 use proto_base::{Change, NoMemory};
 use proto_file_sets::FileSet;
@@ -83,7 +84,7 @@ impl Gathered {
     pub fn add_former_rows(
         &mut self,
         alloc: Global,
-        old: &[Change<Vec<Meant>>],
+        old: &[Change<FileMeanings>],
     ) -> Result<(), NoMemory>
         requires sound { IsSound self.old }
         requires within { All (λ c. AreRowsBelow self.old.count c.was.items) old.now }
@@ -92,7 +93,7 @@ impl Gathered {
             (All (λ c. AreRowsNamed self.new.rows.keys c.was.items) old.now) }
     {
         for change in old {
-            self.add_rows(alloc, &change.was)?;
+            self.add_rows(alloc, change.was.as_slice())?;
         }
         Ok(())
     }
@@ -138,7 +139,7 @@ impl Gathered {
         &mut self,
         alloc: Global,
         marks: &FileSet,
-        meant: &[Vec<Meant>],
+        meant: &[FileMeanings],
     ) -> Result<(), NoMemory>
         requires sound { IsSound self.old }
         requires within { All (λ v. AreRowsBelow self.old.count v.items) meant.now }
@@ -147,7 +148,7 @@ impl Gathered {
             (marked_meant marks.now 0 (map (λ v. v.items) meant.now))) }
     {
         for file in 0..meant.len() {
-            self.add_if_marked(alloc, marks, file as u32, &meant[file])?;
+            self.add_if_marked(alloc, marks, file as u32, meant[file].as_slice())?;
         }
         Ok(())
     }

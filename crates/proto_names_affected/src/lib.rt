@@ -4,6 +4,7 @@
 
 mod backlinks;
 pub mod changed_files;
+mod file_meanings;
 pub mod gathering;
 pub mod laws;
 pub mod marking;
@@ -13,3 +14,4 @@ mod shown_names;
 pub mod sight;
 
 pub use backlinks::renewed;
+pub use file_meanings::FileMeanings;

@@ -1,13 +1,14 @@
 //! Puts files that have to be re-resolved into a set.
 
-ghost use Rattle.std.specs.Prelude.{◌≡◌, ◌<◌, ◌==◌, [], length, get_or, map};
-ghost use Rattle.std.specs.List.{All, Contains, list_any};
+ghost use Rattle.std.specs.Prelude.{◌≡◌, ◌<◌, [], length, get_or, map};
+ghost use Rattle.std.specs.List.{All, Contains};
 ghost use Rattle.proto_names_table.specs.declared.ids.Meant.{Meant as MeantOf};
-ghost use Rattle.proto_names_affected.specs.Marking.{AreBeginnersMarked, ArePlacesMarked, AreReferencesMarked, AreUsersMarked, IsMarked, MarksStay};
+ghost use Rattle.proto_names_affected.specs.Marking.{AreBeginnersMarked, ArePlacesMarked, AreReferencesMarked, AreUsersMarked, IsMarked, MarksStay, begins_so};
 
+use crate::file_meanings::FileMeanings;
 use indexmap::IndexSet;
 use proto_file_sets::FileSet;
-use proto_names_table::{Meant, RefId};
+use proto_names_table::RefId;
 
 /// Puts these files into the set.
 pub fn mark_places(marks: &mut FileSet, places: &[u32])
@@ -56,7 +57,7 @@ fn mark_all(marks: &mut FileSet, references: &[RefId])
 
 /// Puts the files into the set that have references which begin with a word of one of these keys.
 /// Where there is no key, no reference is looked at.
-pub fn mark_beginners(marks: &mut FileSet, meant: &[Vec<Meant>], keys: &IndexSet<u32>)
+pub fn mark_beginners(marks: &mut FileSet, meant: &[FileMeanings], keys: &IndexSet<u32>)
     requires { length meant.now ≡ length marks.old }
     ensures stay { MarksStay marks.old marks.new }
     ensures marked { AreBeginnersMarked
@@ -68,7 +69,7 @@ pub fn mark_beginners(marks: &mut FileSet, meant: &[Vec<Meant>], keys: &IndexSet
 }
 
 /// The same, whether there are keys or not.
-fn mark_each_beginner(marks: &mut FileSet, meant: &[Vec<Meant>], keys: &IndexSet<u32>)
+fn mark_each_beginner(marks: &mut FileSet, meant: &[FileMeanings], keys: &IndexSet<u32>)
     requires { length meant.now ≡ length marks.old }
     ensures stay { MarksStay marks.old marks.new }
     ensures marked { AreBeginnersMarked
@@ -79,13 +80,13 @@ fn mark_each_beginner(marks: &mut FileSet, meant: &[Vec<Meant>], keys: &IndexSet
     }
 }
 
-/// Puts a file into the set, if one of these, its references, begins with a word of one of these
-/// keys.
+/// Puts a file into the set, if one of its references, which mean these, begins with a word of one
+/// of these keys.
 #[tactic(auto, using(crate::proofs::Inserted::inserted_stay, crate::proofs::Inserted::inserted_marked))]
-fn mark_beginner(marks: &mut FileSet, file: usize, meant: &[Meant], keys: &IndexSet<u32>)
+fn mark_beginner(marks: &mut FileSet, file: usize, meant: &FileMeanings, keys: &IndexSet<u32>)
     requires { file < length marks.old }
     ensures stay { MarksStay marks.old marks.new }
-    ensures marked { (m : MeantOf) → Contains meant.now m → Contains keys.now.keys m.first
+    ensures marked { (m : MeantOf) → Contains meant.now.items m → Contains keys.now.keys m.first
         → IsMarked marks.new file }
 {
     if begins_so(meant, keys) {
@@ -94,8 +95,8 @@ fn mark_beginner(marks: &mut FileSet, file: usize, meant: &[Meant], keys: &Index
 }
 
 /// Whether one of the references begins with a word of one of these keys.
-pub(crate) fn begins_so(meant: &[Meant], keys: &IndexSet<u32>) -> bool
-    ensures { result ≡ list_any (λ m. list_any (λ k. m.first == k) keys.now.keys) meant.now }
+pub(crate) fn begins_so(meant: &FileMeanings, keys: &IndexSet<u32>) -> bool
+    ensures { result ≡ begins_so keys.now.keys meant.now.items }
 {
-    meant.iter().any(|m| keys.contains(&m.first))
+    keys.as_slice().iter().any(|key| meant.begins_with(*key))
 }

@@ -7,6 +7,7 @@ ghost use Rattle.proto_names_affected.specs.Gathering.{AreRowsBelow};
 ghost use Rattle.proto_names_affected.specs.Renewed.{AreGrown, AreReferencesOf, AreRenewed};
 
 use crate::backlinks::renewed;
+use crate::file_meanings::FileMeanings;
 use crate::gathering::Gathered;
 use crate::laws::references_are_parted;
 use proto_base::{Change, NoMemory, change_at};
@@ -22,8 +23,8 @@ pub fn renew_references(
     references: &mut Vec<Vec<RefId>>,
     log: &mut Vec<Change<Vec<RefId>>>,
     marks: &FileSet,
-    old: &[Change<Vec<Meant>>],
-    meant: &[Vec<Meant>],
+    old: &[Change<FileMeanings>],
+    meant: &[FileMeanings],
 ) -> Result<(), NoMemory>
     requires count { length meant.now ≤ 2 ^ 32 }
     requires former { All

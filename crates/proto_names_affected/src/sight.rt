@@ -1,11 +1,12 @@
 //! The files that have to be re-resolved for what they see, once some are edited.
 
-ghost use Rattle.std.specs.Prelude.{◌≡◌, ℕ, ◌<◌, ◌==◌, ◌&&◌, false, not, [], length, get_or, map, IfOk, OnOk};
-ghost use Rattle.std.specs.List.{All, list_all, list_any};
-ghost use Rattle.proto_names_affected.specs.Marking.{IsMarked, MarksStay};
+ghost use Rattle.std.specs.Prelude.{◌≡◌, ℕ, ◌<◌, ◌&&◌, false, not, [], length, get_or, map, IfOk, OnOk};
+ghost use Rattle.std.specs.List.{All, list_all};
+ghost use Rattle.proto_names_affected.specs.Marking.{IsMarked, MarksStay, begins_so};
 ghost use Rattle.proto_names_affected.specs.Sight.{IsGathered, IsNewlySeen, IsSightMarked, is_seen_at};
 ghost use Rattle.proto_names_table.specs.Tables.{IsTable};
 
+use crate::file_meanings::FileMeanings;
 use crate::marking::begins_so;
 use crate::shown_names::{ShownNames, shown_names};
 use indexmap::IndexSet;
@@ -23,7 +24,7 @@ pub struct Sighted<'a> {
     /// For each file the rows of its declarations now.
     pub rows: &'a [Vec<usize>],
     /// For each file what its references mean, as they were.
-    pub meant: &'a [Vec<Meant>],
+    pub meant: &'a [FileMeanings],
     /// For each file the files that it saw.
     pub before: &'a [FileSet],
     /// For each file the files that it sees.
@@ -154,15 +155,15 @@ fn mark_unless(marks: &mut FileSet, file: u32, is_kept: bool)
 fn means_the_same(
     table: &Table,
     sees: &FileSet,
-    meant: &[Meant],
+    meant: &FileMeanings,
     keys: &IndexSet<u32>,
     foreign: &IndexSet<u32>,
 ) -> bool
-    ensures { result ≡ (list_all (λ m. is_seen_at table.now sees.now m.row) meant.now
-        && (not (list_any (λ m. list_any (λ k. m.first == k) keys.now.keys) meant.now)
-        && not (list_any (λ m. list_any (λ k. m.first == k) foreign.now.keys) meant.now))) }
+    ensures { result ≡ (list_all (λ m. is_seen_at table.now sees.now m.row) meant.now.items
+        && (not (begins_so keys.now.keys meant.now.items)
+        && not (begins_so foreign.now.keys meant.now.items))) }
 {
-    sees_all(table, sees, meant) && !begins_so(meant, keys) && !begins_so(meant, foreign)
+    sees_all(table, sees, meant.as_slice()) && !begins_so(meant, keys) && !begins_so(meant, foreign)
 }
 
 /// Whether a file that sees these sees what its references mean.

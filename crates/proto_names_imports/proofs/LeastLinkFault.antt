@@ -1,5 +1,5 @@
 -- The least fault by file, token and number is the least by phase, path, offset and number (for the crates above).
-use Rattle.std.proofs.Common.{◌≡◌, ℕ, suc, ◌<◌, List, [], length, sym, ap, subst, ◌∙◌, inl, inr, ◌⊎◌, arith}
+use Rattle.std.proofs.Common.{◌≡◌, ℕ, suc, ◌<◌, List, length, sym, ap, subst, ◌∙◌, inl, inr, ◌⊎◌, arith}
 use Rattle.proto_base.proofs.Common.{cases_order, kind_number, phase_of}
 use Rattle.proto_text.specs.declared.lexer.Token.{Token}
 use Rattle.proto_text.proofs.Common.{offset_at, AreTokens, tokens_are_in_order}

@@ -17,6 +17,7 @@ pub mod PlainNames
 mod Ranks
 pub mod Resolving
 pub mod SeenFiles
+pub mod SightStays
 pub mod Turned
 pub mod Walks
 mod Numbered

@@ -8,7 +8,7 @@ pub loop-file-preserved : goal.loop-file-preserved
 loop-file-preserved c =
     let fs = map (λ v. v.items) c.args.meant.now in
     let n = length-map c.args.meant.now (λ v. v.items) in
-    let here = c.deref.ensures.value ∙ ap (λ v. v.items) c.index-meant-file.is ∙ sym (get_or-map (λ v. v.items) c.args.meant.now c.loop-file.file c.index-meant-file.result [] c.loop-file-test.true) in
+    let here = c.as_slice.ensures ∙ ap (λ v. v.items) c.index-meant-file.is ∙ sym (get_or-map (λ v. v.items) c.args.meant.now c.loop-file.file c.index-meant-file.result [] c.loop-file-test.true) in
     let old = map (λ v. v.items) c.loop-file.references.items in
     record {
       len = omega (arith, c.in_ok-put_all.ensures.len, c.loop-file.invariant.len);

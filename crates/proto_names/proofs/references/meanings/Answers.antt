@@ -1,5 +1,4 @@
-use Rattle.std.proofs.Common.{◌≡◌, ◌≤◌, ◌+◌, take, ◌∷◌, ◌++◌, [], length, get_or, map, option_map, refl, sym, ◌∙◌, ap, subst, is_ok, take_all}
-use Rattle.std.proofs.lemmas.Bool.{cond-true}
+use Rattle.std.proofs.Common.{◌≡◌, ◌≤◌, ◌+◌, take, [], length, get_or, map, option_map, refl, sym, ◌∙◌, ap, subst, take_all}
 use Rattle.proto_text.specs.Texts.{word_at}
 use Rattle.proto_names_outline.specs.Listing.{needs}
 use Rattle.proto_names_table.specs.Filling.{number_above}
@@ -35,7 +34,7 @@ loop-used-preserved c = λ w names read. (
     let asked = asked_in c.args.lookup.now.table.now c.args.lookup.now.seen.now c.args.lookup.now.rows.now names c.args.lookup.now.file w read (word_at c.args.words.now) c.used-item.result within c.match-used.scope scope in
     let is = ap (option_map (λ k. get_or (names_of c.args.lookup.now.table.now) k [])) (sym c.in-Ok.ensures.row.0) ∙ c.resolved_row-row.ensures.meant w (f c.used-item.result) asked refl refl in
     let sound = ap (λ o. row_flaw c.args.lookup.now.table.now o c.used-item.result.wants_message) (sym c.in-Ok.ensures.row.0) ∙ c.in-Ok.ensures.row.1 in
-    let items = c.push.ensures.items ∙ cond-true (is_ok c.push.result) (c.loop-used.meant.items ++ record { token = c.token_of-token.result; first = c.word_key-first.result; row = c.in-Ok.row } ∷ []) c.loop-used.meant.items (sym c.map_err.ensures.variant ∙ ap is_ok c.in_ok-map_err-in-Ok.was) in
+    let items = c.in_ok-push-in-Ok.ensures in
     subst (AreMeant c.args.lookup.now.table.now w (map f (take (c.loop-used.used-index + 1) c.args.uses.now)) (map first_token_of_use (take (c.loop-used.used-index + 1) c.args.uses.now))) (sym items)
     (meant_step c.args.lookup.now.table.now w f c.args.uses.now c.loop-used.used-index c.loop-used.meant.items c.used-item.result (record { token = c.token_of-token.result; first = c.word_key-first.result; row = c.in-Ok.row }) c.loop-used-test.true c.used-item.is
     (c.loop-used.invariant w names read) c.token_of-token.ensures (c.word_key-first.ensures ∙ ap word_key c.get-word.ensures) is (row_faultless c.args.lookup.now.table.now c.requires.table w read.index (f c.used-item.result) c.in-Ok.row is sound)))

@@ -17,7 +17,7 @@ pub loop-file-preserved : goal.loop-file-preserved
 loop-file-preserved c =
     let now = c.mark_beginner.new.marks in
     let lists = map (λ v. v.items) c.args.meant.now in
-    let here = c.deref.ensures.value ∙ ap (λ v. v.items) c.index-meant-file.is ∙ sym (get_or-map (λ v. v.items) c.args.meant.now c.loop-file.file c.index-meant-file.result [] c.loop-file-test.true) in
+    let here = ap (λ v. v.items) c.index-meant-file.is ∙ sym (get_or-map (λ v. v.items) c.args.meant.now c.loop-file.file c.index-meant-file.result [] c.loop-file-test.true) in
     record {
       stay = stay_more c.args.marks.now c.loop-file.marks now c.loop-file.invariant.stay c.mark_beginner.ensures.stay;
       marked = below_more (λ file. (m : Meant) → Contains (get_or lists file []) m → Contains c.args.keys.now.keys m.first → IsMarked now file) c.loop-file.file

@@ -5,7 +5,8 @@ use Rattle.std.proofs.lemmas.Bool.{cases_Bool}
 use Rattle.std.proofs.lemmas.List.{get_or-map, get_or_default}
 use Rattle.proto_names_table.specs.declared.ids.Meant.{Meant}
 use Rattle.proto_names_affected.specs.Sight.{HasLastWord, is_seen_at}
-use Rattle.proto_names_affected.proofs.Sights.{begins, kept_in_sight}
+use Rattle.proto_names_affected.specs.Marking.{begins_so}
+use Rattle.proto_names_affected.proofs.Sights.{kept_in_sight}
 use Rattle.proto_names_affected.proofs.sight.mark_one.Goals as goal
 
 pub returns-clause-marked : goal.returns-clause-marked
@@ -23,14 +24,13 @@ returns-clause-marked c =
     let slice = c.deref.ensures.value in
     let own : c.deref.result.now ≡ get_or rows file [] = cc in
     let listed_meant = get_or-map (λ (v : Vec Meant). v.items) c.args.sighted.meant.now file c.index-sighted-place-2.result [] (omega (arith, c.requires.file, c.requires.meant)) in
-    let held_meant = ap (λ (v : Vec Meant). v.items) c.index-sighted-place-2.is in
-    let slice_meant = c.deref-2.ensures.value in
-    let ms : c.deref-2.result.now ≡ get_or meant file [] = cc in
+    let own_meant = get_or c.args.sighted.meant.now file c.index-sighted-place-2.result in
+    let ms : own_meant.items ≡ get_or meant file [] = sym listed_meant in
     let seen : get_or sees file c.index-sighted-place-3.result ≡ get_or sees file [] = get_or_default sees file c.index-sighted-place-3.result [] (omega (arith, c.requires.file, c.requires.sees)) in
-    let test = λ (s : List Bool) (xs : List Meant) (k : List ℕ). list_all (λ (m : Meant). is_seen_at t s m.row) xs && (not (begins xs k) && not (begins xs f)) in
+    let test = λ (s : List Bool) (xs : List Meant) (k : List ℕ). list_all (λ (m : Meant). is_seen_at t s m.row) xs && (not (begins_so k xs) && not (begins_so f xs)) in
     let told : c.means_the_same-is_kept.result ≡ test (get_or sees file []) (get_or meant file []) names.keys.keys =
     c.means_the_same-is_kept.ensures
-    ∙ ap (λ s. test s c.deref-2.result.now c.keys.result.now.keys) seen
+    ∙ ap (λ s. test s own_meant.items c.keys.result.now.keys) seen
     ∙ ap (λ xs. test (get_or sees file []) xs c.keys.result.now.keys) ms
     ∙ ap (λ k. test (get_or sees file []) (get_or meant file []) k.keys) c.keys.ensures in
     elim (cases_Bool c.means_the_same-is_kept.result) [

@@ -1,4 +1,4 @@
-use Rattle.std.proofs.Common.{◌≡◌, ◌<◌, ℕ, List, length, map, sym, ◌∙◌, ap, subst, arith, All}
+use Rattle.std.proofs.Common.{◌≡◌, ◌<◌, ℕ, Bool, List, [], length, get_or, map, sym, ◌∙◌, ap, subst, arith, All}
 use Rattle.proto_base.proofs.Common.{Vec}
 use Rattle.proto_files.specs.FilesRead.{AreRead, ReadOf}
 use Rattle.proto_files.specs.GivenFiles.{FileOf}
@@ -7,7 +7,8 @@ use Rattle.proto_names_imports.specs.declared.import.FileImport.{FileImport}
 use Rattle.proto_names_update.specs.KeptImports.{WereImports}
 use Rattle.proto_names_imports.proofs.Common.{all_imports}
 use Rattle.proto_names_rules.proofs.Common.{IsAcyclic}
-use Rattle.proto_names.proofs.RenewedImports.{imports_are, imports_count, imports_stay, now_count, now_within, sight_count, sight_is, sight_stays}
+use Rattle.proto_names.proofs.RenewedImports.{imports_are, imports_count, imports_stay, marks_stay, now_count, now_within, sight_count, sight_is, sight_stays}
+use Rattle.proto_names.specs.Sight.{KeepsSight}
 use Rattle.proto_names.proofs.parts.ImportGraph.update.Goals as goal
 
 pub all_imports_kept-requires-clause-paired : goal.all_imports_kept-requires-clause-paired
@@ -36,11 +37,11 @@ has_no_cycle-requires c =
     let size = c.in_ok-now.ensures.len in
     let below = c.in_ok-now.ensures.within in
     let put = c.in_ok-change_all_at.ensures.items in
-    let n : length files ≡ length c.deref-2.result.now = sym (ap length c.deref-2.ensures.value ∙ now_count files c.args.places.now c.args.self.now.imports.items c.args.self.now.seen.items c.requires.was c.in_ok-now.now.items size below c.change_all_at.new.items.items put) in
+    let n : length files ≡ length c.deref-5.result.now = sym (ap length c.deref-5.ensures.value ∙ now_count files c.args.places.now c.args.self.now.imports.items c.args.self.now.seen.items c.requires.was c.in_ok-now.now.items size below c.change_all_at.new.items.items put) in
     record {
       count = omega (arith, n, c.len-count.ensures.workspace.few);
-      within = subst (λ (k : ℕ). All (λ (v : Vec FileImport). All (λ i. i.to < k) v.items) c.deref-2.result.now) n
-          (subst (All (λ (v : Vec FileImport). All (λ i. i.to < length files) v.items)) (sym c.deref-2.ensures.value) (now_within files c.args.places.now c.args.self.now.imports.items c.args.self.now.seen.items c.requires.was c.in_ok-now.now.items size below c.change_all_at.new.items.items put));
+      within = subst (λ (k : ℕ). All (λ (v : Vec FileImport). All (λ i. i.to < k) v.items) c.deref-5.result.now) n
+          (subst (All (λ (v : Vec FileImport). All (λ i. i.to < length files) v.items)) (sym c.deref-5.ensures.value) (now_within files c.args.places.now c.args.self.now.imports.items c.args.self.now.seen.items c.requires.was c.in_ok-now.now.items size below c.change_all_at.new.items.items put));
     }
 
 pub update_seen-requires-clause-few : goal.update_seen-requires-clause-few
@@ -49,7 +50,7 @@ update_seen-requires-clause-few c =
     let size = c.in_ok-now.ensures.len in
     let below = c.in_ok-now.ensures.within in
     let put = c.in_ok-change_all_at.ensures.items in
-    let n : length c.deref-3.result.now ≡ length files = ap length c.deref-3.ensures.value ∙ now_count files c.args.places.now c.args.self.now.imports.items c.args.self.now.seen.items c.requires.was c.in_ok-now.now.items size below c.change_all_at.new.items.items put in
+    let n : length c.deref-6.result.now ≡ length files = ap length c.deref-6.ensures.value ∙ now_count files c.args.places.now c.args.self.now.imports.items c.args.self.now.seen.items c.requires.was c.in_ok-now.now.items size below c.change_all_at.new.items.items put in
     omega (arith, n, c.len-count.ensures.workspace.few)
 
 pub update_seen-requires-clause-within : goal.update_seen-requires-clause-within
@@ -58,9 +59,9 @@ update_seen-requires-clause-within c =
     let size = c.in_ok-now.ensures.len in
     let below = c.in_ok-now.ensures.within in
     let put = c.in_ok-change_all_at.ensures.items in
-    let n : length c.deref-3.result.now ≡ length files = ap length c.deref-3.ensures.value ∙ now_count files c.args.places.now c.args.self.now.imports.items c.args.self.now.seen.items c.requires.was c.in_ok-now.now.items size below c.change_all_at.new.items.items put in
-    subst (λ (k : ℕ). All (λ (v : Vec FileImport). All (λ i. i.to < k) v.items) c.deref-3.result.now) (sym n)
-    (subst (All (λ (v : Vec FileImport). All (λ i. i.to < length files) v.items)) (sym c.deref-3.ensures.value) (now_within files c.args.places.now c.args.self.now.imports.items c.args.self.now.seen.items c.requires.was c.in_ok-now.now.items size below c.change_all_at.new.items.items put))
+    let n : length c.deref-6.result.now ≡ length files = ap length c.deref-6.ensures.value ∙ now_count files c.args.places.now c.args.self.now.imports.items c.args.self.now.seen.items c.requires.was c.in_ok-now.now.items size below c.change_all_at.new.items.items put in
+    subst (λ (k : ℕ). All (λ (v : Vec FileImport). All (λ i. i.to < k) v.items) c.deref-6.result.now) (sym n)
+    (subst (All (λ (v : Vec FileImport). All (λ i. i.to < length files) v.items)) (sym c.deref-6.ensures.value) (now_within files c.args.places.now c.args.self.now.imports.items c.args.self.now.seen.items c.requires.was c.in_ok-now.now.items size below c.change_all_at.new.items.items put))
 
 pub update_seen-requires-clause-paired : goal.update_seen-requires-clause-paired
 update_seen-requires-clause-paired c =
@@ -68,8 +69,27 @@ update_seen-requires-clause-paired c =
     let size = c.in_ok-now.ensures.len in
     let below = c.in_ok-now.ensures.within in
     let put = c.in_ok-change_all_at.ensures.items in
-    let n : length c.deref-3.result.now ≡ length files = ap length c.deref-3.ensures.value ∙ now_count files c.args.places.now c.args.self.now.imports.items c.args.self.now.seen.items c.requires.was c.in_ok-now.now.items size below c.change_all_at.new.items.items put in
+    let n : length c.deref-6.result.now ≡ length files = ap length c.deref-6.ensures.value ∙ now_count files c.args.places.now c.args.self.now.imports.items c.args.self.now.seen.items c.requires.was c.in_ok-now.now.items size below c.change_all_at.new.items.items put in
     sight_count files c.args.places.now c.args.self.now.imports.items c.args.self.now.seen.items c.requires.was ∙ sym n
+
+pub update_seen-requires-clause-known : goal.update_seen-requires-clause-known
+update_seen-requires-clause-known c = λ w n same file l unmarked.
+    let files = c.args.files.now in
+    let places = c.args.places.now in
+    let was = c.args.self.now in
+    let size = c.in_ok-now.ensures.len in
+    let below = c.in_ok-now.ensures.within in
+    let put = c.in_ok-change_all_at.ensures.items in
+    let counted = imports_count files places was.imports.items was.seen.items c.requires.was in
+    let counted_now = now_count files places was.imports.items was.seen.items c.requires.was c.in_ok-now.now.items size below c.change_all_at.new.items.items put in
+    let within : file < length files = omega (arith, l, ap length c.deref-6.ensures.value, counted_now) in
+    let kept = c.in_ok-stale.ensures.others file (omega (arith, within, counted, ap length c.deref-2.ensures.value)) unmarked in
+    let keeps =
+    subst (λ (now : List (Vec FileImport)). KeepsSight places (map (λ v. v.items) was.imports.items) (map (λ v. v.items) now) (get_or was.seen.items file []) file) c.deref-4.ensures.value
+    (subst (λ (saw : List (List Bool)). KeepsSight places (map (λ v. v.items) was.imports.items) (map (λ v. v.items) c.deref-4.result.now) (get_or saw file []) file) c.deref-3.ensures.value
+    (subst (λ (before : List (Vec FileImport)). KeepsSight places (map (λ v. v.items) before) (map (λ v. v.items) c.deref-4.result.now) (get_or c.deref-3.result.now file []) file) c.deref-2.ensures.value kept)) in
+    marks_stay files places was.imports.items was.seen.items c.requires.was c.in_ok-now.now.items size below c.change_all_at.new.items.items put c.requires.places file within keeps w
+    (n ∙ ap length c.deref-6.ensures.value) (same ∙ ap (λ (vs : List (Vec FileImport)). all_imports 0 (map (λ v. v.items) vs)) c.deref-6.ensures.value)
 
 pub returns-clause-imports : goal.returns-clause-imports
 returns-clause-imports c = λ reads are.
@@ -87,8 +107,8 @@ returns-clause-sight c = λ reads are.
     let below = c.in_ok-now.ensures.within in
     let put = c.in_ok-change_all_at.ensures.items in
     let own = c.in_ok-now.ensures.imports in
-    let acyclic = subst (λ (vs : List (Vec FileImport)). IsAcyclic (all_imports 0 (map (λ v. v.items) vs))) c.deref-2.ensures.value (c.in_ok-has_no_cycle.ensures.0 c.if-not-branch.false) in
-    sight_is files c.args.places.now c.args.self.now.imports.items c.args.self.now.seen.items c.requires.was c.in_ok-now.now.items size below c.change_all_at.new.items.items put c.listed_imports_are_known.ensures.these c.listed_imports_are_known.ensures.sound own reads are acyclic c.deref-3.result.now c.update_seen.new.seen.items c.deref-3.ensures.value c.in_ok-others.ensures.len c.in_ok-others.ensures.exact)
+    let acyclic = subst (λ (vs : List (Vec FileImport)). IsAcyclic (all_imports 0 (map (λ v. v.items) vs))) c.deref-5.ensures.value (c.in_ok-has_no_cycle.ensures.0 c.if-not-branch.false) in
+    sight_is files c.args.places.now c.args.self.now.imports.items c.args.self.now.seen.items c.requires.was c.in_ok-now.now.items size below c.change_all_at.new.items.items put c.listed_imports_are_known.ensures.these c.listed_imports_are_known.ensures.sound own reads are acyclic c.deref-6.result.now c.update_seen.new.seen.items c.deref-6.ensures.value c.in_ok-others.ensures.len c.in_ok-others.ensures.exact)
 
 pub returns-clause-others : goal.returns-clause-others
 returns-clause-others c =
@@ -96,4 +116,4 @@ returns-clause-others c =
     let size = c.in_ok-now.ensures.len in
     let below = c.in_ok-now.ensures.within in
     let put = c.in_ok-change_all_at.ensures.items in
-    λ k d l. omega (arith, c.in_ok-others.ensures.others k d l, ap length c.deref-3.ensures.value, now_count files c.args.places.now c.args.self.now.imports.items c.args.self.now.seen.items c.requires.was c.in_ok-now.now.items size below c.change_all_at.new.items.items put)
+    λ k d l. omega (arith, c.in_ok-others.ensures.others k d l, ap length c.deref-6.ensures.value, now_count files c.args.places.now c.args.self.now.imports.items c.args.self.now.seen.items c.requires.was c.in_ok-now.now.items size below c.change_all_at.new.items.items put)

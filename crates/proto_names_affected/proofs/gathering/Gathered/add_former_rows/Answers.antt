@@ -16,8 +16,8 @@ add_rows-requires-clause-sound c = c.loop-change.invariant.gathers.sound
 
 pub add_rows-requires-clause-within : goal.add_rows-requires-clause-within
 add_rows-requires-clause-within c =
-    let here = c.deref.ensures.value ∙ ap (λ (x : Change (Vec Meant)). x.was.items) c.change-item.is in
-    subst (λ n. AreRowsBelow n c.deref.result.now) (sym c.loop-change.invariant.gathers.count)
+    let here = c.as_slice.ensures ∙ ap (λ (x : Change (Vec Meant)). x.was.items) c.change-item.is in
+    subst (λ n. AreRowsBelow n c.as_slice.result.now) (sym c.loop-change.invariant.gathers.count)
     (subst (AreRowsBelow c.args.self.now.count) (sym here) (c.requires.within c.loop-change.change-index c.change-item.result c.loop-change-test.true))
 
 pub loop-change-preserved : goal.loop-change-preserved
@@ -26,7 +26,7 @@ loop-change-preserved c =
     let now = c.add_rows.new.self in
     let i = c.loop-change.change-index in
     let p = c.in_ok-add_rows.ensures.gathers in
-    let here = c.deref.ensures.value ∙ ap (λ (x : Change (Vec Meant)). x.was.items) c.change-item.is in
+    let here = c.as_slice.ensures ∙ ap (λ (x : Change (Vec Meant)). x.was.items) c.change-item.is in
     record {
       gathers = gathers_more c.args.self.now was now [] [] c.loop-change.invariant.gathers p;
       named = All-more (λ (x : Change (Vec Meant)). AreRowsNamed now.rows.keys x.was.items) c.args.old.now i c.change-item.result c.loop-change-test.true
