@@ -2,6 +2,7 @@
 use Rattle.std.proofs.Common.{◌≡◌, ◌≢◌, ℕ, Bool, true, false, ◌&&◌, ◌||◌, if◌then◌else◌, List, [], ◌∷◌, ◌++◌, Option, Some, None, option_map, refl, sym, ap, ap₂, subst, ◌∙◌, append_assoc, Contains, bytes_eq}
 use Rattle.proto_base.proofs.Common.{and_from, and_parts, none-some, same_Some, any_from, same_from_word, word_from_same}
 use Rattle.proto_names_rules.proofs.Common.{Renaming, target, ArePlain, IsPlain, below, joined, EntryFits, IsRenaming, Symbol, Workspace, same_name, sees, shows, name_from_same, same_from_name, joined_apart, last_parts, shown}
+use Rattle.proto_names_rules.specs.declared.kind.Kind.{Kind}
 use Rattle.proto_names_imports.proofs.PlainNames.{plain_join}
 use Rattle.proto_names.proofs.Common.{HoldsNames, LinkOf, NameOf, is_visible, name_at, name_text}
 use Rattle.proto_edit_captures.specs.Common.{NewTexts, shows_anew, shows_beside, shows_entry, entry_shown_if, first_fits, kind_fits, kind_named, shown_below, shown_beside, shows_fitting}
@@ -29,6 +30,12 @@ named_at l row text h = go (name_at l row) refl h
     go : (o : Option NameOf) → name_at l row ≡ o → option_map (λ n. n.text) o ≡ Some text → (n : NameOf) × (name_at l row ≡ Some n) × (n.text ≡ text)
     go None e q = absurd (none-some text q)
     go (Some n) e q = (n, e, same_Some n.text text q)
+
+-- what is shown to a test is shown to the one that each kind passes
+pub shown_to_all : (w : Workspace) (f : ℕ) (good : Kind → Bool) (x : List (List ℕ)) → shows w f good x ≡ true → shows w f (λ k. true) x ≡ true
+shown_to_all w f good x h =
+    let s = shown w f good x h in
+    any_from (λ s. same_name s.name x && (true && sees w f s.file)) w.symbols s.0 s.1 (and_from (same_name s.0.name x) (true && sees w f s.0.file) (same_from_name s.0.name x s.2) s.4)
 
 module _ (w : Workspace) (l : LinkOf) (file : ℕ) (names : HoldsNames w l) (visible : (x : List (List ℕ)) → ArePlain x → is_visible l file (joined x) ≡ shows w file (λ k. true) x) where
   one_text : (i j : ℕ) (t : List ℕ) → name_text l i ≡ Some t → name_text l j ≡ Some t → i ≡ j
@@ -58,7 +65,7 @@ module _ (w : Workspace) (l : LinkOf) (file : ℕ) (names : HoldsNames w l) (vis
           let s = shown w file (first_fits is_long) x h in
           and_from (kind_fits is_long (kind_named l (joined x))) (is_visible l file (joined x))
           (ap (kind_fits is_long) (ap (kind_named l) (ap joined (sym s.2)) ∙ kind_of_symbol s.0 s.1) ∙ s.3)
-          (visible x plain ∙ any_from (λ s. same_name s.name x && (true && sees w file s.file)) w.symbols s.0 s.1 (and_from (same_name s.0.name x) (true && sees w file s.0.file) (same_from_name s.0.name x s.2) s.4))
+          (visible x plain ∙ shown_to_all w file (first_fits is_long) x h)
 
   module _ (e : Renaming) (is : IsRenaming e w) where
     pub target_plain : ArePlain (target e)

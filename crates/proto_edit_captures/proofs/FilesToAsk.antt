@@ -1,17 +1,19 @@
 -- A file that need not be asked has no reference that a rename captures.
-use Rattle.std.proofs.Common.{◌≡◌, ℕ, ◌<◌, true, false, ◌||◌, ◌==◌, List, [], ◌∷◌, length, get_or, map, take, None, refl, sym, ap, subst, ◌∙◌, arith, Contains, eq-eqb}
-use Rattle.proto_base.proofs.Common.{any_from, both_ways, contains_map, from_map, or_left, or_right}
+use Rattle.std.proofs.Common.{◌≡◌, ℕ, ◌<◌, Bool, true, false, ◌&&◌, ◌||◌, ◌==◌, List, [], ◌∷◌, ◌++◌, length, get_or, map, take, Some, None, refl, sym, ap, subst, ◌∙◌, arith, Contains, eq-eqb}
+use Rattle.proto_base.proofs.Common.{and_from, any_from, both_ways, contains_map, from_map, or_left, or_right}
 use Rattle.proto_case.proofs.Common.{entry_name}
 use Rattle.proto_files.proofs.Common.{ReadOf, FileOf}
 use Rattle.proto_names_imports.proofs.Common.{link_skeleton, names_of_files, text_of, uses_of, used_named}
 use Rattle.proto_names_rules.specs.Beginnings.{BeginsSo, CapturesBeginSo, IsDeclaredScope, by_entry, by_new, by_old}
-use Rattle.proto_names_rules.proofs.Common.{Renaming, used_in, Reference, Workspace, Used}
+use Rattle.proto_names_rules.proofs.Common.{Renaming, fits_at_first, hit, hit_relative, joined, shows, target, used_in, Reference, Workspace, Used}
 use Rattle.proto_names.proofs.Common.{IsLinkOf, LinkOf}
+use Rattle.proto_names.specs.Laws.{VisibleIsShown}
 use Rattle.proto_names.specs.Referring.{first_key, word_key}
-use Rattle.proto_names.specs.Linking.{Meant}
+use Rattle.proto_names.specs.Linking.{Meant, is_visible}
 use Rattle.proto_edit_rename_laws.proofs.Common.{Target, name_map, files_are_woven}
-use Rattle.proto_edit_captures.specs.Common.{AreNewNames, IsFirstIn, IsRenameOf, NewTexts, begins_with_key, entry_or_new, first_keys_of, has_first_key}
-use Rattle.proto_edit_captures.proofs.ByTexts.{texts_for}
+use Rattle.proto_edit_captures.specs.Common.{AreNewNames, IsFirstIn, IsRenameOf, NewTexts, begins, entry_or_new, first_keys_of, has_to_be_asked}
+use Rattle.proto_edit_captures.specs.declared.first_keys.FirstKeys.{FirstKeys}
+use Rattle.proto_edit_captures.proofs.ByTexts.{shown_to_all, target_plain, texts_for}
 use Rattle.proto_edit_captures.proofs.FileCaptures.{is_renaming, linked, texts_are, there}
 use Rattle.proto_edit_captures.proofs.PlainWords.{has_scope}
 
@@ -23,19 +25,9 @@ first_word words p h = sym (by words) ∙ ap (λ ws. get_or ws 0 []) h
     by [] = refl
     by (w ∷ ws) = refl
 
--- ---- the keys
-
-same_key : (e : Renaming) (key : ℕ) (p : List ℕ) → word_key p ≡ key → (p ≡ e.new → has_first_key (first_keys_of (texts_for e)) key ≡ true) × (p ≡ e.old → has_first_key (first_keys_of (texts_for e)) key ≡ true) × (p ≡ entry_or_new e.entry e.new → has_first_key (first_keys_of (texts_for e)) key ≡ true)
-same_key e key p k = (
-  λ h. or_left ((key == word_key e.new) || (key == word_key e.old)) (key == word_key (entry_or_new e.entry e.new)) (or_left (key == word_key e.new) (key == word_key e.old) (eq-eqb key (word_key e.new) (sym k ∙ ap word_key h))),
-  λ h. or_left ((key == word_key e.new) || (key == word_key e.old)) (key == word_key (entry_or_new e.entry e.new)) (or_right (key == word_key e.new) (key == word_key e.old) (eq-eqb key (word_key e.old) (sym k ∙ ap word_key h))),
-  λ h. or_right ((key == word_key e.new) || (key == word_key e.old)) (key == word_key (entry_or_new e.entry e.new)) (eq-eqb key (word_key (entry_or_new e.entry e.new)) (sym k ∙ ap word_key h)),
-)
-
-begins_so : (e : Renaming) (w : Workspace) (r : Reference) → BeginsSo e w r → has_first_key (first_keys_of (texts_for e)) (first_key r) ≡ true
-begins_so e w r (by_new h) = (same_key e (first_key r) (get_or r.words 0 []) refl).0 (first_word r.words e.new h)
-begins_so e w r (by_entry p entry h) = (same_key e (first_key r) (get_or r.words 0 []) refl).2 (first_word r.words p.1 h ∙ sym (ap (λ o. entry_or_new o e.new) entry))
-begins_so e w r (by_old k at h there) = (same_key e (first_key r) (get_or r.words 0 []) refl).1 (first_word r.words e.old h)
+-- one of these references begins with the key
+begins_from : (ms : List Meant) (m : Meant) (key : ℕ) → Contains ms m → m.first ≡ key → begins ms key ≡ true
+begins_from ms m key c h = any_from (λ (x : Meant). x.first == key) ms m c (eq-eqb m.first key h)
 
 -- each fits one of the others, where the lists are the same as these functions see them
 paired : {X Y : Type 0} (f : X → ℕ) (g : Y → ℕ) (xs : List X) (ys : List Y) → map f xs ≡ map g ys → (y : Y) → Contains ys y → (x : X) × Contains xs x × (f x ≡ g y)
@@ -55,12 +47,43 @@ module _ (files : List FileOf) (reads : List ReadOf) (t : Target) (to : List ℕ
       let scoped = has_scope (text_of files reads) entry_name (link_skeleton files reads) (files_are_woven files reads r.read) (used_in file v) (there files reads t to r file within v c) in
       scoped front back whole (λ none. omega (arith, long, ap length none))
 
-  pub none_to_ask : CapturesBeginSo → (n : NewTexts) → AreNewNames files reads t to n → begins_with_key (first_keys_of n) (get_or l.meant file []) ≡ false → IsFirstIn files reads t to file None
-  none_to_ask law n texts none v c captured =
+  -- what is renamed is visible where a reference stands for it at its hit
+  visible_at : VisibleIsShown → (q : Reference) → q.file ≡ file → (k : ℕ) → hit w q ≡ Some k → take k q.scope ++ take 1 q.words ≡ target e → is_visible l file (joined (target e)) ≡ true
+  visible_at sight q at k h there =
+      let visible = sight files reads l link r.read file within in
+      let shown = shown_to_all w q.file (fits_at_first q.words) (take k q.scope ++ take 1 q.words) (hit_relative w q k h).1.passes in
+      visible (target e) (target_plain w l file (link reads r.read).by.names visible e (is_renaming files reads t to r))
+      ∙ subst (λ (f : ℕ). shows w f (λ k. true) (target e) ≡ true) at (subst (λ (x : List (List ℕ)). shows w q.file (λ k. true) x ≡ true) there shown)
+
+  abbrev ms : List Meant
+  ms = get_or l.meant file []
+
+  abbrev keys : FirstKeys
+  keys = first_keys_of (texts_for e)
+
+  abbrev by_word : Bool
+  by_word = begins ms keys.new || begins ms keys.entry
+
+  abbrev by_sight : Bool
+  by_sight = begins ms keys.old && is_visible l file (joined (target e))
+
+  -- for a reference that begins so, the file has to be asked
+  asked_for : VisibleIsShown → (q : Reference) → q.file ≡ file → (m : Meant) → Contains ms m → m.first ≡ first_key q → BeginsSo e w q → has_to_be_asked keys l file (joined (target e)) ≡ true
+  asked_for sight q at m c same begun = by begun
+    where
+      begins_with : (p : List ℕ) → take 1 q.words ≡ p ∷ [] → begins ms (word_key p) ≡ true
+      begins_with p h = begins_from ms m (word_key p) c (same ∙ ap word_key (first_word q.words p h))
+
+      by : BeginsSo e w q → has_to_be_asked keys l file (joined (target e)) ≡ true
+      by (by_new h) = or_left by_word by_sight (or_left (begins ms keys.new) (begins ms keys.entry) (begins_with e.new h))
+      by (by_entry p entry h) = or_left by_word by_sight (or_right (begins ms keys.new) (begins ms keys.entry) (ap (λ o. begins ms (word_key (entry_or_new o e.new))) entry ∙ begins_with p.1 h))
+      by (by_old k hits h there) = or_right by_word by_sight (and_from (begins ms keys.old) (is_visible l file (joined (target e))) (begins_with e.old h) (visible_at sight q at k hits there))
+
+  pub none_to_ask : CapturesBeginSo → VisibleIsShown → (n : NewTexts) → AreNewNames files reads t to n → has_to_be_asked (first_keys_of n) l file n.target ≡ false → IsFirstIn files reads t to file None
+  none_to_ask law sight n texts none v c captured =
       let q = used_named (text_of files reads) file v in
       let begun = law e w (linked files reads t to r) (is_renaming files reads t to r) r.free q (declared_scope v c) captured.captured in
-      let m = paired (λ (m : Meant). m.first) (λ (u : Used ℕ). first_key (used_named (text_of files reads) file u)) (get_or l.meant file []) (uses_of reads file) ((link reads r.read).means file within).firsts v c in
-      let key = ap (has_first_key (first_keys_of (texts_for e))) m.2 ∙ begins_so e w q begun in
-      let names = ap first_keys_of (texts_are files reads t to r n texts) in
-      let one = any_from (λ (m : Meant). has_first_key (first_keys_of n) m.first) (get_or l.meant file []) m.0 m.1 (ap (λ k. has_first_key k m.0.first) names ∙ key) in
-      both_ways (begins_with_key (first_keys_of n) (get_or l.meant file [])) none one
+      let m = paired (λ (m : Meant). m.first) (λ (u : Used ℕ). first_key (used_named (text_of files reads) file u)) ms (uses_of reads file) ((link reads r.read).means file within).firsts v c in
+      let asked = asked_for sight q refl m.0 m.1 m.2 begun in
+      let names = texts_are files reads t to r n texts in
+      both_ways (has_to_be_asked (first_keys_of n) l file n.target) none (ap (λ (z : NewTexts). has_to_be_asked (first_keys_of z) l file z.target) names ∙ asked)

@@ -3,7 +3,7 @@
 pub use Rattle.proto_edit_captures.specs.FoundTargets.{IsTargetOf, IsFoundTarget, IsNoTarget, IsNotAllowed}
 pub use Rattle.proto_edit_captures.specs.Capturing.{bytes_before, captures_at, captures_use, captures_words, first_now, is_cons, shown_from, stands_first}
 pub use Rattle.proto_edit_captures.specs.FirstCaptured.{AreNewNames, IsFirstCaptured, IsFirstIn, IsRenameOf, captures_by, first_passing}
-pub use Rattle.proto_edit_captures.specs.FirstKeys.{begins_with_key, entry_or_new, first_keys_of, has_first_key}
+pub use Rattle.proto_edit_captures.specs.FirstKeys.{begins, entry_or_new, first_keys_of, has_to_be_asked}
 pub use Rattle.proto_edit_captures.specs.Looked.{HasDeclared, HasText, HasUnmoved, IsNotDeclared}
 pub use Rattle.proto_edit_captures.specs.NewTexts.{NewTexts, entry_words, is_new_by, is_new_word, texts_by, texts_of}
 pub use Rattle.proto_edit_captures.specs.Overtaking.{IsFirstOvertaken, Overtakes, SeesMarked, TellsPackages, fits_seen, is_marked, sees_name, overtakes_by, overtakes_use, overtakes_words, sees_text}

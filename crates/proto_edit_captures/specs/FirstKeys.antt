@@ -1,10 +1,10 @@
 -- Which files have to be asked for captured references: by keys of the words that references begin
 -- with.
-use Rattle.std.specs.Prelude.{ℕ, Bool, ◌==◌, ◌||◌, List, Option, Some, None}
+use Rattle.std.specs.Prelude.{ℕ, Bool, ◌==◌, ◌||◌, ◌&&◌, List, [], get_or, Option, Some, None}
 use Rattle.std.specs.List.{list_any}
 use Rattle.proto_base.specs.Texts.{Text}
 use Rattle.proto_names.specs.Referring.{word_key}
-use Rattle.proto_names.specs.Linking.{Meant}
+use Rattle.proto_names.specs.Linking.{LinkOf, Meant, is_visible}
 use Rattle.proto_edit_captures.specs.declared.first_keys.FirstKeys.{FirstKeys}
 use Rattle.proto_edit_captures.specs.NewTexts.{NewTexts}
 
@@ -22,10 +22,13 @@ first_keys_of n = record {
   entry = word_key (entry_or_new n.entry n.new);
 }
 
--- it is one of these keys
-abbrev pub has_first_key : FirstKeys → ℕ → Bool
-has_first_key k key = ((key == k.new) || (key == k.old)) || (key == k.entry)
+-- one of these references begins with a word of this key
+abbrev pub begins : List Meant → ℕ → Bool
+begins ms key = list_any (λ m. m.first == key) ms
 
--- one of the references of a file begins with a word of such a key, so that the file has to be asked
-abbrev pub begins_with_key : FirstKeys → List Meant → Bool
-begins_with_key k ms = list_any (λ m. has_first_key k m.first) ms
+-- the file has to be asked: one of its references begins with a new word, or with the old one, and
+-- the name with this text, which is renamed, is visible there
+abbrev pub has_to_be_asked : FirstKeys → LinkOf → ℕ → Text → Bool
+has_to_be_asked k l file target =
+    (begins (get_or l.meant file []) k.new || begins (get_or l.meant file []) k.entry)
+    || begins (get_or l.meant file []) k.old && is_visible l file target

@@ -77,7 +77,7 @@ fn first_in(
 }
 
 /// The same, where the file is listed only if one of its references begins with a word of these
-/// keys: no other reference is captured.
+/// keys, and for the old word only if the file sees what is renamed: no other is captured.
 fn first_in_asked(
     alloc: Global,
     linked: &CleanLinked<'_>,
@@ -93,7 +93,8 @@ fn first_in_asked(
         → IsFirstIn linked.now.files reads t to file first) }
 {
     captures_begin_so();
-    if !keys.begin_one(linked.link().meant_in(file)) {
+    visible_is_seen();
+    if !keys.concern(linked.link(), file, names.target) {
         return Ok(None);
     }
     first_in(alloc, linked, names, file)

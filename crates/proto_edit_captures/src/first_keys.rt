@@ -1,11 +1,11 @@
 //! Which files have to be asked for captured references, by the words that references begin with.
 
 ghost use Rattle.std.specs.Prelude.{◌≡◌};
-ghost use Rattle.proto_edit_captures.specs.FirstKeys.{begins_with_key, entry_or_new, first_keys_of, has_first_key};
+ghost use Rattle.proto_edit_captures.specs.FirstKeys.{entry_or_new, first_keys_of, has_to_be_asked};
 ghost use Rattle.proto_edit_captures.specs.NewTexts.{entry_texts, texts_of};
 
 use crate::names::{EntryNames, NewNames};
-use proto_names::{Meant, word_key};
+use proto_names::{Link, word_key};
 
 /// The keys of the words that a captured reference may begin with.
 #[derive(Clone, Copy)]
@@ -38,16 +38,13 @@ impl FirstKeys {
         }
     }
 
-    fn has(self, key: u32) -> bool
-        ensures { result ≡ has_first_key self key }
+    /// Whether the file has to be asked: a reference of it begins with a new word, or with the old
+    /// one, and what is renamed, by its full name, is visible there.
+    pub(crate) fn concern(self, link: &Link, file: u32, target: &str) -> bool
+        ensures { result ≡ has_to_be_asked self link.now file target.now }
     {
-        key == self.new || key == self.old || key == self.entry
-    }
-
-    /// Whether one of these references begins with a word of such a key.
-    pub(crate) fn begin_one(self, meant: &[Meant]) -> bool
-        ensures { result ≡ begins_with_key self meant.now }
-    {
-        meant.iter().any(|m| self.has(m.first_key()))
+        link.begins_with(file, self.new)
+            || link.begins_with(file, self.entry)
+            || (link.begins_with(file, self.old) && link.visible(file, target))
     }
 }
