@@ -1,1 +1,4 @@
 pub mod Members
+mod Bits
+mod FilesInWords
+mod FileLists

@@ -1,1 +1,2 @@
 pub mod FileSets
+pub mod Words

@@ -1,11 +1,31 @@
-use Rattle.std.proofs.Common.{◌≡◌, sym, ◌∙◌}
-use Rattle.std.specs.Cmp.{booleans_Decides}
-use Rattle.std.proofs.lemmas.Slice.Eq.{slice_eq-Decides}
+use Rattle.std.proofs.Common.{length, ap, sym, ◌∙◌}
+use Rattle.std.proofs.lemmas.Bool.{eqb-true}
+use Rattle.proto_file_sets.specs.Words.{has_file}
+use Rattle.proto_file_sets.proofs.FilesInWords.{length-members, members-same, same_files}
 use Rattle.proto_file_sets.proofs.FileSet.is_same.Goals as goal
 
-pub returns : goal.returns
-returns c =
-    let mine : c.as_slice.result.now ≡ c.args.self.now = c.as_slice.ensures.value ∙ c.self.view_is in
-    let its : c.as_slice-2.result.now ≡ c.args.other.now = c.as_slice-2.ensures.value ∙ c.other.view_is in
-    let decides = slice_eq-Decides booleans_Decides c.as_slice.result.now c.as_slice-2.result.now c.eq.result c.eq.ensures in
-    (λ told. sym mine ∙ decides.0 told ∙ its, λ same. decides.1 (mine ∙ same ∙ sym its))
+pub returns-then-self-other : goal.returns-then-self-other
+returns-then-self-other c =
+    let mine = c.self.inside in
+    let its = c.other.inside in
+    let words = c.deref.ensures.value in
+    let others = c.deref-then-self-other.ensures.value in (
+      λ told.
+          sym c.self.view_is
+          ∙ members-same mine.file_count its.file_count mine.words.items its.words.items c.other.invariant c.if-self-other.true (λ file.
+          ap (λ ws. has_file ws file) (sym words) ∙ c.are_same.ensures.0 told file ∙ ap (λ ws. has_file ws file) others)
+          ∙ c.other.view_is,
+      λ same. c.are_same.ensures.1 (λ file.
+          ap (λ ws. has_file ws file) words
+          ∙ same_files mine.file_count its.file_count mine.words.items its.words.items c.self.invariant c.other.invariant (c.self.view_is ∙ same ∙ sym c.other.view_is) file
+          ∙ ap (λ ws. has_file ws file) (sym others)),
+    )
+
+pub returns-else-self-other : goal.returns-else-self-other
+returns-else-self-other c =
+    let mine = c.self.inside in
+    let its = c.other.inside in (
+      λ told. absurd (c.if-self-other.false (eqb-true mine.file_count its.file_count told)),
+      λ same. absurd (c.if-self-other.false
+          (sym (length-members mine.file_count mine.words.items) ∙ ap length (c.self.view_is ∙ same ∙ sym c.other.view_is) ∙ length-members its.file_count its.words.items)),
+    )
