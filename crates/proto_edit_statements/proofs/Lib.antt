@@ -10,6 +10,8 @@ mod FieldThere
 mod FieldTrees
 mod ImportEnds
 mod ImportTrees
+mod LeadingOwn
+mod LinkedImports
 mod MoreOrLess
 mod NamedImports
 mod Needed

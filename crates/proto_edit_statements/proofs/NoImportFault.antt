@@ -1,10 +1,10 @@
 -- Linked files have no fault of an import.
-use Rattle.std.proofs.Common.{◌≡◌, ℕ, List, refl, ap, subst, ◌∙◌}
+use Rattle.std.proofs.Common.{ℕ, List, refl, ap, ◌∙◌}
 use Rattle.proto_base.specs.declared.fault.FaultKind.{FaultKind}
 use Rattle.proto_base.specs.declared.fault.FaultKind.TheVariants as kind
 use Rattle.proto_files.proofs.Common.{FaultAt, HasNoFault, ReadOf, AreRead, read_at, FileOf, file_at, paths_of}
 use Rattle.proto_text.specs.Texts.{offset_at}
-use Rattle.proto_names_rules.specs.Faults.{AskedImport, Fault, ImportFault, IsLeast, cycle, double, fault, file_with_path, unknown}
+use Rattle.proto_names_rules.specs.Faults.{Fault, ImportFault, cycle, double, fault, file_with_path, unknown}
 use Rattle.proto_names_imports.specs.Links.{LinkFaults, all_wanted, of_import, text_of}
 use Rattle.proto_edit_rules.specs.AddImport.{IsImported}
 use Rattle.proto_edit_rules.specs.Statements.{IsNoFile}
@@ -18,11 +18,6 @@ module _ (files : List FileOf) (reads : List ReadOf) (are : AreRead files reads)
   no_import f (double a h) = clean (standing f kind.DoubleImport) (of_import reads f (standing f kind.DoubleImport) are (record { path = refl; offset = refl; number = refl }) (double a h))
   no_import f (cycle a to ca h l) = clean (standing f kind.ImportCycle) (of_import reads f (standing f kind.ImportCycle) are (record { path = refl; offset = refl; number = refl }) (cycle a to ca h l))
 
-  -- so none is the least of what is asked for
-  pub no_least : (paths : List (List ℕ)) (asked : List AskedImport) (f : Fault) → paths ≡ paths_of files → asked ≡ all_wanted (text_of files reads) 0 reads → IsLeast (ImportFault paths asked) f → ⊥
-  no_least paths asked f same_paths same_asked least =
-      no_import f (subst (λ (ps : List (List ℕ)). ImportFault ps (all_wanted (text_of files reads) 0 reads) f) same_paths (subst (λ (xs : List AskedImport). ImportFault paths xs f) same_asked least.holds))
-
-  -- and each path that is imported is that of a file
+  -- so each path that is imported is that of a file
   pub none_missing : (k : ℕ) (path : List ℕ) → IsImported files reads k path → IsNoFile files path → ⊥
   none_missing k path x none = no_import (fault x.0.place 10) (unknown x.0 x.1 (ap (file_with_path (paths_of files)) x.3 ∙ none))

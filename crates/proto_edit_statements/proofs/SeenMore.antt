@@ -1,10 +1,10 @@
 -- What one file sees with an import more: a walk along all of its own, and the public ones of the others.
 use Rattle.std.proofs.Common.{◌≡◌, ◌↔◌, ℕ, ◌<◌, Bool, false, List, [], ◌∷◌, ◌++◌, length, get_or, map, sym, ap, ap₂, subst, ◌∙◌, inl, inr, refl, arith, slice_set, All, Contains, get_or-set_same, length-set}
-use Rattle.std.proofs.lemmas.List.{get_or-map, map-append, set-set}
+use Rattle.std.proofs.lemmas.List.{set-set}
 use Rattle.proto_base.proofs.Common.{Vec, length-map, map-set, Contains-append_cases, contains_cases}
 use Rattle.proto_files.proofs.Common.{ReadOf, AreRead, FileOf}
-use Rattle.proto_names_imports.proofs.Common.{all_imports, import_from, imports_within, names_in, targets_twice, within_map, IsMarked, Walks}
-use Rattle.proto_names_imports.proofs.SeenFiles.{marks_seen, own_of, public_of, public_twice, public_within, set_within, steps_from}
+use Rattle.proto_names_imports.proofs.Common.{all_imports, import_from, imports_within, names_in, IsMarked, Walks}
+use Rattle.proto_names_imports.proofs.SeenFiles.{marks_seen, own_of, public_of, public_twice, steps_from}
 use Rattle.proto_names_imports.specs.declared.import.FileImport.{FileImport}
 use Rattle.proto_names_rules.proofs.Common.{import_of, with_imports, MarksSeen, Import, Workspace}
 use Rattle.proto_edit_statement_laws.proofs.NamesCommon.{with_added, same_marks}
@@ -14,10 +14,17 @@ use Rattle.proto_edit_statements.proofs.MoreOrLess.{one_more}
 abbrev pub lists_of : List (Vec FileImport) → List (List FileImport)
 lists_of vs = map (λ v. v.items) vs
 
--- where the walk goes: the public imports of each file, and of this one all, with one more
-abbrev pub steps_more : List (Vec FileImport) → ℕ → ℕ → List (List ℕ)
-steps_more items file to =
-    slice_set (map (λ v. public_of v.items) items) file (own_of (get_or (lists_of items) file []) ++ to ∷ [])
+-- an import that is not public
+abbrev pub new_import : ℕ → FileImport
+new_import to = record { to = to; is_public = false }
+
+-- the imports of a file, with one more
+abbrev pub own_more : List (Vec FileImport) → ℕ → ℕ → List FileImport
+own_more items file to = get_or (lists_of items) file [] ++ new_import to ∷ []
+
+-- where the walk goes: the public imports of each file, and these of this one
+abbrev pub steps_of : List (Vec FileImport) → ℕ → List FileImport → List (List ℕ)
+steps_of items file own = slice_set (map (λ v. public_of v.items) items) file (own_of own)
 
 module _ (items : List (Vec FileImport)) (within : All (λ v. All (λ i. i.to < length items) v.items) items) (file to : ℕ) (inside : file < length items) (there : to < length items) where
   abbrev is : List (List FileImport)
@@ -29,26 +36,8 @@ module _ (items : List (Vec FileImport)) (within : All (λ v. All (λ i. i.to < 
   listed : file < length is
   listed = let e = length-map items (λ v. v.items) in let l = inside in omega (arith, l, e)
 
-  own_named : (b : ℕ) → Contains (own_of own) b → b < length items
-  own_named b c =
-      within_map (λ v. v.items) (length items) items within file b (subst (λ (z : List (List ℕ)). Contains (get_or z file []) b) (sym (targets_twice (λ v. v.items) items))
-      (subst (λ z. Contains z b) (sym (get_or-map own_of is file [] [] listed)) c))
-
-  -- it goes to files
-  pub more_within : (k b : ℕ) → Contains (get_or (steps_more items file to) k []) b → b < length items
-  more_within =
-      set_within (map (λ v. public_of v.items) items) file (own_of own ++ to ∷ []) (length items) (let e = length-map items (λ v. public_of v.items) in let l = inside in omega (arith, l, e))
-      (public_within (λ v. v.items) (length items) items within)
-      (λ b c. elim (Contains-append_cases (own_of own) (to ∷ []) b c) [
-        | inl d ↦ own_named b d
-        | inr d ↦ elim (contains_cases to b [] d) [
-          | inl e ↦ subst (λ n. n < length items) e there
-          | inr n ↦ absurd (omega (arith, n.1))
-        ]
-      ])
-
   abbrev new : FileImport
-  new = record { to = to; is_public = false }
+  new = new_import to
 
   abbrev more : List (List FileImport)
   more = slice_set is file (own ++ new ∷ [])
@@ -57,9 +46,9 @@ module _ (items : List (Vec FileImport)) (within : All (λ v. All (λ i. i.to < 
   as_many = length-set is file (own ++ new ∷ []) ∙ length-map items (λ v. v.items)
 
   -- these are the steps of the imports with one more
-  steps_are : steps_more items file to ≡ steps_from more file
+  steps_are : steps_of items file (own_more items file to) ≡ steps_from more file
   steps_are =
-      ap₂ (λ (ps : List (List ℕ)) (xs : List ℕ). slice_set ps file xs) (public_twice (λ v. v.items) items) (sym (map-append (λ i. i.to) own (new ∷ [])))
+      ap (λ (ps : List (List ℕ)). slice_set ps file (own_of (own ++ new ∷ []))) (public_twice (λ v. v.items) items)
       ∙ sym (set-set (map public_of is) file (public_of (own ++ new ∷ [])) (own_of (own ++ new ∷ [])))
       ∙ ap₂ (λ (ps : List (List ℕ)) (xs : List ℕ). slice_set ps file xs) (sym (map-set public_of is file (own ++ new ∷ []))) (ap own_of (sym (get_or-set_same is file (own ++ new ∷ []) [] listed)))
 
@@ -73,10 +62,10 @@ module _ (items : List (Vec FileImport)) (within : All (λ v. All (λ i. i.to < 
   ])
 
   -- what is reached so is what the file sees
-  pub marks_more : (next : List (List ℕ)) → next ≡ steps_more items file to → (marks : List Bool) → ((g : ℕ) → IsMarked marks g ↔ Walks next file g)
+  pub marks_more : (mine : List FileImport) → mine ≡ own_more items file to → (marks : List Bool) → ((g : ℕ) → IsMarked marks g ↔ Walks (steps_of items file mine) file g)
       → (w : Workspace) → w.files ≡ length items → w.imports ≡ all_imports 0 is ++ import_of file to ∷ [] → MarksSeen w file marks
-  marks_more next steps marks reached w files imports =
-      let walks = subst (λ z. (g : ℕ) → IsMarked marks g ↔ Walks z file g) (steps ∙ steps_are) reached in
+  marks_more mine same marks reached w files imports =
+      let walks = subst (λ z. (g : ℕ) → IsMarked marks g ↔ Walks z file g) (ap (steps_of items file) same ∙ steps_are) reached in
       let seen = marks_seen more (with_imports w (all_imports 0 more)) file marks (files ∙ sym as_many) refl files_named (let a = as_many in let l = inside in omega (arith, l, a)) walks in
       same_marks w (all_imports 0 more) w.imports (λ i. subst (λ z. Contains (all_imports 0 more) i ↔ Contains z i) (sym imports) (one_more is file new listed i)) file marks seen
 

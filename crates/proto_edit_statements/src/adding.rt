@@ -168,8 +168,8 @@ pub fn add_import(
         to,
     };
     let linked = CleanLinked::new(files, link);
-    let imports = linked_imports(alloc, &linked)?;
-    check_captured(alloc, &linked, &imports, paths)?;
-    check_new(alloc, files, &imports, paths)?;
+    let imports = linked_imports(&linked);
+    check_captured(alloc, &linked, imports, paths)?;
+    check_new(alloc, files, imports, paths)?;
     changes_of_addition(alloc, files, paths)
 }

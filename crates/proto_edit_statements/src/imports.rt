@@ -1,6 +1,6 @@
 //! The imports of linked files, and what is seen with one less.
 
-ghost use Rattle.std.specs.Prelude.{◌≡◌, ◌<◌, ℕ, List, length, filter, not, ◌==◌, IfOk};
+ghost use Rattle.std.specs.Prelude.{◌≡◌, ◌<◌, ℕ, List, length, map, filter, not, ◌==◌, IfOk};
 ghost use Rattle.proto_files.specs.FilesRead.{ReadOf, AreRead};
 ghost use Rattle.proto_edit_statements.specs.Steps.{AreImportsOf, AreSeenIn};
 ghost use Rattle.proto_edit_rules.specs.Statements.{IsPlaceOf};
@@ -8,30 +8,16 @@ ghost use Rattle.proto_edit_rules.specs.DropImport.{with_dropped};
 
 use proto_base::NoMemory;
 use proto_file_sets::FileSet;
-use proto_files::all_paths;
-use proto_names::all_written;
-use proto_names_imports::import::{FileImport, ImportError, resolve_imports};
+use proto_names_imports::import::FileImport;
 use proto_names_imports::sight::all_seen;
 use proto_resolved::CleanLinked;
 use std::alloc::Global;
 
 /// The imports of each file, by the numbers of the files that they name.
-pub(crate) fn linked_imports(
-    alloc: Global,
-    linked: &CleanLinked<'_>,
-) -> Result<Vec<Vec<FileImport>>, NoMemory>
-    ensures { IfOk result (λ imports. AreImportsOf linked.now.files imports.items) }
+pub(crate) fn linked_imports<'a>(linked: &CleanLinked<'a>) -> &'a [Vec<FileImport>]
+    ensures { AreImportsOf linked.now.files result.now }
 {
-    let files = linked.files();
-    // The files are those of a workspace.
-    linked.file_count();
-    let written = all_written(alloc, files)?;
-    let paths = all_paths(alloc, files)?;
-    match resolve_imports(alloc, &paths, &written) {
-        Ok(imports) => Ok(imports),
-        Err(ImportError::Fault(_)) => unreachable!(),
-        Err(ImportError::NoMemory) => Err(NoMemory),
-    }
+    linked.link().imports()
 }
 
 /// These imports without that of one file.
@@ -61,8 +47,21 @@ pub(crate) fn seen_without(
 {
     // A workspace has few files.
     linked.file_count();
-    let mut imports = linked_imports(alloc, linked)?;
-    let left = others(alloc, &imports[file as usize], to)?;
+    let all = linked_imports(linked);
+    let left = others(alloc, &all[file as usize], to)?;
+    let mut imports = copies(alloc, all)?;
     imports[file as usize] = left;
     all_seen(alloc, &imports)
+}
+
+/// A copy of the imports of each file.
+fn copies(alloc: Global, imports: &[Vec<FileImport>]) -> Result<Vec<Vec<FileImport>>, NoMemory>
+    ensures { IfOk result (λ copy. map (λ v. v.items) copy.items
+        ≡ map (λ v. v.items) imports.now) }
+{
+    let mut copy = Vec::with_capacity(alloc, imports.len())?;
+    for own in imports {
+        copy.push(Vec::from_slice(alloc, own)?)?;
+    }
+    Ok(copy)
 }

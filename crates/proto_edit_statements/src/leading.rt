@@ -6,8 +6,8 @@ ghost use Rattle.proto_names_imports.specs.Importing.{all_imports};
 ghost use Rattle.proto_names_rules.specs.Cycles.{Leads};
 
 use proto_base::NoMemory;
-use proto_names_imports::import::{FileImport, all_targets};
-use proto_names_imports::walk::reached_files;
+use proto_names_imports::import::FileImport;
+use proto_names_imports::walk::files_led_to;
 use std::alloc::Global;
 
 /// Whether a file is the other, or leads to it by these imports, public or not.
@@ -23,7 +23,9 @@ pub(crate) fn leads(
     ensures { IfOk result (λ b. IsTrue b
         ↔ Leads (all_imports 0 (map (λ v. v.items) imports.now)) from to) }
 {
-    let next = all_targets(alloc, imports)?;
-    let reached = reached_files(alloc, &next, from)?;
-    Ok(reached.contains(to))
+    if from == to {
+        return Ok(true);
+    }
+    let led_to = files_led_to(alloc, imports, &imports[from as usize])?;
+    Ok(led_to.contains(to))
 }

@@ -9,13 +9,11 @@ ghost use Rattle.proto_names_rules.specs.Names.{Workspace};
 
 use proto_base::NoMemory;
 use proto_file_sets::FileSet;
-use proto_names_imports::import::{FileImport, targets};
-use proto_names_imports::sight::all_public;
-use proto_names_imports::walk::reached_files;
+use proto_names_imports::import::FileImport;
+use proto_names_imports::sight::seen_from;
 use std::alloc::Global;
 
-/// The files that one file sees, with an import more, not a public one: a walk along
-/// all of its own imports and the public ones of the others.
+/// The files that one file sees, with an import more, not a public one.
 pub(crate) fn seen_with(
     alloc: Global,
     imports: &[Vec<FileImport>],
@@ -29,9 +27,10 @@ pub(crate) fn seen_with(
         → w.imports ≡ all_imports 0 (map (λ v. v.items) imports.now) ++ import_of file to ∷ []
         → MarksSeen w file seen) }
 {
-    let mut next = all_public(alloc, imports)?;
-    let mut own = targets(alloc, &imports[file as usize])?;
-    own.push(to)?;
-    next[file as usize] = own;
-    reached_files(alloc, &next, file)
+    let mut own = Vec::from_slice(alloc, &imports[file as usize])?;
+    own.push(FileImport {
+        to,
+        is_public: false,
+    })?;
+    seen_from(alloc, imports, file, &own)
 }

@@ -21,7 +21,7 @@ pub mod MeantNames
 mod NameErrors
 mod NamesOfRows
 pub mod NamesThere
-mod OtherMarks
+mod NoCycles
 mod OuterRows
 mod PartsBefore
 mod ReferencesByRow

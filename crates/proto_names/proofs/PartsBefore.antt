@@ -100,9 +100,6 @@ module _ (files : List FileOf) (places : List ℕ) (t : Table) (imports : List (
   pub meant_count : length meant ≡ length files
   meant_count = sym (length-map meant (λ v. v.items)) ∙ of_before.link.lists ∙ many
 
-  pub seen_count : length seen ≡ length files
-  seen_count = of_before.link.by.files ∙ length-map was names_in ∙ link_was.1.read.same ∙ many
-
   -- ---- what is below the table's count
 
   pub rows_below : All (λ v. All (λ r. r < length t.rows.items) v.items) rows

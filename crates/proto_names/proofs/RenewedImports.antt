@@ -3,8 +3,10 @@ use Rattle.std.proofs.Common.{◌≡◌, ◌⊎◌, ℕ, ◌<◌, Bool, true, fa
 use Rattle.proto_base.proofs.Common.{Contains-get_or, Vec, both_ways, length-map}
 use Rattle.proto_files.proofs.Common.{AreRead, FileOf, ReadOf, paths_of}
 use Rattle.proto_names_imports.proofs.Common.{all_imports, all_wanted, imports_within, link_imports, names_in, names_of_files, text_of}
+use Rattle.proto_names_imports.proofs.EditedCycles.{edited_acyclic}
 use Rattle.proto_names_imports.proofs.ImportGraph.{resolved_within}
 use Rattle.proto_names_imports.proofs.SightStays.{sight_stays as walks_stay}
+use Rattle.proto_names_imports.specs.ImportSteps.{LeadsToItself}
 use Rattle.proto_names_imports.specs.Laws.{AreImportLists, KeepImports, KeptImportsAreEqual, KeptImportsAreSound, ListedImportsAreSound, ListedImportsAreThese}
 use Rattle.proto_names_imports.specs.declared.import.FileImport.{FileImport}
 use Rattle.proto_base.proofs.WithValues.{length-with_values, map-with_values}
@@ -13,6 +15,7 @@ use Rattle.proto_names_update.proofs.EditedImports.{lists_edited}
 use Rattle.proto_names_update.specs.KeptImports.{AreImportsAt, WereImports}
 use Rattle.proto_names_rules.proofs.Common.{Import, IsAcyclic, MarksSeen, Workspace}
 use Rattle.proto_names.proofs.LinkParts.{files_between, marks_seen}
+use Rattle.proto_names.proofs.NoCycles.{acyclic_by_faults}
 use Rattle.proto_names.proofs.RenewedMeanings.{same_sight}
 use Rattle.proto_names.proofs.ValuesAtPlaces.{all_with, value_at}
 use Rattle.proto_names.specs.Sight.{AreLinkImports, IsSightOf, KeepsSight, WasSight, public_files}
@@ -105,12 +108,21 @@ module _ (files : List FileOf) (places : List ℕ) (imports : List (Vec FileImpo
       list_at k = subst (λ (lists : List (List FileImport)). ((Contains places k → ⊥) × (get_or lists k [] ≡ get_or old_lists k [])) ⊎ ((j : ℕ) × (j < length places) × (get_or places j 0 ≡ k) × (get_or lists k [] ≡ get_or own_lists j []))) (sym lists_put)
           (value_at old_lists places own_lists [] (length-map now (λ v. v.items) ∙ count) (λ j d l. omega (arith, inside j d l, old_count)) k)
 
+      -- at any other place the list stays; so no import leads back to its file, where none leads from an edited file to itself
+      list_stays : (file : ℕ) → (Contains places file → ⊥) → get_or old_lists file [] ≡ get_or new_lists file []
+      list_stays file apart = elim (list_at file) [
+        | inl stays ↦ sym stays.1
+        | inr there ↦ absurd (apart (subst (Contains places) there.2 (Contains-get_or places there.0 0 there.1)))
+      ]
+
+      pub now_acyclic : All (λ place. LeadsToItself (all_imports 0 new_lists) place → ⊥) places → IsAcyclic (all_imports 0 new_lists)
+      now_acyclic =
+          edited_acyclic old_lists new_lists places (old_count ∙ sym new_count) list_stays
+          (subst IsAcyclic (sym was.listed.same) (acyclic_by_faults (paths_of was.before) (all_wanted (text_of was.before was.was) 0 was.was) was.sight.sound))
+
       module _ (file : ℕ) (l : file < length files) (keeps : KeepsSight places old_lists own_lists (get_or seen file []) file) where
         own_stay : get_or old_lists file [] ≡ get_or new_lists file []
-        own_stay = elim (list_at file) [
-          | inl apart ↦ sym apart.1
-          | inr there ↦ absurd (keeps.apart (subst (Contains places) there.2 (Contains-get_or places there.0 0 there.1)))
-        ]
+        own_stay = list_stays file keeps.apart
 
         public_stay : (k : ℕ) → get_or (get_or seen file []) k false ≡ true → public_files (get_or old_lists k []) ≡ public_files (get_or new_lists k [])
         public_stay k sees = elim (list_at k) [

@@ -1,10 +1,11 @@
 -- The parts of a link that was changed in place are those of the link of the files that are there now.
 use Rattle.std.proofs.Common.{◌≡◌, ◌⊎◌, ℕ, ◌<◌, Bool, true, false, max, List, [], ◌∷◌, length, get_or, map, refl, sym, ◌∙◌, ap, subst, inl, inr, arith, All, Contains}
-use Rattle.proto_base.proofs.Common.{All-contains, Vec, both_ways, cases_lt, contains_head, get_or-map, get_or_past, length-map}
+use Rattle.proto_base.proofs.Common.{All-contains, All-map, Vec, both_ways, cases_lt, contains_head, get_or-map, get_or_past, length-map}
 use Rattle.proto_files.proofs.Common.{AreRead, FileOf, HasNoFault, ReadOf}
 use Rattle.proto_names_imports.proofs.Common.{LinkFaults}
 use Rattle.proto_names_imports.specs.declared.import.FileImport.{FileImport}
 use Rattle.proto_base.proofs.WithValues.{length-with_values}
+use Rattle.proto_base.specs.declared.changes.Change.{Change}
 use Rattle.proto_names_update.specs.NamesOfFiles.{AreNamesOf as AreListedNames}
 use Rattle.proto_names_affected.specs.ChangedFiles.{IsChangeMarked, StaysOrIsMarked, WasOrIsMarked, outer_rows_of}
 use Rattle.proto_names_affected.specs.ChangedFiles.{AreChangesMarked as AreRowsMarked}
@@ -158,15 +159,21 @@ module _ (files : List FileOf) (places : List ℕ) (old : Table) (imports : List
 
     -- ---- which files have to be re-resolved
 
-    module _ (table : IsTable t) (others : List ℕ) (seen_now : List (List Bool)) (sight_is : (reads : List ReadOf) → AreRead files reads → IsSightOf files reads seen_now)
-        (kept : StayBut others seen seen_now) (others_marked : All (IsSightMarked marks t (map (λ v. v.items) now) (map (λ v. v.items) meant) seen seen_now) others) where
+    module _ (table : IsTable t) (saw : List (Change (List Bool))) (seen_now : List (List Bool)) (sight_is : (reads : List ReadOf) → AreRead files reads → IsSightOf files reads seen_now)
+        (kept : StayBut (map (λ c. c.place) saw) seen seen_now) (others_marked : All (λ c. IsSightMarked marks t (map (λ v. v.items) now) (map (λ v. v.items) meant) seen seen_now c.place) saw) where
+      abbrev others : List ℕ
+      others = map (λ (c : Change (List Bool)). c.place) saw
+
+      abbrev IsMarkedAt : ℕ → Type 0
+      IsMarkedAt = IsSightMarked marks t (map (λ v. v.items) now) l.meant l.seen seen_now
+
       is_of : IsTableOf files_before reads_before l old rows
       is_of = of_before files places old imports rows seen meant references table_was link_was
 
       -- a file that sees others than before is marked, unless it is kept in sight
       same_marks : AreSightsMarked marks t now l.meant l.seen seen_now
       same_marks file left = elim (is_place others file) [
-        | inl there ↦ elim (All-contains (IsSightMarked marks t (map (λ v. v.items) now) l.meant l.seen seen_now) others file others_marked there) [
+        | inl there ↦ elim (All-contains IsMarkedAt others file (All-map IsMarkedAt (λ (c : Change (List Bool)). c.place) saw others_marked) there) [
           | inl marked ↦ absurd (both_ways (get_or marks file false) left marked)
           | inr in_sight ↦ inr in_sight
         ]

@@ -1,6 +1,5 @@
 -- The imports of files and what each file sees, before some are edited and now.
-use Rattle.std.specs.Prelude.{◌≡◌, ◌⊎◌, ℕ, ◌<◌, Bool, false, List, [], length, get_or, map, Option, Some, None}
-use Rattle.std.specs.Global.{Vec}
+use Rattle.std.specs.Prelude.{◌≡◌, ◌⊎◌, ℕ, ◌<◌, Bool, false, List, [], length, get_or, map}
 use Rattle.std.specs.List.{Contains, filter}
 use Rattle.proto_files.specs.FilesRead.{AreRead, ReadOf}
 use Rattle.proto_files.specs.GivenFiles.{FileOf}
@@ -55,8 +54,3 @@ pub record KeepsSight (places : List ℕ) (before now : List (List FileImport)) 
 abbrev pub StayBut : List ℕ → List (List Bool) → List (List Bool) → Type 0
 StayBut others before now =
     (file : ℕ) → (Contains others file → ⊥) → get_or now file [] ≡ get_or before file []
-
--- the marks of all files as they were: those that were put away, if they were
-abbrev pub undone_seen : Option (Vec (List Bool)) → List (List Bool) → List (List Bool)
-undone_seen None seen = seen
-undone_seen (Some was) seen = was.items

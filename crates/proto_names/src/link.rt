@@ -24,6 +24,7 @@ use crate::resolve::row_in_scope;
 use proto_base::NoMemory;
 use proto_file_sets::FileSet;
 use proto_files::{Files, Words};
+use proto_names_imports::import::FileImport;
 use proto_names_rules::Kind;
 use proto_names_table::table::{Row, Table};
 use proto_names_table::{Meant, RefId, SymbolId};
@@ -255,6 +256,21 @@ impl Link {
             Some(meant) => meant.begins_with(key),
             None => false,
         }
+    }
+
+    /// The imports of each file, in the order in which they are written, by the numbers of the files
+    /// that they name. Takes no memory.
+    pub fn imports(&self) -> &[Vec<FileImport>]
+        ensures { map (λ v. v.items) result.now ≡ self.now.imports }
+    {
+        &self.parts.graph.imports
+    }
+
+    /// For each file the files that it sees. Takes no memory.
+    pub fn seen(&self) -> &[FileSet]
+        ensures { result.now ≡ self.now.seen }
+    {
+        &self.parts.graph.seen
     }
 
     /// Whether the file sees a name with this text; false where there is no such file. Takes no

@@ -1,10 +1,9 @@
 //! What was changed of the parts of a link, and how that is rolled back.
 
-ghost use Rattle.std.specs.Prelude.{◌≡◌, None, [], length, take};
+ghost use Rattle.std.specs.Prelude.{◌≡◌, [], length, take};
 ghost use Rattle.proto_base.specs.Undone.{AreWithin, undone};
 ghost use Rattle.proto_names_update.specs.NameLogs.{Fits, seen_of, undone_table};
 ghost use Rattle.proto_names.specs.Renewal.{DeclarationsFit, ResolutionsFit};
-ghost use Rattle.proto_names.specs.Sight.{undone_seen};
 ghost use Rattle.proto_names_table.specs.declared.table.Table.{Table as TableOf};
 ghost use Rattle.proto_names_table.specs.Tables.{IsTable, IsUnchanged};
 
@@ -23,8 +22,8 @@ use std::alloc::Global;
 pub(crate) struct GraphLog {
     /// Of the imports of each file.
     pub(crate) imports: Vec<Change<Vec<FileImport>>>,
-    /// What each file saw, if that was replaced.
-    pub(crate) seen: Option<Vec<FileSet>>,
+    /// Of what each file sees.
+    pub(crate) seen: Vec<Change<FileSet>>,
 }
 
 /// What was changed of declarations since the log began.
@@ -66,7 +65,7 @@ impl LinkLog {
     pub(crate) fn new(alloc: Global, parts: &LinkParts) -> LinkLog
         requires { IsTable parts.now.declarations.table }
         ensures imports { result.graph.imports.items ≡ [] }
-        ensures seen { result.graph.seen ≡ None }
+        ensures seen { result.graph.seen.items ≡ [] }
         ensures table { undone_table result.names.declarations.table parts.now.declarations.table
             ≡ seen_of parts.now.declarations.table }
         ensures fits { Fits result.names.declarations.table parts.now.declarations.table }
@@ -79,7 +78,7 @@ impl LinkLog {
         LinkLog {
             graph: GraphLog {
                 imports: Vec::new(alloc),
-                seen: None,
+                seen: Vec::new(alloc),
             },
             names: NamesLog {
                 declarations: DeclarationLog {
@@ -99,15 +98,17 @@ impl LinkLog {
 impl ImportGraph {
     /// Rolls back what the log has. Takes no memory.
     fn roll_back(&mut self, log: GraphLog)
-        requires { AreWithin (length self.old.imports.items) log.imports.items }
+        requires imports { AreWithin (length self.old.imports.items) log.imports.items }
+        requires seen { AreWithin (length self.old.seen.items) log.seen.items }
         ensures imports { self.new.imports.items ≡ undone log.imports.items self.old.imports.items }
-        ensures seen { self.new.seen.items ≡ undone_seen log.seen self.old.seen.items }
+        ensures seen { self.new.seen.items ≡ undone log.seen.items self.old.seen.items }
     {
-        let GraphLog { mut imports, seen } = log;
+        let GraphLog {
+            mut imports,
+            mut seen,
+        } = log;
         roll_back(&mut self.imports, &mut imports);
-        if let Some(was) = seen {
-            self.seen = was;
-        }
+        roll_back(&mut self.seen, &mut seen);
     }
 }
 
@@ -144,6 +145,7 @@ impl LinkParts {
     /// Rolls back what the log has: the parts are as they were when it began. Takes no memory.
     pub(crate) fn roll_back(&mut self, log: LinkLog)
         requires imports { AreWithin (length self.old.graph.imports.items) log.graph.imports.items }
+        requires seen { AreWithin (length self.old.graph.seen.items) log.graph.seen.items }
         requires declarations { DeclarationsFit log.names.declarations self.old.declarations }
         requires resolutions { ResolutionsFit log.names.resolutions self.old.resolutions }
         ensures unchanged { (was : TableOf)
@@ -157,7 +159,7 @@ impl LinkParts {
         ensures rows { self.new.declarations.rows.items
             ≡ undone log.names.declarations.rows.items self.old.declarations.rows.items }
         ensures seen { self.new.graph.seen.items
-            ≡ undone_seen log.graph.seen self.old.graph.seen.items }
+            ≡ undone log.graph.seen.items self.old.graph.seen.items }
         ensures meant { self.new.resolutions.meant.items
             ≡ undone log.names.resolutions.meant.items self.old.resolutions.meant.items }
         ensures references { self.new.resolutions.references.items

@@ -8,7 +8,7 @@ ghost use Rattle.proto_names_imports.specs.Importing.{all_imports};
 ghost use Rattle.proto_names_rules.specs.Marks.{MarksSeen};
 ghost use Rattle.proto_names_rules.specs.Names.{Workspace};
 ghost use Rattle.proto_names_affected.specs.Marking.{IsMarked, MarksStay};
-ghost use Rattle.proto_names.specs.Sight.{AreLinkImports, IsSightOf, KeepsSight, StayBut, WasSight, public_files, undone_seen};
+ghost use Rattle.proto_names.specs.Sight.{AreLinkImports, IsSightOf, KeepsSight, StayBut, WasSight, public_files};
 
 use crate::link_log::GraphLog;
 use crate::parts::ImportGraph;
@@ -17,61 +17,61 @@ use proto_file_sets::FileSet;
 use proto_files::Files;
 use proto_names_affected::marking::mark_places;
 use proto_names_imports::import::FileImport;
-use proto_names_imports::import_cycles::has_no_cycle;
+use proto_names_imports::import_cycles::none_leads_to_itself;
 use proto_names_imports::laws::{kept_imports_stay, listed_imports_are_known};
-use proto_names_imports::sight::{public_targets, seen_again};
+use proto_names_imports::sight::{public_targets, see_again};
 use proto_names_update::NotUpdated;
 use proto_names_update::kept_imports::{all_imports_kept, imports_at};
 use std::alloc::Global;
-use std::mem;
 
 impl ImportGraph {
     /// Puts the imports of the edited files in place of those that they had, and what each file
-    /// sees then in place of what it saw; answers the files that see others than before. Where all
-    /// import what they imported, nothing changes. A rebuild is needed where an import names no
-    /// file or a file again, and where one leads back to its file. Where it answers no files, the
-    /// imports may be changed, and the log tells which.
+    /// sees then in place of what it saw; the log has then what the files saw that see others than
+    /// before, each once. Where all import what they imported, nothing changes. A rebuild is needed
+    /// where an import names no file or a file again, and where one leads back to its file. Where
+    /// it fails, some may be changed, and the log tells which.
     pub(crate) fn update(
         &mut self,
         alloc: Global,
         files: &Files,
         places: &[u32],
         log: &mut GraphLog,
-    ) -> Result<Vec<u32>, NotUpdated>
+    ) -> Result<(), NotUpdated>
         requires places { All (λ place. place < length files.now) places.now }
         requires was { WasSight places.now files.now (map (λ v. v.items) self.old.imports.items)
             self.old.seen.items }
-        requires none { log.old.seen ≡ None }
+        requires none { log.old.seen.items ≡ [] }
         ensures undone { undone log.new.imports.items self.new.imports.items
             ≡ undone log.old.imports.items self.old.imports.items }
         ensures len { length self.new.imports.items ≡ length self.old.imports.items }
         ensures within { AreWithin (length self.old.imports.items) log.old.imports.items
             → AreWithin (length self.old.imports.items) log.new.imports.items }
-        ensures seen { undone_seen log.new.seen self.new.seen.items ≡ self.old.seen.items }
+        ensures seen { undone log.new.seen.items self.new.seen.items ≡ self.old.seen.items }
+        ensures seen_within { AreWithin (length self.new.seen.items) log.new.seen.items }
         ensures imports { OnOk result ((reads : List ReadOf) → AreRead files.now reads
             → AreLinkImports files.now reads (map (λ v. v.items) self.new.imports.items)) }
         ensures sight { OnOk result ((reads : List ReadOf) → AreRead files.now reads
             → IsSightOf files.now reads self.new.seen.items) }
-        ensures others { IfOk result
-            (λ others. All (λ file. file < length files.now) others.items) }
-        ensures unchanged { IfOk result
-            (λ others. StayBut others.items self.old.seen.items self.new.seen.items) }
+        ensures was { All (λ c. get_or self.old.seen.items c.place [] ≡ c.was)
+            log.new.seen.items }
+        ensures unchanged { StayBut (map (λ c. c.place) log.new.seen.items)
+            self.old.seen.items self.new.seen.items }
     {
         // The contracts of these say how many files there are, and what is known of their imports.
         let _count = files.len();
         kept_imports_stay();
         listed_imports_are_known();
         if all_imports_kept(alloc, files, places, &self.imports)? {
-            return Ok(Vec::new(alloc));
+            return Ok(());
         }
         let now = imports_at(alloc, files, places)?;
         let stale = files_to_ask(alloc, &self.imports, &self.seen, places, &now)?;
         change_all_at(&mut self.imports, &mut log.imports, places, now)?;
-        if !has_no_cycle(alloc, &self.imports)? {
+        if !none_leads_to_itself(alloc, &self.imports, places)? {
             return Err(NotUpdated::NeedsRebuild);
         }
-        let others = update_seen(alloc, &self.imports, &stale, &mut self.seen, &mut log.seen)?;
-        Ok(others)
+        see_again(alloc, &self.imports, &stale, &mut self.seen, &mut log.seen)?;
+        Ok(())
     }
 }
 
@@ -141,62 +141,4 @@ fn mark_if_sees(marks: &mut FileSet, file: usize, seen: &FileSet, place: u32)
     if seen.contains(place) {
         marks.insert_at(file);
     }
-}
-
-/// Puts what each file sees by these imports in place of what it saw, which the log has then;
-/// answers the files that see others than before. What the files see that are not in the set stays.
-/// Fails only when out of memory.
-fn update_seen(
-    alloc: Global,
-    imports: &[Vec<FileImport>],
-    stale: &FileSet,
-    seen: &mut Vec<FileSet>,
-    log: &mut Option<Vec<FileSet>>,
-) -> Result<Vec<u32>, NoMemory>
-    requires few { length imports.now ≤ 2 ^ 32 }
-    requires within { All (λ v. All (λ i. i.to < length imports.now) v.items) imports.now }
-    requires paired { length seen.old.items ≡ length imports.now }
-    requires none { log.old ≡ None }
-    requires known { (w : Workspace) → w.files ≡ length imports.now
-        → w.imports ≡ all_imports 0 (map (λ v. v.items) imports.now)
-        → (file : ℕ) → file < length imports.now → get_or stale.now file false ≡ false
-        → MarksSeen w file (get_or seen.old.items file []) }
-    ensures undone { undone_seen log.new seen.new.items ≡ seen.old.items }
-    ensures len { OnOk result (length seen.new.items ≡ length imports.now) }
-    ensures exact { OnOk result ((w : Workspace) → w.files ≡ length imports.now
-        → w.imports ≡ all_imports 0 (map (λ v. v.items) imports.now)
-        → (file : ℕ) → file < length imports.now
-        → MarksSeen w file (get_or seen.new.items file [])) }
-    ensures others { IfOk result
-        (λ others. All (λ file. file < length imports.now) others.items) }
-    ensures unchanged { IfOk result (λ others. StayBut others.items seen.old.items seen.new.items) }
-{
-    let now = seen_again(alloc, imports, stale, seen)?;
-    let others = changed_sight(alloc, stale, seen, &now)?;
-    *log = Some(mem::replace(seen, now));
-    Ok(others)
-}
-
-/// The files that see others now than before, which are of the set. Fails only when out of memory.
-fn changed_sight(
-    alloc: Global,
-    stale: &FileSet,
-    before: &[FileSet],
-    now: &[FileSet],
-) -> Result<Vec<u32>, NoMemory>
-    requires paired { length before.now ≡ length now.now }
-    requires few { length now.now ≤ 2 ^ 32 }
-    requires stay { (file : ℕ) → file < length now.now → get_or stale.now file false ≡ false
-        → get_or now.now file [] ≡ get_or before.now file [] }
-    ensures within { IfOk result (λ files. All (λ file. file < length now.now) files.items) }
-    ensures kept { IfOk result (λ files. StayBut files.items
-        before.now now.now) }
-{
-    let mut files = Vec::new(alloc);
-    for file in 0..now.len() {
-        if stale.contains_at(file) && !before[file].is_same(&now[file]) {
-            files.push(file as u32)?;
-        }
-    }
-    Ok(files)
 }

@@ -1,6 +1,6 @@
 //! A link that is changed in place to that of its files, once some of them are edited.
 
-ghost use Rattle.std.specs.Prelude.{◌≡◌, ◌≢◌, ◌<◌, ℕ, Bool, List, [], true, false, length, get_or, map, None, IfOk, OnOk};
+ghost use Rattle.std.specs.Prelude.{◌≡◌, ◌≢◌, ◌<◌, ℕ, Bool, List, [], true, false, length, get_or, map, IfOk, OnOk};
 ghost use Rattle.std.specs.Global.{Vec as VecOf};
 ghost use Rattle.std.specs.List.{All};
 ghost use Rattle.proto_files.specs.Faults.{HasNoFault};
@@ -18,7 +18,7 @@ ghost use Rattle.proto_names.specs.LinkOfFiles.{IsLinkOf};
 ghost use Rattle.proto_names.specs.LinkOfParts.{link_of};
 ghost use Rattle.proto_names.specs.Renewal.{AreMeantBelow, AreOfMarked, AreRowsRenewed, DeclarationsFit, IsSightRenewed, ResolutionsFit, link_of_parts, undone_declarations, undone_resolutions};
 ghost use Rattle.proto_names.specs.Renewed.{AreMeantAgain};
-ghost use Rattle.proto_names.specs.Sight.{AreLinkImports, undone_seen};
+ghost use Rattle.proto_names.specs.Sight.{AreLinkImports};
 ghost use Rattle.proto_names_update.specs.Relinked.{WasLink};
 ghost use Rattle.proto_names_table.specs.Tables.{IsTable};
 
@@ -48,12 +48,10 @@ struct Edited<'a> {
     files: &'a Files,
     /// The places of those that are edited.
     places: &'a [u32],
-    /// For each file, the files that it saw.
-    saw: &'a [FileSet],
     /// For each file, the files that it sees now.
     seen: &'a [FileSet],
-    /// The places of the files that see others than before.
-    others: &'a [u32],
+    /// What the files saw that see others than before.
+    saw: &'a [Change<FileSet>],
 }
 
 /// What references are resolved by: the files, what each sees, and what they declare.
@@ -225,35 +223,24 @@ fn mark_others(
     meant: &[FileMeanings],
 ) -> Result<(), NoMemory>
     requires table { IsTable declarations.now.table }
-    requires others { All (λ file. file < length affected.old) edited.others.now }
+    requires others { All (λ c. c.place < length affected.old) edited.saw.now }
     requires rows { length declarations.now.rows.items ≡ length affected.old }
     requires meant { length meant.now ≡ length affected.old }
-    requires saw { length edited.saw.now ≡ length affected.old }
     requires seen { length edited.seen.now ≡ length affected.old }
     ensures stay { OnOk result (MarksStay affected.old affected.new) }
-    ensures marked { OnOk result (All (IsSightMarked affected.new declarations.now.table
+    ensures marked { OnOk result ((before : List (List Bool))
+        → All (λ c. get_or before c.place [] ≡ c.was) edited.entry.saw.now
+        → All (λ c. IsSightMarked affected.new declarations.now.table
         (map (λ v. v.items) declarations.now.rows.items) (map (λ v. v.items) meant.now)
-        edited.entry.saw.now edited.entry.seen.now)
-        edited.entry.others.now) }
+        before edited.entry.seen.now c.place) edited.entry.saw.now) }
 {
     let sighted = Sighted {
         table: &declarations.table,
         rows: &declarations.rows,
         meant,
-        before: edited.saw,
         sees: edited.seen,
     };
-    mark_by_sight(alloc, affected, sighted, edited.others)
-}
-
-/// What each file saw: what was replaced, if it was.
-fn seen_before<'a>(saw: &'a Option<Vec<FileSet>>, seen: &'a [FileSet]) -> &'a [FileSet]
-    ensures { result.now ≡ undone_seen saw.now seen.now }
-{
-    match saw {
-        Some(before) => before.as_slice(),
-        None => seen,
-    }
+    mark_by_sight(alloc, affected, sighted, edited.saw)
 }
 
 /// The files that have to be re-resolved, where the declarations are those of the
@@ -268,11 +255,10 @@ fn affected_files(
 ) -> Result<FileSet, NoMemory>
     requires table { IsTable declarations.now.table }
     requires places { All (λ place. place < length edited.files.now) edited.places.now }
-    requires others { All (λ file. file < length edited.files.now) edited.others.now }
+    requires others { All (λ c. c.place < length edited.files.now) edited.saw.now }
     requires before { length before.now ≡ length edited.places.now }
     requires rows { length declarations.now.rows.items ≡ length edited.files.now }
     requires meant { length resolutions.now.meant.items ≡ length edited.files.now }
-    requires saw { length edited.saw.now ≡ length edited.files.now }
     requires seen { length edited.seen.now ≡ length edited.files.now }
     requires references { All
         (λ v. All (λ r. r.file < length resolutions.now.meant.items) v.items)
@@ -283,11 +269,12 @@ fn affected_files(
         (map (λ v. v.items) resolutions.now.meant.items) (map (λ v. v.items) before.now)
         (map (outer_rows_of declarations.now.table
         (map (λ v. v.items) declarations.now.rows.items)) edited.entry.places.now)) }
-    ensures sight { IfOk result (λ affected. All (IsSightMarked affected declarations.now.table
+    ensures sight { IfOk result (λ affected. (saw : List (List Bool))
+        → All (λ c. get_or saw c.place [] ≡ c.was) edited.entry.saw.now
+        → All (λ c. IsSightMarked affected declarations.now.table
         (map (λ v. v.items) declarations.now.rows.items)
         (map (λ v. v.items) resolutions.now.meant.items)
-        edited.entry.saw.now edited.entry.seen.now)
-        edited.entry.others.now) }
+        saw edited.entry.seen.now c.place) edited.entry.saw.now) }
 {
     let now = outer_rows_at(
         alloc,
@@ -323,12 +310,15 @@ fn update_names(
     log: &mut NamesLog,
 ) -> Result<FileSet, NotUpdated>
     requires places { All (λ place. place < length edited.files.now) edited.places.now }
-    requires others { All (λ file. file < length edited.files.now) edited.others.now }
+    requires others { All (λ c. c.place < length edited.files.now) edited.saw.now }
+    requires was { All (λ c. get_or (undone edited.saw.now edited.seen.now) c.place [] ≡ c.was)
+        edited.saw.now }
     requires table { IsTable declarations.old.table }
     requires paired { length resolutions.old.references.items
         ≡ length declarations.old.table.rows.items }
     requires renewed { IsSightRenewed edited.places.now edited.files.now declarations.old
-        resolutions.old edited.saw.now edited.seen.now edited.others.now }
+        resolutions.old (undone edited.saw.now edited.seen.now) edited.seen.now
+        (map (λ c. c.place) edited.saw.now) }
     requires declared { DeclarationsFit log.old.declarations declarations.old }
     requires resolved { ResolutionsFit log.old.resolutions resolutions.old }
     requires none { log.old.resolutions.meant.items ≡ [] }
@@ -350,7 +340,8 @@ fn update_names(
     ensures clean { OnOk result (HasNoFault (LinkFaults edited.entry.files.now)) }
     ensures told { IfOk result (λ affected. (imports : List (VecOf FileImportOf))
         → TellWhatToLook edited.entry.places.now edited.entry.files.now (link_of_parts
-        declarations.old.table imports declarations.old.rows.items edited.entry.saw.now
+        declarations.old.table imports declarations.old.rows.items
+        (undone edited.entry.saw.now edited.entry.seen.now)
         resolutions.old.meant.items resolutions.old.references.items) affected) }
 {
     let Edited { files, places, .. } = edited;
@@ -407,7 +398,7 @@ impl LinkParts {
         requires resolved { ResolutionsFit log.old.names.resolutions self.old.resolutions }
         requires none { log.old.names.resolutions.meant.items ≡ [] }
         requires no_imports { log.old.graph.imports.items ≡ [] }
-        requires no_seen { log.old.graph.seen ≡ None }
+        requires no_seen { log.old.graph.seen.items ≡ [] }
         ensures table { IsTable self.new.declarations.table }
         ensures declared { DeclarationsFit log.new.names.declarations self.new.declarations }
         ensures resolved { ResolutionsFit log.new.names.resolutions self.new.resolutions }
@@ -419,8 +410,10 @@ impl LinkParts {
             log.new.graph.imports.items }
         ensures imports { undone log.new.graph.imports.items self.new.graph.imports.items
             ≡ self.old.graph.imports.items }
-        ensures seen { undone_seen log.new.graph.seen self.new.graph.seen.items
+        ensures seen { undone log.new.graph.seen.items self.new.graph.seen.items
             ≡ self.old.graph.seen.items }
+        ensures seen_within { AreWithin (length self.new.graph.seen.items)
+            log.new.graph.seen.items }
         ensures paired { OnOk result (length self.new.resolutions.references.items
             ≡ length self.new.declarations.table.rows.items) }
         ensures link { OnOk result (IsLinkOf files.now (link_of self.new)) }
@@ -429,13 +422,12 @@ impl LinkParts {
         ensures told { IfOk result (TellWhatToLook places.now files.now (link_of self.old)) }
     {
         are_read(files);
-        let others = self.graph.update(alloc, files, places, &mut log.graph)?;
+        self.graph.update(alloc, files, places, &mut log.graph)?;
         let edited = Edited {
             files,
             places,
-            saw: seen_before(&log.graph.seen, &self.graph.seen),
             seen: &self.graph.seen,
-            others: &others,
+            saw: &log.graph.seen,
         };
         update_names(
             alloc,

@@ -3,18 +3,12 @@ use Rattle.std.proofs.Common.{◌≡◌, ◌↔◌, ℕ, ◌+◌, ◌<◌, ◌�
 use Rattle.proto_base.proofs.Common.{option_map_or, cases_lt, get_or_default, from_map, contains_map}
 use Rattle.proto_names_rules.proofs.Common.{Import, Leads, stop, onward, Fault, fault, IsLeast, AskedImport, file_with_path, imports_of, at}
 use Rattle.proto_names_imports.specs.Common.{Walks, stays, goes, IsMarked, asked_by, all_asked, TokensAreRising, AreImporters, CycleFault, cycle, MarkedFault, WrittenImport}
+use Rattle.proto_names_imports.proofs.ImportGraph.{lead_join}
 use Rattle.proto_names_imports.proofs.Walks.{walk_on}
 use Rattle.proto_names_imports.proofs.PathFaults.{Stands, least_at}
 use Rattle.proto_names_imports.proofs.FilesAsked.{asked_in, asked_of, first_here, none_more}
 
 -- chains of imports are walks back
-lead_on : (imports : List Import) {f : ℕ} (i : Import) → Leads imports f i.from → Contains imports i → Leads imports f i.to
-lead_on imports {f} i l c = go l refl
-  where
-    go : {g h : ℕ} → Leads imports g h → h ≡ i.from → Leads imports g i.to
-    go stop e = onward i c (sym e) stop
-    go (onward j d q m) e = onward j d q (go m e)
-
 pub walk_back : (back : List (List ℕ)) (imports : List Import) → AreImporters back imports → {t f : ℕ} → Leads imports t f → Walks back f t
 walk_back back imports ok stop = stays
 walk_back back imports ok {t} (onward i c e l) = walk_on back (walk_back back imports ok l) ((ok t i.to).1 (i, c, e, refl))
@@ -24,7 +18,7 @@ lead_back back imports ok stays = stop
 lead_back back imports ok {t} {f} (goes h c w) =
     let r = (ok h f).0 c in
     let m = lead_back back imports ok w in
-    subst (Leads imports t) r.3 (lead_on imports r.0 (subst (Leads imports t) (sym r.2) m) r.1)
+    lead_join imports m (onward r.0 r.1 r.2 (subst (Leads imports r.0.to) r.3 stop))
 
 marked_from : (marked : List Bool) (o : Option ℕ) → option_map_or (λ to. get_or marked to false) o false ≡ true → (to : ℕ) × (o ≡ Some to) × IsMarked marked to
 marked_from marked None h = absurd (true≢false (sym h))

@@ -53,6 +53,10 @@ graph_of is from to = (
 pub importers_of : (next back : List (List ℕ)) (imports : List Import) → IsGraph next imports → AreTurned next back → AreImporters back imports
 importers_of next back imports g t from to = (λ c. (g from to).0 ((t from to).1 c), λ d. (t from to).0 ((g from to).1 d))
 
+pub lead_join : (imports : List Import) {f g h : ℕ} → Leads imports f g → Leads imports g h → Leads imports f h
+lead_join imports stop m = m
+lead_join imports (onward i c e l) m = onward i c e (lead_join imports l m)
+
 -- where ranks fall along imports, there is no cycle
 pub lead_falls : (rank : ℕ → ℕ) (imports : List Import) → ((i : Import) → Contains imports i → rank i.to < rank i.from) → {f g : ℕ} → Leads imports f g → rank g ≤ rank f
 lead_falls rank imports falls stop = omega arith

@@ -102,15 +102,6 @@ marks_seen is w f seen n same within l marks g = go (get_or seen g false) (sees 
     go false false e h = e ∙ sym h
     go false true e h = absurd (both_ways (get_or seen g false) e (back h))
 
--- all that the lists have is below a number
-pub lists_within : {Y : Type 0} (f : Y → List ℕ) (n : ℕ) (ys : List Y) → All (λ v. All (λ g. g < n) (f v)) ys → (k b : ℕ) → Contains (get_or (map f ys) k []) b → b < n
-lists_within f n [] h k b c = absurd (omega (arith, c.1))
-lists_within f n (y ∷ ys) h zero b c =
-    let s = h 0 y (omega arith) c.0 b c.1 in
-    let t : get_or (f y) c.0 b ≡ b = c.2 in
-    omega (arith, s, t)
-lists_within f n (y ∷ ys) h (suc k) b c = lists_within f n ys (λ j d l. h (suc j) d (omega (arith, l))) k b c
-
 pub set_within : (xs : List (List ℕ)) (f : ℕ) (own : List ℕ) (n : ℕ) → f < length xs → ((k b : ℕ) → Contains (get_or xs k []) b → b < n) → ((b : ℕ) → Contains own b → b < n) → (k b : ℕ) → Contains (get_or (slice_set xs f own) k []) b → b < n
 set_within xs f own n l others mine k b c = elim (cases_eq k f) [
   | inl e ↦ mine b (subst (λ z. Contains z b) (get_or-set_same xs f own [] l) (subst (λ z. Contains (get_or (slice_set xs f own) z []) b) e c))
@@ -135,12 +126,6 @@ public_within f n (x ∷ xs) h zero b c =
     omega (arith, s, t)
 public_within f n (x ∷ xs) h (suc k) b c = public_within f n xs (λ j d l. h (suc j) d (omega (arith, l))) k b c
 
--- a list is put back
-pub set_back : (xs : List (List ℕ)) (f : ℕ) (a b : List ℕ) → b ≡ get_or xs f [] → slice_set (slice_set xs f a) f b ≡ xs
-set_back [] f a b e = refl
-set_back (x ∷ xs) zero a b e = ap (λ z. z ∷ xs) e
-set_back (x ∷ xs) (suc f) a b e = ap (λ z. x ∷ z) (set_back xs f a b e)
-
 pub public_twice : {X : Type 0} (f : X → List FileImport) (xs : List X) → map (λ v. public_of (f v)) xs ≡ map public_of (map f xs)
 public_twice f [] = refl
 public_twice f (x ∷ xs) = ap (λ z. public_of (f x) ∷ z) (public_twice f xs)
@@ -150,6 +135,22 @@ pub imports_within : {X : Type 0} (f : X → List FileImport) (n : ℕ) (xs : Li
 imports_within f n xs h i c =
     let g = (graph_of (map f xs) i.from i.to).1 (i, c, refl, refl) in
     within_map f n xs h i.from i.to (subst (λ z. Contains (get_or z i.from []) i.to) (sym (targets_twice f xs)) g)
+
+-- these are the marks of what the file sees, where the imports of so many files are these
+abbrev pub MarksSight : ℕ → List (List FileImport) → ℕ → List Bool → Type 0
+MarksSight count is file marks = (w : Workspace) → w.files ≡ count → w.imports ≡ all_imports 0 is → MarksSeen w file marks
+
+-- marks of a walk along the imports of a file, and the public ones of the others, are such
+pub walk_marks : {X : Type 0} (f : X → List FileImport) (xs : List X) (file : ℕ) (d : X) (own : List FileImport) (marks : List Bool) → file < length xs → All (λ v. All (λ i. i.to < length xs) (f v)) xs → own ≡ f (get_or xs file d)
+    → ((g : ℕ) → IsMarked marks g ↔ Walks (slice_set (map (λ v. public_of (f v)) xs) file (own_of own)) file g) → MarksSight (length xs) (map f xs) file marks
+walk_marks f xs file d own marks l within is walks w n same =
+    let m = length-map xs f in
+    let one = is ∙ sym (get_or-map f xs file d [] l) in
+    let named : (i : Import) → Contains (all_imports 0 (map f xs)) i → i.to < length (map f xs) = λ i c. (let r = imports_within f (length xs) xs within i c in omega (arith, r, m)) in
+    let steps : (g : ℕ) → IsMarked marks g ↔ Walks (steps_from (map f xs) file) file g =
+    subst (λ z. (g : ℕ) → IsMarked marks g ↔ Walks (slice_set (map public_of (map f xs)) file (own_of z)) file g) one
+    (subst (λ z. (g : ℕ) → IsMarked marks g ↔ Walks (slice_set z file (own_of own)) file g) (public_twice f xs) walks) in
+    marks_seen (map f xs) w file marks (n ∙ sym m) same named (omega (arith, l, m)) steps
 
 -- what holds of each list and its number, with a list more
 pub pushed : {Y : Type 0} (Q : ℕ → List Y → Type 0) (xs : List (List Y)) (y : List Y) (n : ℕ) → length xs ≡ n → ((k : ℕ) → k < n → Q k (get_or xs k [])) → Q n y → (k : ℕ) → k < n + 1 → Q k (get_or (xs ++ y ∷ []) k [])

@@ -1,16 +1,13 @@
 -- Lists of numbers turned round, number by number (for the crates above).
 use Rattle.std.proofs.Common.{◌≡◌, ◌≢◌, ◌⊎◌, ◌↔◌, ℕ, zero, suc, ◌+◌, ◌<◌, List, [], ◌∷◌, ◌++◌, length, get_or, take, refl, sym, ◌∙◌, ap, subst, inl, inr, arith, replicate, slice_set, Contains, get_or-set_same, get_or-set_other}
-use Rattle.proto_base.proofs.Common.{cases_eq, Contains-append_left, Contains-append_cases, contains_cases}
+use Rattle.proto_base.proofs.Common.{cases_eq, Contains-append_left, Contains-append_cases}
 use Rattle.std.proofs.Math.Seq.{take-suc}
-use Rattle.proto_names_imports.proofs.Walks.{last_in}
+use Rattle.proto_names_imports.proofs.Walks.{last_in, one_of}
 
 pub contains_within : (ls : List (List ℕ)) (a b : ℕ) → Contains (get_or ls a []) b → a < length ls
 contains_within [] a b c = absurd (omega (arith, c.1))
 contains_within (l ∷ ls) zero b c = omega arith
 contains_within (l ∷ ls) (suc a) b c = let r = contains_within ls a b c in omega (arith, r)
-
-one_of : {X : Type 0} (x y : X) → Contains (x ∷ []) y → x ≡ y
-one_of x y c = elim (contains_cases x y [] c) [ inl e ↦ e | inr n ↦ absurd (omega (arith, n.1)) ]
 
 -- what the lists have after a number was put into those of these places
 abbrev pub HasPut : List (List ℕ) → List ℕ → ℕ → List (List ℕ) → Type 0

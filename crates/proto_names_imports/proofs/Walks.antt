@@ -1,8 +1,15 @@
--- One number more is visited (for the crates above).
-use Rattle.std.proofs.Common.{◌≡◌, ◌≢◌, ◌⊎◌, ℕ, zero, suc, ◌+◌, ◌<◌, Bool, true, false, List, [], ◌∷◌, ◌++◌, length, get_or, take, refl, sym, ◌∙◌, ap, subst, inl, inr, arith, length-append, replicate, slice_set, Contains, true≢false, get_or-set_same, get_or-set_other, length-set}
+-- Walks that go on by one file: what is marked of what is reached (for the crates above).
+use Rattle.std.proofs.Common.{◌≡◌, ◌≢◌, ◌⊎◌, ◌↔◌, ℕ, zero, suc, ◌+◌, ◌<◌, Bool, true, false, cond, List, [], ◌∷◌, ◌++◌, length, get_or, map, filter, take, refl, sym, ◌∙◌, ap, subst, inl, inr, arith, length-append, replicate, slice_set, Contains, true≢false, get_or-set_same, get_or-set_other, length-set}
 use Rattle.proto_base.proofs.Common.{cases_Bool, cases_eq, both_ways, Contains-append_left, Contains-append_right, Contains-append_cases, contains_head, contains_cases}
-use Rattle.std.proofs.Math.Seq.{take-suc}
+use Rattle.std.proofs.lemmas.List.{append-nil, map-append}
+use Rattle.std.proofs.lemmas.List.Elements.{filter_more}
 use Rattle.proto_names_imports.specs.Walks.{Walks, stays, goes, unseen, IsMarked, Visits}
+
+pub last_in : {X : Type 0} (xs : List X) (x : X) → Contains (xs ++ x ∷ []) x
+last_in xs x = Contains-append_right xs (x ∷ []) x (contains_head x [])
+
+pub one_of : {X : Type 0} (x y : X) → Contains (x ∷ []) y → x ≡ y
+one_of x y c = elim (contains_cases x y [] c) [ inl e ↦ e | inr n ↦ absurd (omega (arith, n.1)) ]
 
 -- where none is visited, all is as it was
 pub visits_none : (seen : List Bool) (todo : List ℕ) → Visits [] seen todo seen todo
@@ -78,11 +85,11 @@ visits_new done x seen todo seen' todo' v l h = record {
     less : (g : ℕ) → g ≢ x → IsMarked (slice_set seen' x true) g → IsMarked seen' g
     less g ne m = sym (get_or-set_other seen' x g true false ne) ∙ m
 
--- what is marked is reached; what is marked waits, or its list is marked; what waits is marked
-pub record IsPart (next : List (List ℕ)) (start : ℕ) (seen : List Bool) (todo : List ℕ) : Type 0 where
+-- what is marked is reached from one of the first; what is marked waits, or its list is marked; what waits is marked
+pub record IsPart (next : List (List ℕ)) (firsts : List ℕ) (seen : List Bool) (todo : List ℕ) : Type 0 where
   pub sized : length seen ≡ length next
-  pub sound : (g : ℕ) → IsMarked seen g → Walks next start g
-  pub begun : IsMarked seen start
+  pub sound : (g : ℕ) → IsMarked seen g → (s : ℕ) × Contains firsts s × Walks next s g
+  pub begun : (s : ℕ) → Contains firsts s → IsMarked seen s
   pub closed : (f : ℕ) → IsMarked seen f → Contains todo f ⊎ ((g : ℕ) → Contains (get_or next f []) g → IsMarked seen g)
   pub waiting : (f : ℕ) → Contains todo f → IsMarked seen f
 
@@ -90,17 +97,22 @@ pub walk_on : (next : List (List ℕ)) {f g h : ℕ} → Walks next f g → Cont
 walk_on next stays c = goes _ c stays
 walk_on next (goes i d w) c = goes i d (walk_on next w c)
 
-pub part_more : (next : List (List ℕ)) (start f : ℕ) (seen : List Bool) (todo : List ℕ) (seen' : List Bool) (todo' : List ℕ) → IsPart next start seen (todo ++ f ∷ []) → Visits (get_or next f []) seen todo seen' todo' → IsPart next start seen' todo'
-part_more next start f seen todo seen' todo' p v = record {
+pub part_more : (next : List (List ℕ)) (firsts : List ℕ) (f : ℕ) (seen : List Bool) (todo : List ℕ) (seen' : List Bool) (todo' : List ℕ) → IsPart next firsts seen (todo ++ f ∷ []) → Visits (get_or next f []) seen todo seen' todo' → IsPart next firsts seen' todo'
+part_more next firsts f seen todo seen' todo' p v = record {
   sized = v.sized ∙ p.sized;
-  sound = λ g m. elim (v.only g m) [ inl a ↦ p.sound g a | inr c ↦ walk_on next (p.sound f (p.waiting f (Contains-append_right todo (f ∷ []) f (contains_head f [])))) c ];
-  begun = v.kept start p.begun;
+  sound = λ g m. elim (v.only g m) [
+    | inl a ↦ p.sound g a
+    | inr c ↦
+        let r = p.sound f (p.waiting f (last_in todo f)) in
+        (r.0, r.1, walk_on next r.2 c)
+  ];
+  begun = λ s c. v.kept s (p.begun s c);
   closed = λ x m. elim (v.waits x m) [
     | inr c ↦ inl c
     | inl old ↦ elim (p.closed x old) [
       | inl w ↦ elim (Contains-append_cases todo (f ∷ []) x w) [
         | inl a ↦ inl (v.stay x a)
-        | inr b ↦ elim (contains_cases f x [] b) [ inl e ↦ inr (λ g c. v.marked g (subst (λ z. Contains (get_or next z []) g) (sym e) c)) | inr n ↦ absurd (omega (arith, n.1)) ]
+        | inr b ↦ inr (λ g c. v.marked g (subst (λ z. Contains (get_or next z []) g) (sym (one_of f x b)) c))
       ]
       | inr all ↦ inr (λ g c. v.kept g (all g c))
     ]
@@ -108,44 +120,59 @@ part_more next start f seen todo seen' todo' p v = record {
   waiting = λ x c. elim (v.from x c) [ inl a ↦ v.kept x (p.waiting x (Contains-append_left todo (f ∷ []) x a)) | inr m ↦ m ];
 }
 
--- when nothing waits, all that is reached is marked
-pub part_whole : (next : List (List ℕ)) (start : ℕ) (seen : List Bool) → IsPart next start seen [] → (g : ℕ) → Walks next start g → IsMarked seen g
-part_whole next start seen p g w = go w p.begun
+-- when nothing waits, what is marked is what is reached
+pub part_whole : (next : List (List ℕ)) (firsts : List ℕ) (seen : List Bool) → IsPart next firsts seen [] → (g : ℕ) → IsMarked seen g ↔ ((s : ℕ) × Contains firsts s × Walks next s g)
+part_whole next firsts seen p g = (p.sound g, λ r. go r.2 (p.begun r.0 r.1))
   where
     go : {f : ℕ} → Walks next f g → IsMarked seen f → IsMarked seen g
     go stays m = m
     go {f} (goes h c w) m = elim (p.closed f m) [ inl n ↦ absurd (omega (arith, n.1)) | inr all ↦ go w (all h c) ]
 
--- the start
-pub part_first : (next : List (List ℕ)) (start : ℕ) (seen : List Bool) → length seen ≡ length next → start < length seen → ((g : ℕ) → get_or seen g false ≡ false) → IsPart next start (slice_set seen start true) (start ∷ [])
-part_first next start seen n l none = record {
-  sized = length-set seen start true ∙ n;
-  sound = λ g m. elim (cases_eq g start) [
-    | inl e ↦ subst (λ z. Walks next start z) (sym e) stays
-    | inr ne ↦ absurd (both_ways (get_or seen g false) (none g) (sym (get_or-set_other seen start g true false ne) ∙ m))
-  ];
-  begun = get_or-set_same seen start true false l;
-  closed = λ g m. elim (cases_eq g start) [
-    | inl e ↦ inl (subst (λ z. Contains (start ∷ []) z) (sym e) (contains_head start []))
-    | inr ne ↦ absurd (both_ways (get_or seen g false) (none g) (sym (get_or-set_other seen start g true false ne) ∙ m))
-  ];
-  waiting = λ g c. elim (contains_cases start g [] c) [ inl e ↦ subst (IsMarked (slice_set seen start true)) e (get_or-set_same seen start true false l) | inr n ↦ absurd (omega (arith, n.1)) ];
+-- of a walk from one
+pub part_whole_one : (next : List (List ℕ)) (start : ℕ) (seen : List Bool) → IsPart next (start ∷ []) seen [] → (g : ℕ) → IsMarked seen g ↔ Walks next start g
+part_whole_one next start seen p g =
+    let whole = part_whole next (start ∷ []) seen p g in (
+      λ m. (let r = whole.0 m in subst (λ s. Walks next s g) (sym (one_of start r.0 r.1)) r.2),
+      λ w. whole.1 (start, contains_head start [], w),
+    )
+
+-- the first ones are visited
+pub part_firsts : (next : List (List ℕ)) (firsts : List ℕ) (none seen : List Bool) (todo : List ℕ) → length none ≡ length next → ((g : ℕ) → get_or none g false ≡ false) → Visits firsts none [] seen todo → IsPart next firsts seen todo
+part_firsts next firsts none seen todo n unmarked v = record {
+  sized = v.sized ∙ n;
+  sound = λ g m. elim (v.only g m) [ inl a ↦ absurd (both_ways (get_or none g false) (unmarked g) a) | inr c ↦ (g, c, stays) ];
+  begun = v.marked;
+  closed = λ g m. elim (v.waits g m) [ inl a ↦ absurd (both_ways (get_or none g false) (unmarked g) a) | inr c ↦ inl c ];
+  waiting = λ g c. elim (v.from g c) [ inl n ↦ absurd (omega (arith, n.1)) | inr m ↦ m ];
 }
 
--- one file of a list
-pub visit_step : (next : List ℕ) (i : ℕ) (seen : List Bool) (todo : List ℕ) (seen1 : List Bool) (todo1 : List ℕ) (seen2 : List Bool) (todo2 : List ℕ) → i < length next → Visits (take i next) seen todo seen1 todo1 → get_or next i 0 < length seen1
-    → (IsMarked seen1 (get_or next i 0) → (seen2 ≡ seen1) × (todo2 ≡ todo1)) → (get_or seen1 (get_or next i 0) false ≡ false → (seen2 ≡ slice_set seen1 (get_or next i 0) true) × (todo2 ≡ todo1 ++ get_or next i 0 ∷ [])) → Visits (take (i + 1) next) seen todo seen2 todo2
-visit_step next i seen todo seen1 todo1 seen2 todo2 l v lx old new =
-    let x = get_or next i 0 in
-    let t : take (i + 1) next ≡ take i next ++ get_or next i 0 ∷ [] = let e : i + 1 ≡ suc i = omega arith in ap (λ k. take k next) e ∙ take-suc next i 0 l in
-    elim (cases_Bool (get_or seen1 (get_or next i 0) false)) [
-      | inl m ↦
-          let same = old m in
-          subst (λ z. Visits z seen todo seen2 todo2) (sym t) (subst (λ z. Visits (take i next ++ get_or next i 0 ∷ []) seen todo z todo2) (sym same.0) (subst (λ z. Visits (take i next ++ get_or next i 0 ∷ []) seen todo seen1 z) (sym same.1) (visits_old (take i next) (get_or next i 0) seen todo seen1 todo1 v m)))
-      | inr m ↦
-          let same = new m in
-          subst (λ z. Visits z seen todo seen2 todo2) (sym t) (subst (λ z. Visits (take i next ++ get_or next i 0 ∷ []) seen todo z todo2) (sym same.0) (subst (λ z. Visits (take i next ++ get_or next i 0 ∷ []) seen todo (slice_set seen1 (get_or next i 0) true) z) (sym same.1) (visits_new (take i next) (get_or next i 0) seen todo seen1 todo1 v lx m)))
-    ]
+-- the start
+pub part_first : (next : List (List ℕ)) (start : ℕ) (none : List Bool) → length none ≡ length next → start < length none → ((g : ℕ) → get_or none g false ≡ false) → IsPart next (start ∷ []) (slice_set none start true) (start ∷ [])
+part_first next start none n l unmarked =
+    part_firsts next (start ∷ []) none (slice_set none start true) (start ∷ []) n unmarked (visits_new [] start none [] none [] (visits_none none []) l (unmarked start))
+
+-- one number more
+pub visit_one : (done : List ℕ) (x : ℕ) (seen : List Bool) (todo : List ℕ) (seen1 : List Bool) (todo1 : List ℕ) (seen2 : List Bool) (todo2 : List ℕ) → Visits done seen todo seen1 todo1 → x < length seen1
+    → (IsMarked seen1 x → (seen2 ≡ seen1) × (todo2 ≡ todo1)) → (get_or seen1 x false ≡ false → (seen2 ≡ slice_set seen1 x true) × (todo2 ≡ todo1 ++ x ∷ [])) → Visits (done ++ x ∷ []) seen todo seen2 todo2
+visit_one done x seen todo seen1 todo1 seen2 todo2 v within old new = elim (cases_Bool (get_or seen1 x false)) [
+  | inl m ↦
+      let same = old m in
+      subst (λ z. Visits (done ++ x ∷ []) seen todo z todo2) (sym same.0) (subst (λ z. Visits (done ++ x ∷ []) seen todo seen1 z) (sym same.1) (visits_old done x seen todo seen1 todo1 v m))
+  | inr m ↦
+      let same = new m in
+      subst (λ z. Visits (done ++ x ∷ []) seen todo z todo2) (sym same.0)
+      (subst (λ z. Visits (done ++ x ∷ []) seen todo (slice_set seen1 x true) z) (sym same.1) (visits_new done x seen todo seen1 todo1 v within m))
+]
+
+-- the numbers of those that pass, with one element more
+pub passing_more : {X : Type 0} (p : X → Bool) (f : X → ℕ) (xs : List X) (i : ℕ) (d : X) → i < length xs → p (get_or xs i d) ≡ true → map f (filter p (take (i + 1) xs)) ≡ map f (filter p (take i xs)) ++ f (get_or xs i d) ∷ []
+passing_more p f xs i d l passes =
+    ap (map f) (filter_more p xs i d l ∙ ap (λ b. filter p (take i xs) ++ cond b (get_or xs i d ∷ []) []) passes)
+    ∙ map-append f (filter p (take i xs)) (get_or xs i d ∷ [])
+
+pub passing_same : {X : Type 0} (p : X → Bool) (f : X → ℕ) (xs : List X) (i : ℕ) (d : X) → i < length xs → p (get_or xs i d) ≡ false → map f (filter p (take (i + 1) xs)) ≡ map f (filter p (take i xs))
+passing_same p f xs i d l fails =
+    ap (map f) (filter_more p xs i d l ∙ ap (λ b. filter p (take i xs) ++ cond b (get_or xs i d ∷ []) []) fails ∙ append-nil (filter p (take i xs)))
 
 pub unmarked_none : (n g : ℕ) → get_or (replicate n false) g false ≡ false
 unmarked_none zero g = refl
@@ -160,6 +187,3 @@ marked_within (b ∷ seen) (suc g) m = let r = marked_within seen g m in omega (
 pub no_elements : {X : Type 0} (xs : List X) → length xs ≡ 0 → xs ≡ []
 no_elements [] e = refl
 no_elements (x ∷ xs) e = absurd (omega (arith, e))
-
-pub last_in : {X : Type 0} (xs : List X) (x : X) → Contains (xs ++ x ∷ []) x
-last_in xs x = Contains-append_right xs (x ∷ []) x (contains_head x [])

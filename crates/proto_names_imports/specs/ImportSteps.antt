@@ -60,3 +60,8 @@ AreImporters lists imports =
 abbrev pub NoneLeadsBack : List (List ℕ) → List (List ℕ) → Type 0
 NoneLeadsBack next back =
     (file target : ℕ) → Contains (get_or next file []) target → Walks back file target → ⊥
+
+-- imports of the file lead back to it
+abbrev pub LeadsToItself : List Import → ℕ → Type 0
+LeadsToItself imports file =
+    (i : Import) × Contains imports i × (i.from ≡ file) × Leads imports i.to file

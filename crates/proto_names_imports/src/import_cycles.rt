@@ -7,11 +7,11 @@ ghost use Rattle.indexmap.specs.IndexMap.{get_by_text};
 ghost use Rattle.proto_names_rules.specs.Cycles.{IsAcyclic};
 ghost use Rattle.proto_names_rules.specs.Faults.{imports_of};
 ghost use Rattle.proto_names_imports.specs.Importing.{TokensAreRising, all_asked, all_imports, fault_of};
-ghost use Rattle.proto_names_imports.specs.ImportSteps.{AreTurned, AreImporters, IsFileIndex, IsFirst, CycleFault, MarkedFault, NoneLeadsBack};
+ghost use Rattle.proto_names_imports.specs.ImportSteps.{AreTurned, AreImporters, IsFileIndex, IsFirst, CycleFault, LeadsToItself, MarkedFault, NoneLeadsBack};
 
 use crate::first_places::place_of;
 use crate::import::{BadImport, FileImport, ImportFlaw, WrittenImport, all_targets};
-use crate::walk::reached_files;
+use crate::walk::{files_led_to, reached_files};
 use indexmap::IndexMap;
 use proto_base::NoMemory;
 use proto_file_sets::FileSet;
@@ -57,6 +57,27 @@ pub fn has_no_cycle(alloc: Global, imports: &[Vec<FileImport>]) -> Result<bool, 
         return Ok(true);
     }
     none_leads_back(alloc, &next, &importers)
+}
+
+/// Whether none of the files at these places leads by its imports back to itself. Takes time for the
+/// files to which these lead alone. Fails only when out of memory.
+pub fn none_leads_to_itself(
+    alloc: Global,
+    imports: &[Vec<FileImport>],
+    places: &[u32],
+) -> Result<bool, NoMemory>
+    requires within { All (λ v. All (λ i. i.to < length imports.now) v.items) imports.now }
+    requires places { All (λ place. place < length imports.now) places.now }
+    ensures { IfOk result (λ is_so. IsTrue is_so ↔ All (λ place.
+        LeadsToItself (all_imports 0 (map (λ v. v.items) imports.now)) place → ⊥) places.now) }
+{
+    for place in places {
+        let led_to = files_led_to(alloc, imports, &imports[*place as usize])?;
+        if led_to.contains(*place) {
+            return Ok(false);
+        }
+    }
+    Ok(true)
 }
 
 /// Whether no file of a list leads back to the file that has the list, by a walk back from each.

@@ -1,35 +1,22 @@
-use Rattle.std.proofs.Common.{◌≡◌, ℕ, List, [], ◌∷◌, ◌++◌, length, map, get_or, slice_set, sym, ◌∙◌, ap, ap₂, subst, arith, Contains, length-set}
-use Rattle.std.proofs.lemmas.List.{get_or-map, length-map, map-set}
-use Rattle.proto_names_imports.proofs.Common.{all_within}
-use Rattle.proto_names_imports.proofs.SeenFiles.{own_of, public_of}
-use Rattle.proto_edit_statements.proofs.SeenMore.{lists_of, marks_more, more_within, steps_more}
-use Rattle.proto_edit_statements.proofs.SeenThen.{if_both}
+use Rattle.std.proofs.Common.{◌≡◌, ◌<◌, [], ◌∷◌, ◌++◌, length, sym, ◌∙◌, ap, subst, All}
+use Rattle.proto_base.proofs.Common.{All-push, IfOk-weaker, get_or-map}
+use Rattle.proto_names_imports.specs.declared.import.FileImport.{FileImport}
+use Rattle.proto_edit_statements.proofs.SeenMore.{marks_more, new_import, own_more}
 use Rattle.proto_edit_statements.proofs.seeing.seen_with.Goals as goal
 
-pub reached_files-requires-clause-files : goal.reached_files-requires-clause-files
-reached_files-requires-clause-files c =
-    let items = c.args.imports.now in
-    let next = c.deref-2.result.now in
-    let own = c.deref.ensures.value ∙ ap (λ v. v.items) c.index-imports-file.is ∙ sym (get_or-map (λ v. v.items) items c.args.file c.index-imports-file.result [] c.requires.file) in
-    let pushed : c.push.new.self.items ≡ own_of (get_or (lists_of items) c.args.file []) ++ c.args.to ∷ [] = c.in_ok-push.ensures.items ∙ ap (λ z. z ++ c.args.to ∷ []) (c.in_ok-own.ensures ∙ ap own_of own) in
-    let steps : map (λ v. v.items) next ≡ steps_more items c.args.file c.args.to =
-    ap (map (λ v. v.items)) c.deref-2.ensures.value ∙ map-set (λ v. v.items) c.in_ok-next.next.items c.args.file c.push.new.self
-    ∙ ap₂ (λ (ps : List (List ℕ)) (xs : List ℕ). slice_set ps c.args.file xs) c.in_ok-next.ensures pushed in
-    let long : length next ≡ length items =
-    sym (length-map next (λ v. v.items)) ∙ ap (λ (z : List (List ℕ)). length z) steps
-    ∙ length-set (map (λ v. public_of v.items) items) c.args.file (own_of (get_or (lists_of items) c.args.file []) ++ c.args.to ∷ []) ∙ length-map items (λ v. public_of v.items) in
-    all_within (λ v. v.items) (length next) next (λ k b d.
-    (let w = more_within items c.requires.within c.args.file c.args.to c.requires.file c.requires.to k b (subst (λ (z : List (List ℕ)). Contains (get_or z k []) b) steps d) in
-    omega (arith, w, long)))
+pub seen_from-requires-clause-own : goal.seen_from-requires-clause-own
+seen_from-requires-clause-own c =
+    let Names : FileImport → Type 0 = λ i. i.to < length c.args.imports.now in
+    let own = c.deref.ensures.value ∙ ap (λ v. v.items) c.index-imports-file.is in
+    let here = subst (All Names) (sym own) (c.requires.within c.args.file c.index-imports-file.result c.requires.file) in
+    let pushed = c.deref-2.ensures.value ∙ c.in_ok-push.ensures.items ∙ ap (λ z. z ++ new_import c.args.to ∷ []) c.in_ok-own.ensures.items in
+    subst (All Names) (sym pushed) (All-push Names c.deref.result.now (new_import c.args.to) here c.requires.to)
 
 pub returns : goal.returns
 returns c =
     let items = c.args.imports.now in
-    let next = c.deref-2.result.now in
     let own = c.deref.ensures.value ∙ ap (λ v. v.items) c.index-imports-file.is ∙ sym (get_or-map (λ v. v.items) items c.args.file c.index-imports-file.result [] c.requires.file) in
-    let pushed : c.push.new.self.items ≡ own_of (get_or (lists_of items) c.args.file []) ++ c.args.to ∷ [] = c.in_ok-push.ensures.items ∙ ap (λ z. z ++ c.args.to ∷ []) (c.in_ok-own.ensures ∙ ap own_of own) in
-    let steps : map (λ v. v.items) next ≡ steps_more items c.args.file c.args.to =
-    ap (map (λ v. v.items)) c.deref-2.ensures.value ∙ map-set (λ v. v.items) c.in_ok-next.next.items c.args.file c.push.new.self
-    ∙ ap₂ (λ (ps : List (List ℕ)) (xs : List ℕ). slice_set ps c.args.file xs) c.in_ok-next.ensures pushed in
-    if_both c.reached_files.result c.reached_files.ensures.len c.reached_files.ensures.exact (λ seen len exact w files imports.
-    marks_more items c.requires.within c.args.file c.args.to c.requires.file c.requires.to (map (λ v. v.items) next) steps seen exact w files imports)
+    let pushed : c.deref-2.result.now ≡ own_more items c.args.file c.args.to =
+    c.deref-2.ensures.value ∙ c.in_ok-push.ensures.items ∙ ap (λ z. z ++ new_import c.args.to ∷ []) (c.in_ok-own.ensures.items ∙ own) in
+    IfOk-weaker c.seen_from.result _ _ (λ seen exact w files imports.
+    marks_more items c.requires.within c.args.file c.args.to c.requires.file c.requires.to c.deref-2.result.now pushed seen exact w files imports) c.seen_from.ensures.exact

@@ -1,5 +1,6 @@
-use Rattle.std.proofs.Common.{◌<◌, ℕ, List, length, map, sym, ◌∙◌, ap, subst, arith, All}
+use Rattle.std.proofs.Common.{◌<◌, ℕ, Bool, List, length, map, sym, ◌∙◌, ap, subst, arith, All}
 use Rattle.proto_base.proofs.Common.{Vec}
+use Rattle.proto_base.specs.declared.changes.Change.{Change}
 use Rattle.proto_names_affected.specs.ChangedFiles.{outer_rows_of}
 use Rattle.proto_names_affected.specs.Sight.{IsSightMarked}
 use Rattle.proto_names_affected.specs.declared.outer_rows.KindRow.{KindRow}
@@ -41,9 +42,6 @@ mark_others-requires-clause-rows c = omega (arith, c.requires.rows, c.in_ok-affe
 pub mark_others-requires-clause-meant : goal.mark_others-requires-clause-meant
 mark_others-requires-clause-meant c = omega (arith, ap length c.deref-5.ensures.value, c.in_ok-affected.ensures.len, ap length c.deref-3.ensures.value)
 
-pub mark_others-requires-clause-saw : goal.mark_others-requires-clause-saw
-mark_others-requires-clause-saw c = omega (arith, c.requires.saw, c.in_ok-affected.ensures.len, ap length c.deref-3.ensures.value, c.requires.meant)
-
 pub mark_others-requires-clause-seen : goal.mark_others-requires-clause-seen
 mark_others-requires-clause-seen c = omega (arith, c.requires.seen, c.in_ok-affected.ensures.len, ap length c.deref-3.ensures.value, c.requires.meant)
 
@@ -61,5 +59,5 @@ returns-clause-changes c =
     c.in_ok-affected.ensures.marked
 
 pub returns-clause-sight : goal.returns-clause-sight
-returns-clause-sight c =
-    subst (λ (vs : List (Vec Meant)). All (IsSightMarked c.mark_others.new.affected c.args.declarations.now.table (map (λ v. v.items) c.args.declarations.now.rows.items) (map (λ v. v.items) vs) c.args.edited.saw.now c.args.edited.seen.now) c.args.edited.others.now) c.deref-5.ensures.value c.in_ok-mark_others.ensures.marked
+returns-clause-sight c = λ saw was.
+    subst (λ (vs : List (Vec Meant)). All (λ (x : Change (List Bool)). IsSightMarked c.mark_others.new.affected c.args.declarations.now.table (map (λ v. v.items) c.args.declarations.now.rows.items) (map (λ v. v.items) vs) saw c.args.edited.seen.now x.place) c.args.edited.saw.now) c.deref-5.ensures.value (c.in_ok-mark_others.ensures.marked saw was)

@@ -1,33 +1,32 @@
-use Rattle.std.proofs.Common.{◌≡◌, ℕ, ◌<◌, Bool, List, [], All, get_or, length, take, sym, ◌∙◌, subst, arith, take_all}
+use Rattle.std.proofs.Common.{◌≡◌, ℕ, ◌<◌, Bool, true, false, List, [], All, get_or, length, take, sym, ◌∙◌, ap, subst, arith, take_all}
 use Rattle.std.proofs.lemmas.List.{get_or_default}
 use Rattle.std.proofs.lemmas.List.Elements.{All-more, All-weaker}
+use Rattle.proto_base.specs.declared.changes.Change.{Change}
+use Rattle.proto_file_sets.proofs.Members.{new_is_in}
 use Rattle.proto_names_affected.specs.Marking.{IsMarked}
 use Rattle.proto_names_affected.specs.Sight.{IsNewlySeen}
 use Rattle.proto_names_affected.proofs.sight.newly_seen.Goals as goal
 
-pub loop-file-preserved : goal.loop-file-preserved
-loop-file-preserved c =
+pub loop-change-preserved : goal.loop-change-preserved
+loop-change-preserved c =
     let rows = c.args.sighted.rows.now in
-    let before : List (List Bool) = c.args.sighted.before.now in
     let sees : List (List Bool) = c.args.sighted.sees.now in
-    let i = c.loop-file.file-index in
-    let file : ℕ = get_or c.args.files.now i 0 in
-    let was = c.loop-file.marks in
-    let now = c.mark_new.new.marks in
-    let asked = λ (marks : List Bool) (file : ℕ). ((g : ℕ) → g < length rows → IsNewlySeen (get_or before file []) (get_or sees file []) g → IsMarked marks g) in
-    let within : file < length rows = c.requires.files i 0 c.loop-file-test.true in
-    let one : get_or before file [] ≡ get_or before file c.index-sighted-place.result = sym (get_or_default before file c.index-sighted-place.result [] (omega (arith, within, c.requires.before))) in
-    let other : get_or sees file [] ≡ get_or sees file c.index-sighted-place-in-loop-file.result = sym (get_or_default sees file c.index-sighted-place-in-loop-file.result [] (omega (arith, within, c.requires.sees))) in
+    let i = c.loop-change.change-index in
+    let one : Change (List Bool) = c.change-item.result in
+    let was = c.loop-change.marks in
+    let now = c.add_new.new.self in
+    let asked = λ (marks : List Bool) (x : Change (List Bool)). ((g : ℕ) → g < length rows → IsNewlySeen x.was (get_or sees x.place []) g → IsMarked marks g) in
+    let within : one.place < length rows = subst (λ n. n < length rows) (sym (ap (λ (x : Change (List Bool)). x.place) c.change-item.is)) (c.requires.files i one c.loop-change-test.true) in
+    let seen : get_or sees one.place [] ≡ get_or sees one.place c.index-sighted-change.result = sym (get_or_default sees one.place c.index-sighted-change.result [] (omega (arith, within, c.requires.sees))) in
     record {
-      len = c.mark_new.ensures.stay.count ∙ c.loop-file.invariant.len;
-      marked = All-more (asked now) c.args.files.now i 0 c.loop-file-test.true
-          (All-weaker (asked was) (asked now) (λ f h g l new. c.mark_new.ensures.stay.set g (h g l new)) (take i c.args.files.now) c.loop-file.invariant.marked)
-          (λ g l new. c.mark_new.ensures.marked g (omega (arith, l, c.loop-file.invariant.len))
-          (subst (λ (ms : List Bool). IsNewlySeen ms (get_or sees file c.index-sighted-place-in-loop-file.result) g) one (subst (λ (ms : List Bool). IsNewlySeen (get_or before file []) ms g) other new)));
+      len = c.add_new.ensures.count ∙ c.loop-change.invariant.len;
+      marked = All-more (asked now) c.args.saw.now i one c.loop-change-test.true
+          (All-weaker (asked was) (asked now) (λ x h g l new. c.add_new.ensures.kept g (h g l new)) (take i c.args.saw.now) c.loop-change.invariant.marked)
+          (subst (asked now) c.change-item.is (λ g l new. c.add_new.ensures.files g (omega (arith, l, c.loop-change.invariant.len))
+          ∙ new_is_in was (get_or sees one.place c.index-sighted-change.result) one.was g (subst (λ (ms : List Bool). get_or ms g false ≡ true) seen new.1) new.0));
     }
 
 pub returns : goal.returns
 returns c =
-    let before : List (List Bool) = c.args.sighted.before.now in
     let sees : List (List Bool) = c.args.sighted.sees.now in
-    subst (All (λ file. (g : ℕ) → g < length c.args.sighted.rows.now → IsNewlySeen (get_or before file []) (get_or sees file []) g → IsMarked c.loop-file.marks g)) (take_all c.loop-file.file-index c.args.files.now c.loop-file-test.false) c.loop-file.invariant.marked
+    subst (All (λ (x : Change (List Bool)). (g : ℕ) → g < length c.args.sighted.rows.now → IsNewlySeen x.was (get_or sees x.place []) g → IsMarked c.loop-change.marks g)) (take_all c.loop-change.change-index c.args.saw.now c.loop-change-test.false) c.loop-change.invariant.marked

@@ -1,11 +1,9 @@
-use Rattle.std.proofs.Common.{◌≡◌, ◌↔◌, ℕ, ◌<◌, [], length, get_or, map, filter}
-use Rattle.proto_names_imports.specs.Walks.{IsMarked, Walks}
-use Rattle.proto_names_imports.proofs.SeenFiles.{steps_from}
+use Rattle.std.proofs.Common.{◌≡◌, ℕ, ◌<◌, [], length, get_or, map}
+use Rattle.proto_names_imports.proofs.SeenFiles.{MarksSight}
 use Rattle.proto_names_imports.proofs.sight.all_seen.Given as goal
 
 abbrev pub invariant-loop-file : goal.invariant-loop-file
 invariant-loop-file l = record {
-  public : map (λ v. v.items) l.public.items ≡ map (λ v. map (λ i. i.to) (filter (λ i. i.is_public) v.items)) l.imports;
   len : length l.seen.items ≡ l.file;
-  exact : (k g : ℕ) → k < l.file → IsMarked (get_or l.seen.items k []) g ↔ Walks (steps_from (map (λ v. v.items) l.imports) k) k g;
+  exact : (k : ℕ) → k < l.file → MarksSight (length l.imports) (map (λ v. v.items) l.imports) k (get_or l.seen.items k []);
 }

@@ -6,8 +6,8 @@ use Rattle.proto_names_imports.specs.Laws.{KeepImports}
 use Rattle.proto_names_imports.specs.declared.import.FileImport.{FileImport}
 use Rattle.proto_names_update.specs.KeptImports.{WereImports}
 use Rattle.proto_names_imports.proofs.Common.{all_imports}
-use Rattle.proto_names_rules.proofs.Common.{IsAcyclic}
-use Rattle.proto_names.proofs.RenewedImports.{imports_are, imports_count, imports_stay, marks_stay, now_count, now_within, sight_count, sight_is, sight_stays}
+use Rattle.proto_names_imports.specs.ImportSteps.{LeadsToItself}
+use Rattle.proto_names.proofs.RenewedImports.{imports_are, imports_count, imports_stay, marks_stay, now_acyclic, now_count, now_within, sight_count, sight_is, sight_stays}
 use Rattle.proto_names.specs.Sight.{KeepsSight}
 use Rattle.proto_names.proofs.parts.ImportGraph.update.Goals as goal
 
@@ -31,21 +31,27 @@ returns-then-branch-clause-sight c = λ reads are.
 pub change_all_at-requires-clause-places : goal.change_all_at-requires-clause-places
 change_all_at-requires-clause-places c = λ k d l. omega (arith, c.requires.places k d l, imports_count c.args.files.now c.args.places.now c.args.self.now.imports.items c.args.self.now.seen.items c.requires.was)
 
-pub has_no_cycle-requires : goal.has_no_cycle-requires
-has_no_cycle-requires c =
+pub none_leads_to_itself-requires-clause-within : goal.none_leads_to_itself-requires-clause-within
+none_leads_to_itself-requires-clause-within c =
     let files = c.args.files.now in
     let size = c.in_ok-now.ensures.len in
     let below = c.in_ok-now.ensures.within in
     let put = c.in_ok-change_all_at.ensures.items in
-    let n : length files ≡ length c.deref-5.result.now = sym (ap length c.deref-5.ensures.value ∙ now_count files c.args.places.now c.args.self.now.imports.items c.args.self.now.seen.items c.requires.was c.in_ok-now.now.items size below c.change_all_at.new.items.items put) in
-    record {
-      count = omega (arith, n, c.len-count.ensures.workspace.few);
-      within = subst (λ (k : ℕ). All (λ (v : Vec FileImport). All (λ i. i.to < k) v.items) c.deref-5.result.now) n
-          (subst (All (λ (v : Vec FileImport). All (λ i. i.to < length files) v.items)) (sym c.deref-5.ensures.value) (now_within files c.args.places.now c.args.self.now.imports.items c.args.self.now.seen.items c.requires.was c.in_ok-now.now.items size below c.change_all_at.new.items.items put));
-    }
+    let n : length c.deref-5.result.now ≡ length files = ap length c.deref-5.ensures.value ∙ now_count files c.args.places.now c.args.self.now.imports.items c.args.self.now.seen.items c.requires.was c.in_ok-now.now.items size below c.change_all_at.new.items.items put in
+    subst (λ (k : ℕ). All (λ (v : Vec FileImport). All (λ i. i.to < k) v.items) c.deref-5.result.now) (sym n)
+    (subst (All (λ (v : Vec FileImport). All (λ i. i.to < length files) v.items)) (sym c.deref-5.ensures.value) (now_within files c.args.places.now c.args.self.now.imports.items c.args.self.now.seen.items c.requires.was c.in_ok-now.now.items size below c.change_all_at.new.items.items put))
 
-pub update_seen-requires-clause-few : goal.update_seen-requires-clause-few
-update_seen-requires-clause-few c =
+pub none_leads_to_itself-requires-clause-places : goal.none_leads_to_itself-requires-clause-places
+none_leads_to_itself-requires-clause-places c =
+    let files = c.args.files.now in
+    let size = c.in_ok-now.ensures.len in
+    let below = c.in_ok-now.ensures.within in
+    let put = c.in_ok-change_all_at.ensures.items in
+    let n : length c.deref-5.result.now ≡ length files = ap length c.deref-5.ensures.value ∙ now_count files c.args.places.now c.args.self.now.imports.items c.args.self.now.seen.items c.requires.was c.in_ok-now.now.items size below c.change_all_at.new.items.items put in
+    λ k d l. omega (arith, c.requires.places k d l, n)
+
+pub see_again-requires-clause-count : goal.see_again-requires-clause-count
+see_again-requires-clause-count c =
     let files = c.args.files.now in
     let size = c.in_ok-now.ensures.len in
     let below = c.in_ok-now.ensures.within in
@@ -53,8 +59,8 @@ update_seen-requires-clause-few c =
     let n : length c.deref-6.result.now ≡ length files = ap length c.deref-6.ensures.value ∙ now_count files c.args.places.now c.args.self.now.imports.items c.args.self.now.seen.items c.requires.was c.in_ok-now.now.items size below c.change_all_at.new.items.items put in
     omega (arith, n, c.len-count.ensures.workspace.few)
 
-pub update_seen-requires-clause-within : goal.update_seen-requires-clause-within
-update_seen-requires-clause-within c =
+pub see_again-requires-clause-within : goal.see_again-requires-clause-within
+see_again-requires-clause-within c =
     let files = c.args.files.now in
     let size = c.in_ok-now.ensures.len in
     let below = c.in_ok-now.ensures.within in
@@ -63,8 +69,8 @@ update_seen-requires-clause-within c =
     subst (λ (k : ℕ). All (λ (v : Vec FileImport). All (λ i. i.to < k) v.items) c.deref-6.result.now) (sym n)
     (subst (All (λ (v : Vec FileImport). All (λ i. i.to < length files) v.items)) (sym c.deref-6.ensures.value) (now_within files c.args.places.now c.args.self.now.imports.items c.args.self.now.seen.items c.requires.was c.in_ok-now.now.items size below c.change_all_at.new.items.items put))
 
-pub update_seen-requires-clause-paired : goal.update_seen-requires-clause-paired
-update_seen-requires-clause-paired c =
+pub see_again-requires-clause-paired : goal.see_again-requires-clause-paired
+see_again-requires-clause-paired c =
     let files = c.args.files.now in
     let size = c.in_ok-now.ensures.len in
     let below = c.in_ok-now.ensures.within in
@@ -72,8 +78,17 @@ update_seen-requires-clause-paired c =
     let n : length c.deref-6.result.now ≡ length files = ap length c.deref-6.ensures.value ∙ now_count files c.args.places.now c.args.self.now.imports.items c.args.self.now.seen.items c.requires.was c.in_ok-now.now.items size below c.change_all_at.new.items.items put in
     sight_count files c.args.places.now c.args.self.now.imports.items c.args.self.now.seen.items c.requires.was ∙ sym n
 
-pub update_seen-requires-clause-known : goal.update_seen-requires-clause-known
-update_seen-requires-clause-known c = λ w n same file l unmarked.
+pub see_again-requires-clause-sized : goal.see_again-requires-clause-sized
+see_again-requires-clause-sized c =
+    let files = c.args.files.now in
+    let size = c.in_ok-now.ensures.len in
+    let below = c.in_ok-now.ensures.within in
+    let put = c.in_ok-change_all_at.ensures.items in
+    let n : length c.deref-6.result.now ≡ length files = ap length c.deref-6.ensures.value ∙ now_count files c.args.places.now c.args.self.now.imports.items c.args.self.now.seen.items c.requires.was c.in_ok-now.now.items size below c.change_all_at.new.items.items put in
+    c.in_ok-stale.ensures.len ∙ ap length c.deref-2.ensures.value ∙ imports_count files c.args.places.now c.args.self.now.imports.items c.args.self.now.seen.items c.requires.was ∙ sym n
+
+pub see_again-requires-clause-known : goal.see_again-requires-clause-known
+see_again-requires-clause-known c = λ w n same file l unmarked.
     let files = c.args.files.now in
     let places = c.args.places.now in
     let was = c.args.self.now in
@@ -107,13 +122,12 @@ returns-clause-sight c = λ reads are.
     let below = c.in_ok-now.ensures.within in
     let put = c.in_ok-change_all_at.ensures.items in
     let own = c.in_ok-now.ensures.imports in
-    let acyclic = subst (λ (vs : List (Vec FileImport)). IsAcyclic (all_imports 0 (map (λ v. v.items) vs))) c.deref-5.ensures.value (c.in_ok-has_no_cycle.ensures.0 c.if-not-branch.false) in
-    sight_is files c.args.places.now c.args.self.now.imports.items c.args.self.now.seen.items c.requires.was c.in_ok-now.now.items size below c.change_all_at.new.items.items put c.listed_imports_are_known.ensures.these c.listed_imports_are_known.ensures.sound own reads are acyclic c.deref-6.result.now c.update_seen.new.seen.items c.deref-6.ensures.value c.in_ok-others.ensures.len c.in_ok-others.ensures.exact)
+    let apart = subst (λ (vs : List (Vec FileImport)). All (λ place. LeadsToItself (all_imports 0 (map (λ v. v.items) vs)) place → ⊥) c.args.places.now) c.deref-5.ensures.value (c.in_ok-none_leads_to_itself.ensures.0 c.if-not-branch.false) in
+    let acyclic = now_acyclic files c.args.places.now c.args.self.now.imports.items c.args.self.now.seen.items c.requires.was c.in_ok-now.now.items size below c.change_all_at.new.items.items put c.requires.places apart in
+    sight_is files c.args.places.now c.args.self.now.imports.items c.args.self.now.seen.items c.requires.was c.in_ok-now.now.items size below c.change_all_at.new.items.items put c.listed_imports_are_known.ensures.these c.listed_imports_are_known.ensures.sound own reads are acyclic c.deref-6.result.now c.see_again.new.seen.items c.deref-6.ensures.value c.see_again.ensures.len c.in_ok-see_again.ensures.exact)
 
-pub returns-clause-others : goal.returns-clause-others
-returns-clause-others c =
-    let files = c.args.files.now in
-    let size = c.in_ok-now.ensures.len in
-    let below = c.in_ok-now.ensures.within in
-    let put = c.in_ok-change_all_at.ensures.items in
-    λ k d l. omega (arith, c.in_ok-others.ensures.others k d l, ap length c.deref-6.ensures.value, now_count files c.args.places.now c.args.self.now.imports.items c.args.self.now.seen.items c.requires.was c.in_ok-now.now.items size below c.change_all_at.new.items.items put)
+pub returns-clause-seen_within : goal.returns-clause-seen_within
+returns-clause-seen_within c = λ k d l. omega (arith, c.see_again.ensures.within k d l, c.see_again.ensures.len)
+
+pub returns-in_err-see_again-clause-seen_within : goal.returns-in_err-see_again-clause-seen_within
+returns-in_err-see_again-clause-seen_within c = λ k d l. omega (arith, c.see_again.ensures.within k d l, c.see_again.ensures.len)
