@@ -2,7 +2,8 @@
 
 ghost use Rattle.std.specs.Prelude.{◌≡◌, ◌∷◌, ◌++◌, find, flat_map, map, option_map, IfOk, OnOk};
 ghost use Rattle.std.specs.String.{string_bytes};
-ghost use Rattle.proto_ast.specs.Options.{c_types, is_allowed, is_named, idempotency_levels, is_of_kind, is_word_of, js_types, optimize_modes, text_of_constant, text_option, truth_named, truth_of, truth_option, word_of, word_option};
+ghost use Rattle.proto_ast.specs.Options.{c_types, is_allowed, is_named, idempotency_levels, is_of_kind, is_word_of, js_types, optimize_modes, text_of_constant, text_option, truth_named, truth_of, truth_option, value_named, word_of, word_option};
+ghost use Rattle.proto_ast.specs.Parts.{separated, setting_options, settings_of};
 ghost use Rattle.proto_ast.specs.Scenes.{text, value};
 ghost use Rattle.proto_ast.specs.Views.{option_of};
 
@@ -10,7 +11,7 @@ use crate::fields::OptionAt;
 use crate::options::{Element, ValueKind, value_kind};
 use crate::scene::Scene;
 use proto_base::NoMemory;
-use proto_tree::{Constant, Joined};
+use proto_tree::{Constant, Joined, OnHeap, Separated, Setting, Settings};
 use std::alloc::Global;
 
 /// The word that a value is; none for a number or a text.
@@ -175,4 +176,43 @@ pub fn text_option(
         Some(option) => text_value(alloc, scene, option.value),
         None => Ok(None),
     }
+}
+
+// ---- between brackets
+
+fn value_set<'a>(scene: &Scene, setting: &'a Setting, name: &str) -> Option<&'a Constant>
+    ensures { option_map (λ v. v.now) result
+        ≡ value_named (text scene.now) name.now (setting_options setting.now) }
+{
+    match setting {
+        Setting::Plain(plain) if scene.text(plain.name) == name => Some(&plain.value),
+        _ => None,
+    }
+}
+
+fn value_listed<'a>(scene: &Scene, list: &'a Separated<Setting>, name: &str) -> Option<&'a Constant>
+    ensures { option_map (λ v. v.now) result ≡ value_named
+        (text scene.now) name.now (flat_map setting_options (separated list.now)) }
+{
+    if let Some(value) = value_set(scene, &list.first, name) {
+        return Some(value);
+    }
+    for behind in list.rest.as_slice() {
+        if let Some(value) = value_set(scene, &behind.item, name) {
+            return Some(value);
+        }
+    }
+    None
+}
+
+/// The value of the first option of the name between brackets; none where there is none.
+pub(crate) fn value_between<'a>(
+    scene: &Scene,
+    settings: Option<&'a OnHeap<Settings>>,
+    name: &str,
+) -> Option<&'a Constant>
+    ensures { option_map (λ v. v.now) result ≡ value_named
+        (text scene.now) name.now (settings_of (option_map (λ s. s.now) settings.entry)) }
+{
+    value_listed(scene, &settings?.get().list, name)
 }

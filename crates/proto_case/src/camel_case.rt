@@ -1,24 +1,27 @@
 //! Camel case: words that `_` joins, each behind one begun in upper case.
 
 ghost use Rattle.std.specs.Prelude.{◌≡◌, ◌≤◌, ◌++◌, length, IfOk, false, true};
+ghost use Rattle.std.specs.Str.{IsUtf8};
 ghost use Rattle.std.specs.String.{string_bytes};
 ghost use Rattle.proto_case.specs.Camel.{camel_from};
 
 use proto_base::NoMemory;
 use std::alloc::Global;
 
-// Writes the first byte in upper case where it is no `_`, and answers what stands behind it.
-fn push_raised<'a>(name: &mut Vec<u8>, bytes: &'a [u8]) -> Result<&'a [u8], NoMemory>
-    ensures word { IfOk result (λ rest. name.new.items ++ camel_from false rest.now
-        ≡ name.old.items ++ camel_from true bytes.now) }
-    ensures shorter { IfOk result (λ rest. length rest.now ≤ length bytes.now) }
+// Writes the first character in upper case where it is no `_`, and answers what stands behind it.
+fn push_raised<'a>(name: &mut String, word: &'a str) -> Result<&'a str, NoMemory>
+    ensures word { IfOk result (λ rest. string_bytes name.new ++ camel_from false rest.now
+        ≡ string_bytes name.old ++ camel_from true word.now) }
+    ensures shorter { IfOk result (λ rest. length rest.now ≤ length word.now) }
+    ensures utf8 { IfOk result (λ rest. IsUtf8 rest.now) }
 {
-    match bytes {
-        [first, rest @ ..] if *first != b'_' => {
+    let mut chars = word.chars();
+    match chars.next() {
+        Some(first) if first != '_' => {
             name.push(first.to_ascii_uppercase())?;
-            Ok(rest)
+            Ok(chars.as_str())
         }
-        _ => Ok(bytes),
+        _ => Ok(word),
     }
 }
 
@@ -27,21 +30,16 @@ fn push_raised<'a>(name: &mut Vec<u8>, bytes: &'a [u8]) -> Result<&'a [u8], NoMe
 pub fn camel_from(alloc: Global, is_up: bool, word: &str) -> Result<String, NoMemory>
     ensures { IfOk result (λ name. string_bytes name ≡ camel_from is_up word.now) }
 {
-    let bytes = word.as_bytes();
-    let mut name = Vec::with_capacity(alloc, bytes.len())?;
+    let mut name = String::with_capacity(alloc, word.len())?;
     let mut rest = if is_up {
-        push_raised(&mut name, bytes)?
+        push_raised(&mut name, word)?
     } else {
-        bytes
+        word
     };
-    while let [byte, after @ ..] = rest {
-        rest = if *byte == b'_' {
-            push_raised(&mut name, after)?
-        } else {
-            name.push(*byte)?;
-            after
-        };
+    while let Some((before, behind)) = rest.split_once('_') {
+        name.push_str(before)?;
+        rest = push_raised(&mut name, behind)?;
     }
-    // Bytes of ASCII alone were left out or raised: these are characters still.
-    Ok(String::from_utf8(name).unwrap())
+    name.push_str(rest)?;
+    Ok(name)
 }

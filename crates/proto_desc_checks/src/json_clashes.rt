@@ -15,7 +15,7 @@ use proto_base::{FaultKind, NoMemory};
 use proto_desc_numbers::{Flaw, add_marked, repeats};
 use std::alloc::Global;
 
-/// A number of each field's JSON name; none where something stands between brackets behind one.
+/// A number of each field's JSON name; none where a field has an option `json_name`.
 fn json_digests(
     alloc: Global,
     scene: &Scene,
