@@ -3,7 +3,7 @@ use Rattle.std.proofs.Common.{◌≡◌, ℕ, List, [], get_or, length, refl, sy
 use Rattle.proto_base.proofs.Common.{All-contains}
 use Rattle.proto_names_rules.specs.Cycles.{IsAcyclic}
 use Rattle.proto_names_rules.proofs.Common.{Import, Leads, onward, stop}
-use Rattle.proto_names_imports.specs.Common.{all_imports, import_from, FileImport, LeadsToItself}
+use Rattle.proto_names_imports.specs.Common.{all_imports, FileImport, LeadsToItself}
 use Rattle.proto_names_imports.proofs.ImportGraph.{import_in, import_of_file, lead_join}
 
 -- an import of a file that has the imports that it had is one of those before

@@ -108,13 +108,6 @@ set_within xs f own n l others mine k b c = elim (cases_eq k f) [
   | inr ne ↦ others k b (subst (λ z. Contains z b) (get_or-set_other xs f k own [] ne) c)
 ]
 
-pub own_within : (is : List FileImport) (n : ℕ) → All (λ i. i.to < n) is → (b : ℕ) → Contains (own_of is) b → b < n
-own_within is n h b c =
-    let r = from_map (λ i. i.to) is b c in
-    let s = h r.1.0 r.0 r.1.1 in
-    let t : (get_or is r.1.0 r.0).to ≡ b = ap (λ i. i.to) r.1.2 ∙ r.2 in
-    omega (arith, s, t)
-
 -- public imports name no more than all do
 pub public_within : {X : Type 0} (f : X → List FileImport) (n : ℕ) (xs : List X) → All (λ v. All (λ i. i.to < n) (f v)) xs → (k b : ℕ) → Contains (get_or (map (λ v. public_of (f v)) xs) k []) b → b < n
 public_within f n [] h k b c = absurd (omega (arith, c.1))

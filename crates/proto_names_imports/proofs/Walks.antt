@@ -21,6 +21,7 @@ visits_none seen todo = record {
   waits = λ g m. inl m;
   stay = λ g c. c;
   from = λ g c. inl c;
+  fresh = λ g c. inl c;
   work = omega arith;
 }
 
@@ -37,6 +38,7 @@ visits_old done x seen todo seen' todo' v h = record {
   waits = v.waits;
   stay = v.stay;
   from = v.from;
+  fresh = v.fresh;
   work = v.work;
 }
 
@@ -70,9 +72,17 @@ visits_new done x seen todo seen' todo' v l h = record {
     | inl a ↦ elim (v.from g a) [ inl q ↦ inl q | inr q ↦ inr (more g q) ]
     | inr b ↦ elim (contains_cases x g [] b) [ inl e ↦ inr (subst (IsMarked (slice_set seen' x true)) e here) | inr n ↦ absurd (omega (arith, n.1)) ]
   ];
+  fresh = λ g c. elim (Contains-append_cases todo' (x ∷ []) g c) [
+    | inl a ↦ v.fresh g a
+    | inr b ↦ inr (subst (λ z. get_or seen z false ≡ false) (one_of x g b) was)
+  ];
   work = omega (arith, v.work, mark_less seen' x l h, length-append todo' (x ∷ []));
 }
   where
+    -- what is not marked now was not before
+    was : get_or seen x false ≡ false
+    was = elim (cases_Bool (get_or seen x false)) [ inl m ↦ absurd (both_ways (get_or seen' x false) h (v.kept x m)) | inr m ↦ m ]
+
     here : IsMarked (slice_set seen' x true) x
     here = get_or-set_same seen' x true false l
 

@@ -26,4 +26,5 @@ pub record Visits (next : List ℕ) (seen : List Bool) (todo : List ℕ) (seen' 
   pub waits : (g : ℕ) → IsMarked seen' g → IsMarked seen g ⊎ Contains todo' g
   pub stay : (g : ℕ) → Contains todo g → Contains todo' g
   pub from : (g : ℕ) → Contains todo' g → Contains todo g ⊎ IsMarked seen' g
+  pub fresh : (g : ℕ) → Contains todo' g → Contains todo g ⊎ (get_or seen g false ≡ false)
   pub work : 2 * unseen seen' + length todo' ≤ 2 * unseen seen + length todo

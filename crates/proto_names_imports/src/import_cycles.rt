@@ -59,8 +59,8 @@ pub fn has_no_cycle(alloc: Global, imports: &[Vec<FileImport>]) -> Result<bool, 
     none_leads_back(alloc, &next, &importers)
 }
 
-/// Whether none of the files at these places leads by its imports back to itself. Takes time for the
-/// files to which these lead alone. Fails only when out of memory.
+/// Whether none of the files at these places leads by its imports back to itself. Takes time for
+/// the files to which these lead alone. Fails only when out of memory.
 pub fn none_leads_to_itself(
     alloc: Global,
     imports: &[Vec<FileImport>],

@@ -33,8 +33,8 @@ pub fn all_seen(alloc: Global, imports: &[Vec<FileImport>]) -> Result<Vec<FileSe
 }
 
 /// Puts what the files of the set see by these imports in place of what they saw, where it is not
-/// the same; the log has then what these saw, each once. What another file sees must be there. Fails
-/// only when out of memory; then some may see what they see now, and the log tells which.
+/// the same; the log has then what these saw, each once. What another file sees must be there.
+/// Fails only when out of memory; then some may see what they see now, and the log tells which.
 pub fn see_again(
     alloc: Global,
     imports: &[Vec<FileImport>],
@@ -134,13 +134,10 @@ pub fn seen_from(
 {
     let mut seen = FileSet::new(alloc, imports.len())?;
     seen.insert(file);
-    let mut todo = vec![in alloc; file]?;
+    let mut todo = Vec::new(alloc);
+    visit_imported(own, &mut seen, &mut todo)?;
     while let Some(next) = todo.pop() {
-        if next == file {
-            visit_imported(own, &mut seen, &mut todo)?;
-        } else {
-            visit_public(&imports[next as usize], &mut seen, &mut todo)?;
-        }
+        visit_public(&imports[next as usize], &mut seen, &mut todo)?;
     }
     Ok(seen)
 }

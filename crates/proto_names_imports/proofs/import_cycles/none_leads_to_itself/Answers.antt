@@ -1,4 +1,4 @@
-use Rattle.std.proofs.Common.{◌≡◌, ℕ, ◌<◌, false, get_or, length, refl, sym, ◌∙◌, ap, subst, inl, inr, arith, map, true≢false}
+use Rattle.std.proofs.Common.{◌≡◌, ◌<◌, false, get_or, length, refl, sym, ◌∙◌, ap, subst, inl, inr, arith, map, true≢false}
 use Rattle.proto_base.proofs.Common.{both_ways, cases_eq, get_or_default}
 use Rattle.proto_names_imports.specs.Common.{all_imports, LeadsToItself}
 use Rattle.proto_names_imports.proofs.LedTo.{tells_itself}

@@ -1,5 +1,5 @@
-use Rattle.std.proofs.Common.{◌≡◌, List, ℕ, length, map, ◌∙◌, subst, arith, take_all}
-use Rattle.proto_names_imports.proofs.SeenAgain.{IsLogged, SeeAgain, again_none, again_on, again_whole, item_within, logged_none, logged_on}
+use Rattle.std.proofs.Common.{length, map, ◌∙◌, subst, arith, take_all}
+use Rattle.proto_names_imports.proofs.SeenAgain.{SeeAgain, again_none, again_on, again_whole, item_within, logged_none, logged_on}
 use Rattle.proto_names_imports.proofs.SeenFiles.{MarksSight}
 use Rattle.proto_names_imports.proofs.sight.see_again.Goals as goal
 

@@ -1,4 +1,4 @@
-use Rattle.std.proofs.Common.{◌<◌, false, length, get_or, map, take, take_all, sym, ap, subst, arith}
+use Rattle.std.proofs.Common.{◌<◌, false, length, get_or, map, take, sym, subst, arith}
 use Rattle.std.proofs.lemmas.List.{map_more}
 use Rattle.proto_names_imports.specs.Common.{FileImport}
 use Rattle.proto_names_imports.specs.Walks.{Visits}

@@ -1,4 +1,4 @@
-use Rattle.std.proofs.Common.{◌<◌, ◌∷◌, ◌++◌, [], ℕ, List, false, filter, length, get_or, map, take, take_all, sym, ap, subst, arith}
+use Rattle.std.proofs.Common.{◌<◌, ◌∷◌, ◌++◌, [], ℕ, List, false, filter, length, get_or, map, take, sym, subst, arith}
 use Rattle.proto_base.proofs.Common.{Vec}
 use Rattle.proto_names_imports.specs.Common.{FileImport}
 use Rattle.proto_names_imports.specs.Walks.{Visits}
