@@ -1,6 +1,6 @@
 -- A file that need not be asked has no reference that a rename captures.
 use Rattle.std.proofs.Common.{◌≡◌, ℕ, ◌<◌, Bool, true, false, ◌&&◌, ◌||◌, ◌==◌, List, [], ◌∷◌, ◌++◌, length, get_or, map, take, Some, None, refl, sym, ap, subst, ◌∙◌, arith, Contains, eq-eqb}
-use Rattle.proto_base.proofs.Common.{and_from, any_from, both_ways, contains_map, from_map, or_left, or_right}
+use Rattle.proto_base.proofs.Common.{and_from, any_from, both_ways, contains_map, false_from_ne_true, from_map, or_left, or_right}
 use Rattle.proto_case.proofs.Common.{entry_name}
 use Rattle.proto_files.proofs.Common.{ReadOf, FileOf}
 use Rattle.proto_names_imports.proofs.Common.{link_skeleton, names_of_files, text_of, uses_of, used_named}
@@ -87,3 +87,7 @@ module _ (files : List FileOf) (reads : List ReadOf) (t : Target) (to : List ℕ
       let asked = asked_for sight q refl m.0 m.1 m.2 begun in
       let names = texts_are files reads t to r n texts in
       both_ways (has_to_be_asked (first_keys_of n) l file n.target) none (ap (λ (z : NewTexts). has_to_be_asked (first_keys_of z) l file z.target) names ∙ asked)
+
+  -- nor has a file that is not listed, where all are that have to be asked
+  pub none_outside : CapturesBeginSo → VisibleIsShown → (n : NewTexts) → AreNewNames files reads t to n → (listed : List ℕ) → ((name : List ℕ) → has_to_be_asked (first_keys_of n) l file name ≡ true → Contains listed file) → (Contains listed file → ⊥) → IsFirstIn files reads t to file None
+  none_outside law sight n texts listed whole out = none_to_ask law sight n texts (false_from_ne_true (has_to_be_asked (first_keys_of n) l file n.target) (λ h. out (whole n.target h)))

@@ -1,6 +1,7 @@
 mod Aimed
 pub mod Aims
 mod AllFiles
+mod AskedFiles
 pub mod ByTexts
 mod CapturedWords
 pub mod Common

@@ -116,13 +116,16 @@ pub fn first_captured<'a>(
         → (t : Target) → IsFoundTarget linked.now.files reads target.now t
         → IsFirstCaptured linked.now.files reads t to.now first) }
 {
+    captures_begin_so();
+    visible_is_seen();
     let files = linked.files();
     let own = Words::new(files, target.file);
     let names = NewNames::new(alloc, &own, target, to)?;
     let keys = FirstKeys::new(&names);
-    for file in 0..linked.file_count() as u32 {
-        if let Some(token) = first_in_asked(alloc, linked, &names, keys, file)? {
-            return Ok(Some(RefId { file, token }));
+    let asked = keys.files(alloc, linked.link(), linked.file_count())?;
+    for file in &asked {
+        if let Some(token) = first_in_asked(alloc, linked, &names, keys, *file)? {
+            return Ok(Some(RefId { file: *file, token }));
         }
     }
     Ok(None)

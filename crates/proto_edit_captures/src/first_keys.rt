@@ -1,11 +1,16 @@
 //! Which files have to be asked for captured references, by the words that references begin with.
 
-ghost use Rattle.std.specs.Prelude.{◌≡◌};
+ghost use Rattle.std.specs.Prelude.{◌≡◌, ℕ, ◌<◌, ◌≤◌, ◌^◌, true, IfOk};
+ghost use Rattle.std.specs.List.{All, AllPairs, Contains};
+ghost use Rattle.proto_base.specs.Texts.{Text};
 ghost use Rattle.proto_edit_captures.specs.FirstKeys.{entry_or_new, first_keys_of, has_to_be_asked};
 ghost use Rattle.proto_edit_captures.specs.NewTexts.{entry_texts, texts_of};
 
 use crate::names::{EntryNames, NewNames};
+use proto_base::NoMemory;
+use proto_file_sets::FileSet;
 use proto_names::{Link, word_key};
+use std::alloc::Global;
 
 /// The keys of the words that a captured reference may begin with.
 #[derive(Clone, Copy)]
@@ -36,6 +41,28 @@ impl FirstKeys {
             old: word_key(names.old),
             entry: word_key(entry),
         }
+    }
+
+    /// The files in which a reference may begin with a word of one of these keys, in order: all that
+    /// have to be asked, of so many. Fails only when out of memory.
+    pub(crate) fn files(
+        self,
+        alloc: Global,
+        link: &Link,
+        file_count: usize,
+    ) -> Result<Vec<u32>, NoMemory>
+        requires few { file_count ≤ 2 ^ 32 }
+        ensures within { IfOk result (λ listed. All (λ file. file < file_count) listed.items) }
+        ensures rising { IfOk result (λ listed. AllPairs (λ f g. f < g) listed.items) }
+        ensures whole { IfOk result (λ listed. (file : ℕ) (target : Text) → file < file_count
+            → has_to_be_asked self link.now file target ≡ true → Contains listed.items file) }
+    {
+        let mut asked = FileSet::new(alloc, file_count)?;
+        let none = FileSet::new(alloc, 0)?;
+        asked.add_new(link.files_beginning_with(self.new), &none);
+        asked.add_new(link.files_beginning_with(self.old), &none);
+        asked.add_new(link.files_beginning_with(self.entry), &none);
+        asked.files(alloc)
     }
 
     /// Whether the file has to be asked: a reference of it begins with a new word, or with the old

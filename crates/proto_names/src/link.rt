@@ -1,18 +1,20 @@
 //! The names of linked files, which files see them, and the references that mean them.
 
-ghost use Rattle.std.specs.Prelude.{◌≡◌, ◌≢◌, ◌↔◌, ℕ, ◌<◌, ◌==◌, true, List, [], length, map, get_or, slice_get, option_map, option_and_then, Some, None, IfOk, IfSome, IfNone, if◌then◌else◌};
+ghost use Rattle.std.specs.Prelude.{◌≡◌, ◌≢◌, ◌↔◌, ℕ, ◌<◌, ◌≤◌, ◌^◌, ◌==◌, true, List, [], length, map, get_or, slice_get, option_map, option_and_then, Some, None, IfOk, IfSome, IfNone, if◌then◌else◌};
 ghost use Rattle.std.specs.List.{All, AllPairs, list_any};
 ghost use Rattle.proto_files.specs.GivenFiles.{FileOf, file_at as file_at_place};
 ghost use Rattle.proto_text.specs.Texts.{words};
 ghost use Rattle.proto_text.specs.Tokens.{AreTokens};
 ghost use Rattle.proto_text.specs.declared.lexer.Token.{Token};
 ghost use Rattle.proto_tree.specs.References.{dotted};
+ghost use Rattle.proto_names_affected.specs.FirstWords.{AreFirstsOf};
 ghost use Rattle.proto_names_rules.specs.Joined.{joined, ArePlain};
 ghost use Rattle.proto_names_update.specs.NamesOfFiles.{declared_names};
 ghost use Rattle.proto_names.specs.LinkOfFiles.{IsLinkOf};
 ghost use Rattle.proto_names.specs.LinkOfParts.{link_of};
 ghost use Rattle.proto_names_rules.specs.Linked.{is_package};
 ghost use Rattle.proto_names.specs.Linking.{NameOf, declared_row, name_of_row, name_at, name_text, declaring_file, declaring_token, row_at, meant_at, shows_text, is_visible};
+ghost use Rattle.proto_file_sets.specs.FileSets.{IsIn};
 ghost use Rattle.proto_files.specs.FilesRead.{ReadOf, AreRead};
 ghost use Rattle.proto_names_imports.specs.Links.{names_of_files};
 ghost use Rattle.proto_names_rules.specs.Names.{meaning};
@@ -69,8 +71,9 @@ pub struct Link {
 }
 
 impl Model for Link {
-    ghost use Rattle.std.specs.Prelude.{◌≡◌, ◌<◌, length};
+    ghost use Rattle.std.specs.Prelude.{◌≡◌, ◌<◌, length, map};
     ghost use Rattle.std.specs.List.{All, AllPairs};
+    ghost use Rattle.proto_names_affected.specs.FirstWords.{AreFirstsOf};
     ghost use Rattle.proto_names.specs.Linking.{LinkOf};
     ghost use Rattle.proto_names.specs.LinkOfParts.{link_of};
     ghost use Rattle.proto_names_table.specs.Tables.{IsTable};
@@ -82,7 +85,9 @@ impl Model for Link {
     ghost invariant = { λ l. IsTable l.parts.declarations.table
         × (length l.parts.resolutions.references.items
         ≡ length l.parts.declarations.table.rows.items)
-        × All (λ v. AllPairs (λ m n. m.token < n.token) v.items) l.parts.resolutions.meant.items };
+        × All (λ v. AllPairs (λ m n. m.token < n.token) v.items) l.parts.resolutions.meant.items
+        × AreFirstsOf l.parts.resolutions.firsts
+        (map (λ v. v.items) l.parts.resolutions.meant.items) };
 }
 
 /// The row with this index, if a file declares its name.
@@ -139,6 +144,8 @@ impl Link {
             parts.resolutions.meant.items }
         requires paired { length parts.resolutions.references.items
             ≡ length parts.declarations.table.rows.items }
+        requires firsts { AreFirstsOf parts.resolutions.firsts
+            (map (λ v. v.items) parts.resolutions.meant.items) }
         ensures { result ≡ link_of parts }
     {
         Link { parts }
@@ -256,6 +263,18 @@ impl Link {
             Some(meant) => meant.begins_with(key),
             None => false,
         }
+    }
+
+    /// The files in which a reference may begin with a word of this key; in others none does. Takes
+    /// no memory.
+    pub fn files_beginning_with(&self, key: u32) -> &FileSet
+        ensures files { (file : ℕ)
+            → list_any (λ m. m.first == key) (get_or self.now.meant file []) ≡ true
+            → IsIn result.now file }
+        ensures few { length result.now ≤ 2 ^ 32 }
+        ensures within { length result.now ≤ length self.now.meant }
+    {
+        self.parts.resolutions.firsts.files_of(key)
     }
 
     /// The imports of each file, in the order in which they are written, by the numbers of the files

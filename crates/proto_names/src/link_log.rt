@@ -134,6 +134,7 @@ impl Resolutions {
         ensures meant { self.new.meant.items ≡ undone log.meant.items self.old.meant.items }
         ensures references { self.new.references.items
             ≡ take log.count (undone log.references.items self.old.references.items) }
+        ensures firsts { self.new.firsts ≡ self.old.firsts }
     {
         roll_back(&mut self.references, &mut log.references);
         cut_references(&mut self.references, log.count);
@@ -165,6 +166,7 @@ impl LinkParts {
         ensures references { self.new.resolutions.references.items
             ≡ take log.names.resolutions.count
             (undone log.names.resolutions.references.items self.old.resolutions.references.items) }
+        ensures firsts { self.new.resolutions.firsts ≡ self.old.resolutions.firsts }
     {
         self.graph.roll_back(log.graph);
         self.declarations.roll_back(log.names.declarations);

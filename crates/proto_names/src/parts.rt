@@ -8,7 +8,7 @@ ghost use Rattle.proto_names_table.specs.Tables.{AreAlike, IsTable};
 use crate::copying::{copied, copied_meanings, copied_sets};
 use proto_base::NoMemory;
 use proto_file_sets::FileSet;
-use proto_names_affected::FileMeanings;
+use proto_names_affected::{FileMeanings, FirstWords};
 use proto_names_imports::import::FileImport;
 use proto_names_table::RefId;
 use proto_names_table::table::Table;
@@ -39,6 +39,8 @@ pub(crate) struct Resolutions {
     pub(crate) meant: Vec<FileMeanings>,
     /// For each name, the references that mean it.
     pub(crate) references: Vec<Vec<RefId>>,
+    /// Which files may have a reference that begins with a word.
+    pub(crate) firsts: FirstWords,
 }
 
 /// The parts of a link.
@@ -84,10 +86,16 @@ impl Resolutions {
             ≡ map (λ v. v.items) self.now.meant.items) }
         ensures references { IfOk result (λ copy. map (λ v. v.items) copy.references.items
             ≡ map (λ v. v.items) self.now.references.items) }
+        ensures firsts { IfOk result (λ copy. copy.firsts ≡ self.now.firsts) }
     {
         let meant = copied_meanings(alloc, &self.meant)?;
         let references = copied(alloc, &self.references)?;
-        Ok(Resolutions { meant, references })
+        let firsts = self.firsts.copy(alloc)?;
+        Ok(Resolutions {
+            meant,
+            references,
+            firsts,
+        })
     }
 }
 
@@ -97,6 +105,8 @@ impl LinkParts {
         ensures link { IfOk result (λ copy. link_of copy ≡ link_of self.now) }
         ensures table { IfOk result (λ copy.
             IsTable self.now.declarations.table → IsTable copy.declarations.table) }
+        ensures firsts { IfOk result (λ copy.
+            copy.resolutions.firsts ≡ self.now.resolutions.firsts) }
     {
         let graph = self.graph.copy(alloc)?;
         let declarations = self.declarations.copy(alloc)?;

@@ -10,6 +10,7 @@ ghost use Rattle.proto_names_imports.specs.declared.import.FileImport.{FileImpor
 ghost use Rattle.proto_base.specs.Undone.{AreWithin, undone};
 ghost use Rattle.proto_names_update.specs.NamesOfFiles.{WereNames};
 ghost use Rattle.proto_names_affected.specs.ChangedFiles.{AreChangesMarked, outer_rows_of};
+ghost use Rattle.proto_names_affected.specs.FirstWords.{AreFirstsOf, FirstsStay};
 ghost use Rattle.proto_names_affected.specs.Marking.{MarksStay};
 ghost use Rattle.proto_names_affected.specs.Sight.{IsSightMarked};
 ghost use Rattle.proto_names.specs.FileReferences.{AreFileMeant, IsFileLinked};
@@ -176,6 +177,7 @@ fn resolve_again(
     log: &mut Vec<Change<FileMeanings>>,
 ) -> Result<bool, NoMemory>
     requires table { IsTable resolver.declarations.now.table }
+    requires sized { length affected.now ≡ length resolver.files.now }
     requires paired { length resolver.declarations.now.rows.items ≡ length resolver.files.now }
     requires meant { length meant.old.items ≡ length resolver.files.now }
     requires within { All (λ v. All
@@ -203,11 +205,12 @@ fn resolve_again(
         reads (map (λ v. v.items) meant.old.items) (map (λ v. v.items) meant.new.items)) }
 {
     are_read(resolver.files);
-    for file in 0..resolver.files.len() as u32 {
-        if affected.contains(file) {
-            if !resolve_file(alloc, resolver, file, meant, log)? {
-                return Ok(false);
-            }
+    // Its contract says that there are at most 4,096.
+    let _count = resolver.files.len();
+    let again = affected.files(alloc)?;
+    for file in &again {
+        if !resolve_file(alloc, resolver, *file, meant, log)? {
+            return Ok(false);
         }
     }
     Ok(true)
@@ -263,6 +266,8 @@ fn affected_files(
     requires references { All
         (λ v. All (λ r. r.file < length resolutions.now.meant.items) v.items)
         resolutions.now.references.items }
+    requires firsts { AreFirstsOf resolutions.now.firsts
+        (map (λ v. v.items) resolutions.now.meant.items) }
     ensures len { IfOk result (λ affected. length affected ≡ length edited.entry.files.now) }
     ensures changes { IfOk result (λ affected. AreChangesMarked declarations.now.table affected
         edited.entry.places.now (map (λ v. v.items) resolutions.now.references.items)
@@ -286,6 +291,7 @@ fn affected_files(
         table: &declarations.table,
         references: &resolutions.references,
         meant: &resolutions.meant,
+        firsts: &resolutions.firsts,
     };
     let mut affected = marks_of_changes(alloc, linked, edited.places, before, &now)?;
     mark_others(
@@ -302,6 +308,7 @@ fn affected_files(
 /// ones, given what each file sees now. Answers the files that were re-resolved; the link needs a
 /// rebuild where a file declares what calls for that, or a reference has a fault. Where it answers
 /// no files, some may be changed, and the log tells which.
+#[tactic(auto, using(proto_names_affected::proofs::WordSets::firsts_same))]
 fn update_names(
     alloc: Global,
     edited: Edited,
@@ -322,6 +329,8 @@ fn update_names(
     requires declared { DeclarationsFit log.old.declarations declarations.old }
     requires resolved { ResolutionsFit log.old.resolutions resolutions.old }
     requires none { log.old.resolutions.meant.items ≡ [] }
+    requires firsts { AreFirstsOf resolutions.old.firsts
+        (map (λ v. v.items) resolutions.old.meant.items) }
     ensures table { IsTable declarations.new.table }
     ensures declared { DeclarationsFit log.new.declarations declarations.new }
     ensures resolved { ResolutionsFit log.new.resolutions resolutions.new }
@@ -329,6 +338,9 @@ fn update_names(
         ≡ undone_declarations log.old.declarations declarations.old }
     ensures unresolved { undone_resolutions log.new.resolutions resolutions.new
         ≡ undone_resolutions log.old.resolutions resolutions.old }
+    ensures firsts_stay { FirstsStay resolutions.old.firsts resolutions.new.firsts }
+    ensures firsts { OnOk result (AreFirstsOf resolutions.new.firsts
+        (map (λ v. v.items) resolutions.new.meant.items)) }
     ensures paired { OnOk result (length resolutions.new.references.items
         ≡ length declarations.new.table.rows.items) }
     ensures link { OnOk result ((imports : List (VecOf FileImportOf))
@@ -374,6 +386,9 @@ fn update_names(
         &log.resolutions.meant,
         &resolutions.meant,
     )?;
+    resolutions
+        .firsts
+        .add_changed(&log.resolutions.meant, &resolutions.meant);
     Ok(affected)
 }
 
@@ -382,6 +397,7 @@ impl LinkParts {
     /// files that were re-resolved; the link needs a rebuild where a file declares what calls for
     /// that, or an import or a reference has a fault. Where it answers no files, some of the parts
     /// may be changed, and the log tells which.
+    #[tactic(auto, using(proto_names_affected::proofs::WordSets::firsts_same))]
     pub(crate) fn update(
         &mut self,
         alloc: Global,
@@ -399,6 +415,8 @@ impl LinkParts {
         requires none { log.old.names.resolutions.meant.items ≡ [] }
         requires no_imports { log.old.graph.imports.items ≡ [] }
         requires no_seen { log.old.graph.seen.items ≡ [] }
+        requires firsts { AreFirstsOf self.old.resolutions.firsts
+            (map (λ v. v.items) self.old.resolutions.meant.items) }
         ensures table { IsTable self.new.declarations.table }
         ensures declared { DeclarationsFit log.new.names.declarations self.new.declarations }
         ensures resolved { ResolutionsFit log.new.names.resolutions self.new.resolutions }
@@ -414,6 +432,10 @@ impl LinkParts {
             ≡ self.old.graph.seen.items }
         ensures seen_within { AreWithin (length self.new.graph.seen.items)
             log.new.graph.seen.items }
+        ensures firsts_stay { FirstsStay self.old.resolutions.firsts
+            self.new.resolutions.firsts }
+        ensures firsts { OnOk result (AreFirstsOf self.new.resolutions.firsts
+            (map (λ v. v.items) self.new.resolutions.meant.items)) }
         ensures paired { OnOk result (length self.new.resolutions.references.items
             ≡ length self.new.declarations.table.rows.items) }
         ensures link { OnOk result (IsLinkOf files.now (link_of self.new)) }

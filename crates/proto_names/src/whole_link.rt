@@ -4,6 +4,7 @@ ghost use Rattle.std.specs.Prelude.{◌≡◌, ◌≢◌, ℕ, ◌<◌, List, []
 ghost use Rattle.std.specs.List.{All};
 ghost use Rattle.proto_files.specs.Faults.{HasNoFault};
 ghost use Rattle.proto_base.specs.FaultTable.{kind_number as number_of_kind};
+ghost use Rattle.proto_names_affected.specs.FirstWords.{AreFirstsOf};
 ghost use Rattle.proto_names_rules.specs.Faults.{Fault as FaultAtToken, ReferenceFault};
 ghost use Rattle.proto_names.specs.FileReferences.{AreFileMeant, flaw_number};
 ghost use Rattle.proto_names_imports.specs.Importing.{all_imports, import_flaw_number};
@@ -31,6 +32,7 @@ use crate::read_files::{all_spelled, all_written, listings};
 use crate::references::{ReferenceError, ReferenceFlaw};
 use proto_base::{FaultKind, SchemaFault};
 use proto_files::{Files, all_paths, are_read, fault_at_token};
+use proto_names_affected::FirstWords;
 use proto_names_imports::import::{FileImport, ImportError, ImportFlaw, resolve_imports};
 use proto_names_imports::sight::all_seen;
 use proto_names_outline::listing::Listing;
@@ -171,6 +173,8 @@ fn linked_references(
     ensures references { IfOk result (λ r. (row : ℕ)
         → get_or (map (λ v. v.items) r.references.items) row []
         ≡ references_to row (all_meant 0 (map (λ v. v.items) r.meant.items))) }
+    ensures firsts { IfOk result
+        (λ r. AreFirstsOf r.firsts (map (λ v. v.items) r.meant.items)) }
     ensures clean { IfOk result (λ _. (reads : List ReadOf) → AreRead files.now reads →
         (f : FaultAtToken) → ReferenceFault (text_of files.now reads)
         (link_skeleton files.now reads) f → ⊥) }
@@ -184,7 +188,12 @@ fn linked_references(
         Ok(meant) => {
             let names = declarations.table.rows.len();
             let references = references_by_name(alloc, names, &meant)?;
-            Ok(Resolutions { meant, references })
+            let firsts = FirstWords::of(alloc, &meant)?;
+            Ok(Resolutions {
+                meant,
+                references,
+                firsts,
+            })
         }
         Err(ReferenceError::Fault(bad)) => {
             let kind = reference_kind(bad.flaw);

@@ -1,4 +1,5 @@
 mod Begun
+mod ChangedFirsts
 mod Changes
 pub mod Inserted
 mod KindRows
@@ -10,3 +11,4 @@ mod Referring
 mod Renewing
 mod Rows
 mod Sights
+pub mod WordSets

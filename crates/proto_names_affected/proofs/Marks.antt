@@ -27,5 +27,10 @@ none_begins keys ms m none there key =
     (any_from (λ k. list_any (λ (x : Meant). x.first == k) ms) keys m.first key
     (any_from (λ (x : Meant). x.first == m.first) ms m there (eq-eqb m.first m.first refl)))
 
+-- where no reference begins with a word of the key, none has the key
+pub none_with : (ms : List Meant) (key : ℕ) (m : Meant) → list_any (λ x. x.first == key) ms ≡ false → Contains ms m → m.first ≡ key → ⊥
+none_with ms key m none there is =
+    both_ways (list_any (λ (x : Meant). x.first == key) ms) none (any_from (λ (x : Meant). x.first == key) ms m there (eq-eqb m.first key is))
+
 pub nothing_there : {X : Type 0} (x : X) → Contains [] x → ⊥
 nothing_there x c = absurd (omega (arith, c.1))

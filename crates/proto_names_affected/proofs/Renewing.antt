@@ -133,7 +133,7 @@ pub length_before : (old : List (Change (Vec Meant))) (meant : List (Vec Meant))
 length_before [] meant = refl
 length_before (c ∷ old) meant = length-set (undone old meant) c.place c.was ∙ length_before old meant
 
-before_more : (c : Change (Vec Meant)) (old : List (Change (Vec Meant))) (meant : List (Vec Meant)) → map (λ (v : Vec Meant). v.items) (undone (c ∷ old) meant) ≡ slice_set (map (λ (v : Vec Meant). v.items) (undone old meant)) c.place c.was.items
+pub before_more : (c : Change (Vec Meant)) (old : List (Change (Vec Meant))) (meant : List (Vec Meant)) → map (λ (v : Vec Meant). v.items) (undone (c ∷ old) meant) ≡ slice_set (map (λ (v : Vec Meant). v.items) (undone old meant)) c.place c.was.items
 before_more c old meant = map-set (λ (v : Vec Meant). v.items) (undone old meant) c.place c.was
 
 -- of a file that is not marked the list was what it is

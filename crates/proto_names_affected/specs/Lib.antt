@@ -1,5 +1,6 @@
 pub mod ChangedFiles
 pub mod FileMeanings
+pub mod FirstWords
 pub mod Gathering
 pub mod Marking
 pub mod Merged

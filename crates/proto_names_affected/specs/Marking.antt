@@ -26,6 +26,11 @@ abbrev pub AreUsersMarked : List Bool → List (List RefId) → List ℕ → Typ
 AreUsersMarked marks references rows =
     All (λ row. AreReferencesMarked marks (get_or references row [])) rows
 
+-- the file is marked, if it has a reference which begins with a word of this key
+abbrev pub IsBeginnerMarked : List Bool → List (List Meant) → ℕ → ℕ → Type 0
+IsBeginnerMarked marks meant key file =
+    (m : Meant) → Contains (get_or meant file []) m → m.first ≡ key → IsMarked marks file
+
 -- each file is marked that has a reference which begins with a word of one of these keys
 abbrev pub AreBeginnersMarked : List Bool → List (List Meant) → List ℕ → Type 0
 AreBeginnersMarked marks meant keys =

@@ -3,10 +3,12 @@
 ghost use Rattle.std.specs.Prelude.{◌≡◌, ◌<◌, length, map, IfOk, OnOk};
 ghost use Rattle.std.specs.List.{All};
 ghost use Rattle.proto_names_affected.specs.ChangedFiles.{AreChangesMarked, IsChangeMarked, outer_rows_of};
+ghost use Rattle.proto_names_affected.specs.FirstWords.{AreFirstsOf};
 ghost use Rattle.proto_names_affected.specs.Marking.{MarksStay};
 ghost use Rattle.proto_names_table.specs.Tables.{IsTable};
 
 use crate::file_meanings::FileMeanings;
+use crate::first_words::FirstWords;
 use crate::marking::{mark_beginners, mark_places, mark_users};
 use crate::outer_rows::{KindRow, last_word_keys, outer_rows, rows_below_no_type, rows_not_among};
 use proto_base::NoMemory;
@@ -43,6 +45,8 @@ pub struct Linked<'a> {
     pub references: &'a [Vec<RefId>],
     /// For each file what its references mean, as they were.
     pub meant: &'a [FileMeanings],
+    /// Which files may have a reference that begins with a word.
+    pub firsts: &'a FirstWords,
 }
 
 /// The files that have to be re-resolved: those at these places;
@@ -66,6 +70,7 @@ pub fn marks_of_changes(
         now.now }
     requires references { All (λ v. All (λ r. r.file < length linked.meant.now) v.items)
         linked.references.now }
+    requires firsts { AreFirstsOf linked.firsts.now (map (λ v. v.items) linked.meant.now) }
     ensures len { IfOk result (λ marks. length marks ≡ length linked.entry.meant.now) }
     ensures marked { IfOk result (λ marks. AreChangesMarked
         linked.entry.table.now marks places.now
@@ -94,6 +99,7 @@ fn mark_change(
     requires within { All (λ p. p.row < length linked.table.now.rows.items) now.now }
     requires references { All (λ v. All (λ r. r.file < length marks.old) v.items)
         linked.references.now }
+    requires firsts { AreFirstsOf linked.firsts.now (map (λ v. v.items) linked.meant.now) }
     ensures stay { OnOk result (MarksStay marks.old marks.new) }
     ensures marked { OnOk result (IsChangeMarked linked.entry.table.now marks.new
         (map (λ v. v.items) linked.entry.references.now)
@@ -104,6 +110,6 @@ fn mark_change(
     let came = rows_not_among(alloc, now, before)?;
     let asked = rows_below_no_type(alloc, linked.table, &came)?;
     let keys = last_word_keys(alloc, linked.table, &asked)?;
-    mark_beginners(marks, linked.meant, &keys);
+    mark_beginners(alloc, marks, linked.meant, linked.firsts, &keys)?;
     Ok(())
 }

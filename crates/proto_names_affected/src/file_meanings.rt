@@ -76,7 +76,7 @@ impl FileMeanings {
 }
 
 /// The remainder of a key.
-fn place_of(key: u32, len: usize) -> usize
+pub(crate) fn place_of(key: u32, len: usize) -> usize
     requires { 0 < len }
     ensures { result ≡ place_of len key }
 {

@@ -5,6 +5,7 @@
 mod backlinks;
 pub mod changed_files;
 mod file_meanings;
+mod first_words;
 pub mod gathering;
 pub mod laws;
 pub mod marking;
@@ -15,3 +16,4 @@ pub mod sight;
 
 pub use backlinks::renewed;
 pub use file_meanings::FileMeanings;
+pub use first_words::FirstWords;

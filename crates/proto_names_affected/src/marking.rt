@@ -1,14 +1,17 @@
 //! Puts files that have to be re-resolved into a set.
 
-ghost use Rattle.std.specs.Prelude.{◌≡◌, ◌<◌, [], length, get_or, map};
-ghost use Rattle.std.specs.List.{All, Contains};
-ghost use Rattle.proto_names_table.specs.declared.ids.Meant.{Meant as MeantOf};
-ghost use Rattle.proto_names_affected.specs.Marking.{AreBeginnersMarked, ArePlacesMarked, AreReferencesMarked, AreUsersMarked, IsMarked, MarksStay, begins_so};
+ghost use Rattle.std.specs.Prelude.{◌≡◌, ℕ, ◌<◌, ◌≤◌, ◌^◌, [], length, get_or, map, OnOk};
+ghost use Rattle.std.specs.List.{All};
+ghost use Rattle.proto_names_affected.specs.FirstWords.{AreFirstsOf};
+ghost use Rattle.proto_names_affected.specs.Marking.{AreBeginnersMarked, ArePlacesMarked, AreReferencesMarked, AreUsersMarked, IsBeginnerMarked, IsMarked, MarksStay, begins_so};
 
 use crate::file_meanings::FileMeanings;
+use crate::first_words::FirstWords;
 use indexmap::IndexSet;
+use proto_base::NoMemory;
 use proto_file_sets::FileSet;
 use proto_names_table::RefId;
+use std::alloc::Global;
 
 /// Puts these files into the set.
 pub fn mark_places(marks: &mut FileSet, places: &[u32])
@@ -55,42 +58,60 @@ fn mark_all(marks: &mut FileSet, references: &[RefId])
     }
 }
 
-/// Puts the files into the set that have references which begin with a word of one of these keys.
-/// Where there is no key, no reference is looked at.
-pub fn mark_beginners(marks: &mut FileSet, meant: &[FileMeanings], keys: &IndexSet<u32>)
-    requires { length meant.now ≡ length marks.old }
-    ensures stay { MarksStay marks.old marks.new }
-    ensures marked { AreBeginnersMarked
-        marks.new (map (λ v. v.items) meant.now) keys.now.keys }
+/// Puts the files into the set that have references which begin with a word of one of these keys,
+/// where this tells which files may have such. Fails only when out of memory.
+pub fn mark_beginners(
+    alloc: Global,
+    marks: &mut FileSet,
+    meant: &[FileMeanings],
+    firsts: &FirstWords,
+    keys: &IndexSet<u32>,
+) -> Result<(), NoMemory>
+    requires count { length meant.now ≡ length marks.old }
+    requires firsts { AreFirstsOf firsts.now (map (λ v. v.items) meant.now) }
+    ensures stay { OnOk result (MarksStay marks.old marks.new) }
+    ensures marked { OnOk result (AreBeginnersMarked
+        marks.new (map (λ v. v.items) meant.now) keys.now.keys) }
 {
-    if !keys.is_empty() {
-        mark_each_beginner(marks, meant, keys);
+    for key in keys.as_slice() {
+        mark_beginners_of(alloc, marks, meant, firsts.files_of(*key), *key)?;
     }
+    Ok(())
 }
 
-/// The same, whether there are keys or not.
-fn mark_each_beginner(marks: &mut FileSet, meant: &[FileMeanings], keys: &IndexSet<u32>)
-    requires { length meant.now ≡ length marks.old }
-    ensures stay { MarksStay marks.old marks.new }
-    ensures marked { AreBeginnersMarked
-        marks.new (map (λ v. v.items) meant.now) keys.now.keys }
+/// Puts those of the files into the set that have references which begin with a word of this key.
+/// Fails only when out of memory.
+fn mark_beginners_of(
+    alloc: Global,
+    marks: &mut FileSet,
+    meant: &[FileMeanings],
+    files: &FileSet,
+    key: u32,
+) -> Result<(), NoMemory>
+    requires count { length meant.now ≡ length marks.old }
+    requires files { length files.now ≤ length marks.old }
+    requires few { length files.now ≤ 2 ^ 32 }
+    ensures stay { OnOk result (MarksStay marks.old marks.new) }
+    ensures marked { OnOk result ((file : ℕ) → IsMarked files.now file
+        → IsBeginnerMarked marks.new (map (λ v. v.items) meant.now) key file) }
 {
-    for file in 0..meant.len() {
-        mark_beginner(marks, file, &meant[file], keys);
+    let asked = files.files(alloc)?;
+    for file in &asked {
+        mark_beginner(marks, meant, *file, key);
     }
+    Ok(())
 }
 
-/// Puts a file into the set, if one of its references, which mean these, begins with a word of one
-/// of these keys.
+/// Puts a file into the set, if one of its references begins with a word of this key.
 #[tactic(auto, using(crate::proofs::Inserted::inserted_stay, crate::proofs::Inserted::inserted_marked))]
-fn mark_beginner(marks: &mut FileSet, file: usize, meant: &FileMeanings, keys: &IndexSet<u32>)
-    requires { file < length marks.old }
+fn mark_beginner(marks: &mut FileSet, meant: &[FileMeanings], file: u32, key: u32)
+    requires count { length meant.now ≡ length marks.old }
+    requires file { file < length marks.old }
     ensures stay { MarksStay marks.old marks.new }
-    ensures marked { (m : MeantOf) → Contains meant.now.items m → Contains keys.now.keys m.first
-        → IsMarked marks.new file }
+    ensures marked { IsBeginnerMarked marks.new (map (λ v. v.items) meant.now) key file }
 {
-    if begins_so(meant, keys) {
-        marks.insert_at(file);
+    if meant[file as usize].begins_with(key) {
+        marks.insert(file);
     }
 }
 

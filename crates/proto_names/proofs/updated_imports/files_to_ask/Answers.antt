@@ -1,4 +1,4 @@
-use Rattle.std.proofs.Common.{◌≡◌, ◌⊎◌, ℕ, ◌<◌, Bool, true, false, List, [], length, get_or, map, sym, ◌∙◌, ap, subst, inl, inr, below_more, arith}
+use Rattle.std.proofs.Common.{◌≡◌, ◌⊎◌, ℕ, Bool, true, false, List, [], length, get_or, map, sym, ◌∙◌, ap, subst, inl, inr, below_more, arith}
 use Rattle.proto_base.proofs.Common.{Vec, both_ways, cases_Bool, get_or-map}
 use Rattle.proto_names_affected.specs.Marking.{IsMarked, MarksStay}
 use Rattle.proto_names_imports.specs.declared.import.FileImport.{FileImport}

@@ -2,6 +2,7 @@ use Rattle.std.proofs.Common.{◌<◌, ℕ, Bool, List, length, map, sym, ◌∙
 use Rattle.proto_base.proofs.Common.{Vec}
 use Rattle.proto_base.specs.declared.changes.Change.{Change}
 use Rattle.proto_names_affected.specs.ChangedFiles.{outer_rows_of}
+use Rattle.proto_names_affected.specs.FirstWords.{AreFirstsOf}
 use Rattle.proto_names_affected.specs.Sight.{IsSightMarked}
 use Rattle.proto_names_affected.specs.declared.outer_rows.KindRow.{KindRow}
 use Rattle.proto_names.proofs.MarksMore.{marks_of_lists}
@@ -61,3 +62,7 @@ returns-clause-changes c =
 pub returns-clause-sight : goal.returns-clause-sight
 returns-clause-sight c = λ saw was.
     subst (λ (vs : List (Vec Meant)). All (λ (x : Change (List Bool)). IsSightMarked c.mark_others.new.affected c.args.declarations.now.table (map (λ v. v.items) c.args.declarations.now.rows.items) (map (λ v. v.items) vs) saw c.args.edited.seen.now x.place) c.args.edited.saw.now) c.deref-5.ensures.value (c.in_ok-mark_others.ensures.marked saw was)
+
+pub marks_of_changes-requires-clause-firsts : goal.marks_of_changes-requires-clause-firsts
+marks_of_changes-requires-clause-firsts c =
+    subst (λ (ms : List (Vec Meant)). AreFirstsOf c.args.resolutions.now.firsts (map (λ v. v.items) ms)) (sym c.deref-3.ensures.value) c.requires.firsts

@@ -1,4 +1,4 @@
-use Rattle.std.proofs.Common.{◌≡◌, ℕ, ◌<◌, true, List, [], length, get_or, map, false}
+use Rattle.std.proofs.Common.{◌≡◌, ℕ, List, [], length, get_or, map, take, All}
 use Rattle.proto_files.specs.FilesRead.{AreRead, ReadOf}
 use Rattle.proto_names_rules.specs.Marked.{IsUnmarked}
 use Rattle.proto_base.specs.Undone.{AreWithin, undone}
@@ -13,6 +13,6 @@ invariant-loop-file l = record {
   len : length l.meant.items ≡ length l.fn.meant.items;
   below : AreMeantBelow (length l.resolver.declarations.now.table.rows.items) l.fn.log.items l.fn.meant.items → AreMeantBelow (length l.resolver.declarations.now.table.rows.items) l.log.items l.meant.items;
   marked : AreOfMarked l.affected l.fn.log.items → AreOfMarked l.affected l.log.items;
-  meant : (reads : List ReadOf) → AreRead l.resolver.files.now reads → (k : ℕ) → k < l.file → get_or l.affected k false ≡ true → AreFileMeant l.resolver.declarations.now.table l.resolver.files.now reads k (get_or (map (λ v. v.items) l.meant.items) k []);
+  meant : (reads : List ReadOf) → AreRead l.resolver.files.now reads → All (λ k. AreFileMeant l.resolver.declarations.now.table l.resolver.files.now reads k (get_or (map (λ v. v.items) l.meant.items) k [])) (take l.file-index l.file-items);
   others : (k : ℕ) → IsUnmarked l.affected k → get_or (map (λ v. v.items) l.meant.items) k [] ≡ get_or (map (λ v. v.items) l.fn.meant.items) k [];
 }

@@ -3,6 +3,7 @@ use Rattle.proto_base.proofs.Common.{Vec, length-map}
 use Rattle.proto_base.specs.Undone.{undone}
 use Rattle.proto_base.specs.declared.changes.Change.{Change}
 use Rattle.proto_names_affected.specs.ChangedFiles.{AreChangesMarked, outer_rows_of}
+use Rattle.proto_names_affected.specs.FirstWords.{AreFirstsOf}
 use Rattle.proto_names_affected.specs.Renewed.{AreReferencesOf}
 use Rattle.proto_names_affected.specs.declared.outer_rows.KindRow.{KindRow}
 use Rattle.proto_names.proofs.GrownLists.{cut_grown, not_less, paired_now}
@@ -150,3 +151,19 @@ returns-clause-told c = λ imports before link same.
       look = λ was reads are_was are.
           parts_have_to_look c.args.edited.files.now c.args.edited.places.now c.args.declarations.now.table imports c.args.declarations.now.rows.items (undone c.args.edited.saw.now c.args.edited.seen.now) c.args.resolutions.now.meant.items c.args.resolutions.now.references.items c.requires.table (before, record { link = link.link; clean = link.clean; reads = was; read = are_was }, same) c.update.new.self.table c.update.new.self.rows.items c.in_ok-before.ensures.renewed c.in_ok-affected.affected c.grow_references.new.references.items c.grow_references.ensures.same (subst (λ (bs : List (List KindRow)). AreChangesMarked c.update.new.self.table c.in_ok-affected.affected c.args.edited.places.now (map (λ v. v.items) c.grow_references.new.references.items) (map (λ v. v.items) c.args.resolutions.now.meant.items) bs (map (outer_rows_of c.update.new.self.table (map (λ v. v.items) c.update.new.self.rows.items)) c.args.edited.places.now)) (ap (map (λ (v : Vec KindRow). v.items)) c.deref.ensures.value ∙ c.in_ok-before.ensures.before) c.in_ok-affected.ensures.changes) c.update.ensures.table c.args.edited.saw.now c.args.edited.seen.now c.requires.renewed.sight c.requires.renewed.kept (c.in_ok-affected.ensures.sight (undone c.args.edited.saw.now c.args.edited.seen.now) c.requires.was) reads are;
     }
+
+pub add_changed-requires-clause-within : goal.add_changed-requires-clause-within
+add_changed-requires-clause-within c =
+    subst (λ (ls : List (Change (Vec Meant))). All (λ x. x.place < length c.deref-5.result.now) ls) (sym c.deref-4.ensures.value)
+    (λ k d l. omega (arith, c.resolve_again.ensures.within c.requires.resolved.meant k d l, c.resolve_again.ensures.len, ap length c.deref-5.ensures.value))
+
+pub add_changed-requires-clause-before : goal.add_changed-requires-clause-before
+add_changed-requires-clause-before c =
+    let was = ap (λ (log : List (Change (Vec Meant))). undone log c.deref-5.result.now) c.deref-4.ensures.value ∙ ap (undone c.resolve_again.new.log.items) c.deref-5.ensures.value ∙ c.resolve_again.ensures.undone ∙ ap (λ (log : List (Change (Vec Meant))). undone log c.args.resolutions.now.meant.items) c.requires.none in
+    subst (λ (ms : List (Vec Meant)). AreFirstsOf c.args.resolutions.now.firsts (map (λ v. v.items) ms)) (sym was) c.requires.firsts
+
+pub returns-clause-firsts : goal.returns-clause-firsts
+returns-clause-firsts c = subst (λ (ms : List (Vec Meant)). AreFirstsOf c.add_changed.new.self (map (λ v. v.items) ms)) c.deref-5.ensures.value c.add_changed.ensures.firsts
+
+pub resolve_again-requires-clause-sized : goal.resolve_again-requires-clause-sized
+resolve_again-requires-clause-sized c = c.in_ok-affected.ensures.len

@@ -28,7 +28,7 @@ returns-clause-marked c =
     let keys = c.in_ok-keys.keys.keys in
     record {
       gone = users_marked marks references c.args.before.now c.args.now.now gone c.in_ok-gone.ensures
-          (users_stay first marks references gone c.mark_beginners.ensures.stay (subst (AreUsersMarked first references) c.deref.ensures.value c.mark_users.ensures.marked));
+          (users_stay first marks references gone c.in_ok-mark_beginners.ensures.stay (subst (AreUsersMarked first references) c.deref.ensures.value c.mark_users.ensures.marked));
       came = beginners_marked table marks meant c.args.before.now c.args.now.now came keys c.in_ok-came.ensures
-          (subst (λ rows. HasLastWords table rows keys) asked_are c.in_ok-keys.ensures) c.mark_beginners.ensures.marked;
+          (subst (λ rows. HasLastWords table rows keys) asked_are c.in_ok-keys.ensures) c.in_ok-mark_beginners.ensures.marked;
     }

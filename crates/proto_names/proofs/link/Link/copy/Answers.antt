@@ -1,6 +1,7 @@
-use Rattle.std.proofs.Common.{◌<◌, length, ◌∙◌, ap, arith, AllPairs}
+use Rattle.std.proofs.Common.{◌<◌, Bool, List, length, map, sym, ◌∙◌, ap, subst, arith, AllPairs}
 use Rattle.proto_base.proofs.Common.{length-map}
-use Rattle.proto_names.specs.Common.{LinkOf, name_of_row}
+use Rattle.proto_names_affected.specs.FirstWords.{AreFirstsOf}
+use Rattle.proto_names.specs.Common.{LinkOf, Meant, name_of_row}
 use Rattle.proto_names.proofs.Copies.{all_items}
 use Rattle.proto_names.proofs.link.Link.copy.Goals as goal
 
@@ -25,6 +26,13 @@ from_parts-requires-clause-paired c =
       length-map now.declarations.table.rows.items name_of_row,
       length-map was.declarations.table.rows.items name_of_row,
     )
+
+pub from_parts-requires-clause-firsts : goal.from_parts-requires-clause-firsts
+from_parts-requires-clause-firsts c =
+    let was = c.self.inside.parts.resolutions in
+    let now = c.in_ok-parts.parts.resolutions in
+    subst (λ (fs : List (List Bool)). AreFirstsOf fs (map (λ v. v.items) now.meant.items)) (sym c.in_ok-parts.ensures.firsts)
+    (subst (λ (ms : List (List Meant)). AreFirstsOf was.firsts ms) (sym (ap (λ (l : LinkOf). l.meant) c.in_ok-parts.ensures.link)) c.self.invariant.3)
 
 pub returns : goal.returns
 returns c = c.from_parts.ensures ∙ c.in_ok-parts.ensures.link ∙ c.self.view_is

@@ -54,6 +54,9 @@ from_parts-requires-clause-rising c =
 pub from_parts-requires-clause-paired : goal.from_parts-requires-clause-paired
 from_parts-requires-clause-paired c = c.in_ok-resolutions.ensures.paired
 
+pub from_parts-requires-clause-firsts : goal.from_parts-requires-clause-firsts
+from_parts-requires-clause-firsts c = c.in_ok-resolutions.ensures.firsts
+
 pub returns-clause-link : goal.returns-clause-link
 returns-clause-link c = λ reads are.
     (let files = c.args.files.now in

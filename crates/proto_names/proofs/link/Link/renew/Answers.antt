@@ -1,7 +1,9 @@
-use Rattle.std.proofs.Common.{◌≡◌, ◌<◌, Bool, true, false, length, map, refl, sym, ◌∙◌, ap, subst, inl, inr, All, AllPairs}
+use Rattle.std.proofs.Common.{◌≡◌, ◌<◌, Bool, true, false, List, length, map, refl, sym, ◌∙◌, ap, subst, inl, inr, All, AllPairs}
 use Rattle.proto_base.proofs.Common.{Vec, both_ways}
 use Rattle.proto_base.specs.declared.fault.SchemaFault.{SchemaFault}
 use Rattle.proto_base.specs.declared.fault.SchemaFault.TheVariants.{NoMemory}
+use Rattle.proto_names_affected.specs.FirstWords.{AreFirstsOf}
+use Rattle.proto_names_affected.proofs.WordSets.{are_still}
 use Rattle.proto_names.specs.declared.whole_link.Renewal.{Renewal}
 use Rattle.proto_names.specs.declared.whole_link.Renewal.TheVariants.{Done, Rebuild, Refused}
 use Rattle.proto_names_imports.specs.LinkErrors.{IsLinkError}
@@ -21,6 +23,7 @@ invariant_of-self g c =
       c.update-updated.ensures.table,
       paired,
       lists_rise c.args.files.now read.0 _ read.1 link last.resolutions.meant.items (λ i. map (λ v. v.items) last.resolutions.meant.items),
+      c.in-Ok.ensures.firsts,
     )
 
 pub invariant_of-self-in-Ok-follow : goal.invariant_of-self-in-Ok-follow
@@ -32,7 +35,11 @@ invariant_of-self-in-Ok-follow g c =
       c.update-updated.ensures.table,
       paired,
       lists_rise c.args.files.now read.0 _ read.1 link last.resolutions.meant.items (λ i. map (λ v. v.items) last.resolutions.meant.items),
+      c.in-Ok.ensures.firsts,
     )
+
+pub update-updated-requires-clause-firsts : goal.update-updated-requires-clause-firsts
+update-updated-requires-clause-firsts g c = c.self.invariant.3
 
 pub update-updated-requires-clause-link : goal.update-updated-requires-clause-link
 update-updated-requires-clause-link g c =
@@ -68,6 +75,9 @@ invariant_of-self-2 g c =
       c.roll_back.ensures.table was.declarations.table table c.self.invariant.0,
       ap length references ∙ c.self.invariant.1 ∙ sym (size_unchanged was.declarations.table c.roll_back.new.self.declarations.table (c.roll_back.ensures.unchanged was.declarations.table table)),
       subst (All (λ (v : Vec Meant). AllPairs (λ m n. m.token < n.token) v.items)) (sym meant) c.self.invariant.2,
+      subst (λ (fs : List (List Bool)). AreFirstsOf fs (map (λ v. v.items) c.roll_back.new.self.resolutions.meant.items)) (sym c.roll_back.ensures.firsts)
+          (subst (λ (ms : List (Vec Meant)). AreFirstsOf now.resolutions.firsts (map (λ v. v.items) ms)) (sym meant)
+          (are_still was.resolutions.firsts now.resolutions.firsts c.update-updated.ensures.firsts_stay (map (λ v. v.items) was.resolutions.meant.items) c.self.invariant.3)),
     )
 
 pub returns-clause-kept : goal.returns-clause-kept
