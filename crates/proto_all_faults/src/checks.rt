@@ -14,7 +14,6 @@ ghost use Rattle.proto_desc.specs.Checked.{fault_of_flaw};
 ghost use Rattle.proto_all_faults.specs.AllFaults.{CheckFaultsUpTo};
 ghost use Rattle.proto_all_faults.specs.Steps.{faults_before};
 
-use indexmap::IndexMap;
 use proto_ast::Scene;
 use proto_base::{Fault, NoMemory, SchemaFault};
 use proto_desc_checks::{Flaw, file_flaws};
@@ -22,7 +21,7 @@ use proto_desc_extensions::workspace_flaws;
 use proto_files::{Files, fault_at_token};
 use proto_names_faults::in_order;
 use proto_resolved::Linked;
-use proto_resolved::enum_table::{EnumRow, enum_table};
+use proto_resolved::enum_table::{EnumTable, enum_table};
 use proto_resolved::scenes::scenes;
 use proto_tree::File;
 use std::alloc::Global;
@@ -100,7 +99,7 @@ fn faults_by_file(
 fn faults_with(
     alloc: Global,
     linked: &Linked<'_>,
-    table: &[IndexMap<u32, EnumRow>],
+    table: &EnumTable,
 ) -> Result<Vec<Fault>, NoMemory>
     requires { IsEnumTable linked.now.files table.now }
     ensures { IfOk result (λ found. (reads : List ReadOf) → AreRead linked.now.files reads

@@ -1,21 +1,24 @@
 -- Of files something is made, file by file, and put in place of what was there.
-use Rattle.std.proofs.Common.{◌≡◌, ℕ, zero, suc, ◌+◌, ◌<◌, ◌≤◌, Bool, false, List, [], ◌∷◌, ◌++◌, length, get_or, Option, Some, None, slice_get, slice_set, refl, sym, ◌∙◌, ap, subst, arith, length-set, length-append}
-use Rattle.std.specs.Global.{Box}
-use Rattle.std.proofs.lemmas.List.{get_or-set_same}
-use Rattle.proto_base.proofs.Common.{slice_get-get_or}
-use Rattle.proto_files.proofs.Common.{Each, FileOf, each_pushed}
-use Rattle.proto_desc.specs.Renewing.{ArePut, IsMadeIfMarked, IsPut, IsPutAlone}
+use Rattle.std.proofs.Common.{◌≡◌, ℕ, zero, suc, ◌<◌, List, [], ◌∷◌, ◌++◌, length, Some, slice_get, slice_set, refl, sym, ◌∙◌, ap, ap₂, subst, inl, inr, arith, length-set, Contains}
+use Rattle.std.proofs.lemmas.Bool.{cases_eq}
+use Rattle.std.proofs.lemmas.List.{get_or-set_same, map-append}
+use Rattle.std.proofs.lemmas.List.Elements.{All-push, Contains-append_left, Contains-append_right, Contains-append_cases}
+use Rattle.proto_base.proofs.Common.{contains_cases, contains_head, slice_get-get_or}
+use Rattle.proto_files.proofs.Common.{FileOf}
+use Rattle.proto_desc.specs.Renewing.{AreMade, ArePut, HasOwn, IsMade, IsPut, files_made}
 use Rattle.proto_desc.specs.declared.descriptors.Descriptors.{Descriptors}
 use Rattle.proto_desc.specs.declared.renewing.Made.{Made}
 
 -- ---- made, file by file
 
-pub one_more_made : (files : List FileOf) (marks : List Bool) (done after : List (Option (Box Made))) (o : Option (Box Made)) (file : ℕ) (b : Bool) → get_or marks file false ≡ b → after ≡ done ++ o ∷ [] → length done ≡ file → Each (λ k made. IsMadeIfMarked files (get_or marks k false) k made) done → IsMadeIfMarked files b file o
-    → (length after ≡ file + 1) × Each (λ k made. IsMadeIfMarked files (get_or marks k false) k made) after
-one_more_made files marks done after o file b mark pushed len each made = (
-  omega (arith, ap length pushed, length-append done (o ∷ []), len),
-  each_pushed (λ k x. IsMadeIfMarked files (get_or marks k false) k x) done after o file pushed len each (subst (λ (t : Bool). IsMadeIfMarked files t file o) (sym mark) made),
-)
+one_more : (done : List Made) (m : Made) → files_made (done ++ m ∷ []) ≡ files_made done ++ m.file ∷ []
+one_more done m = map-append (λ (m : Made). m.file) done (m ∷ [])
+
+pub one_more_made : (files : List FileOf) (listed : List ℕ) (done : List Made) (file : ℕ) (m : Made) → m.file ≡ file → IsMade files m → AreMade files listed done → AreMade files (listed ++ file ∷ []) (done ++ m ∷ [])
+one_more_made files listed done file m of_file is made = record {
+  numbers = one_more done m ∙ ap₂ (λ (ns : List ℕ) (n : ℕ). ns ++ n ∷ []) made.numbers of_file;
+  each = All-push (IsMade files) done m made.each is;
+}
 
 -- ---- one file
 
@@ -29,47 +32,65 @@ others_set (y ∷ ys) zero x (suc k) other = refl
 others_set (y ∷ ys) (suc i) x zero other = refl
 others_set (y ∷ ys) (suc i) x (suc k) other = others_set ys i x k (λ e. other (omega (arith, e)))
 
-pub put_alone : (o : Option (Box Made)) (m : Box Made) → o ≡ Some m → (v : Made) → v ≡ m.value → (file : ℕ) (old new : Descriptors) → file < length old.file.items → file < length old.kept.items → new.file.items ≡ slice_set old.file.items file v.descriptor → new.kept.items ≡ slice_set old.kept.items file v.kept → IsPutAlone o file old new
-put_alone o m is v value file old new l k files kept =
-    let one : IsPutAlone (Some m) file old new = record {
-      files = ap length files ∙ length-set old.file.items file v.descriptor;
-      kept = ap length kept ∙ length-set old.kept.items file v.kept;
-      there = (
-        ap (λ xs. slice_get xs file) files ∙ there_set old.file.items file v.descriptor l ∙ ap (λ (w : Made). Some w.descriptor) value,
-        ap (λ xs. slice_get xs file) kept ∙ there_set old.kept.items file v.kept k ∙ ap (λ (w : Made). Some w.kept) value,
-      );
-      others = λ i other. (
-        ap (λ xs. slice_get xs i) files ∙ others_set old.file.items file v.descriptor i other,
-        ap (λ xs. slice_get xs i) kept ∙ others_set old.kept.items file v.kept i other,
-      );
-    } in
-    subst (λ (x : Option (Box Made)). IsPutAlone x file old new) (sym is) one
+pub is_put : (m : Made) (old new : Descriptors) → m.file < length old.file.items → m.file < length old.kept.items → new.file.items ≡ slice_set old.file.items m.file m.descriptor → new.kept.items ≡ slice_set old.kept.items m.file m.kept → IsPut m old new
+is_put m old new l k descriptors kept = record {
+  as_many = record {
+    descriptors = ap length descriptors ∙ length-set old.file.items m.file m.descriptor;
+    kept = ap length kept ∙ length-set old.kept.items m.file m.kept;
+  };
+  there = record {
+    descriptor = ap (λ xs. slice_get xs m.file) descriptors ∙ there_set old.file.items m.file m.descriptor l;
+    kept = ap (λ xs. slice_get xs m.file) kept ∙ there_set old.kept.items m.file m.kept k;
+  };
+  others = λ i other. record {
+    descriptor = ap (λ xs. slice_get xs i) descriptors ∙ others_set old.file.items m.file m.descriptor i other;
+    kept = ap (λ xs. slice_get xs i) kept ∙ others_set old.kept.items m.file m.kept i other;
+  };
+}
 
 -- ---- file by file
 
-then_left : (o : Option (Box Made)) (k : ℕ) (a b c : Descriptors) → IsPut o k a b → IsPut None k b c → IsPut o k a c
-then_left None k a b c p q = (q.0 ∙ p.0, q.1 ∙ p.1)
-then_left (Some m) k a b c p q = (q.0 ∙ p.0, q.1 ∙ p.1)
+pub none_put : (d : Descriptors) → ArePut [] d d
+none_put d = record {
+  as_many = record { descriptors = refl; kept = refl };
+  there = λ file c. absurd (omega (arith, c.1));
+  others = λ file none. record { descriptor = refl; kept = refl };
+}
 
-left_then : (o : Option (Box Made)) (k : ℕ) (a b c : Descriptors) → IsPut None k a b → IsPut o k b c → IsPut o k a c
-left_then None k a b c p q = (q.0 ∙ p.0, q.1 ∙ p.1)
-left_then (Some m) k a b c p q = q
+module _ (done : List Made) (m : Made) (old now next : Descriptors) (so_far : ArePut done old now) (one : IsPut m now next) where
+  before : (file : ℕ) → (file ≡ m.file → ⊥) → Contains (files_made (done ++ m ∷ [])) file → Contains (files_made done) file
+  before file other c = elim (Contains-append_cases (files_made done) (m.file ∷ []) file (subst (λ ns. Contains ns file) (one_more done m) c)) [
+    | inl there ↦ there
+    | inr last ↦ elim (contains_cases m.file file [] last) [
+      | inl same ↦ absurd (other (sym same))
+      | inr none ↦ absurd (omega (arith, none.1))
+    ]
+  ]
 
--- some are put, and what stands behind these is left
-pub record ArePutSoFar (done : List (Option (Box Made))) (old now : Descriptors) : Type 0 where
-  pub put : ArePut done old now
-  pub left : (k : ℕ) → length done ≤ k → IsPut None k old now
+  stays : (file : ℕ) → (file ≡ m.file → ⊥) → HasOwn done file now → HasOwn (done ++ m ∷ []) file next
+  stays file other own =
+      let left = one.others own.0.file (λ same. other (sym own.2 ∙ same)) in (
+        own.0,
+        Contains-append_left done (m ∷ []) own.0 own.1,
+        own.2,
+        record { descriptor = left.descriptor ∙ own.3.descriptor; kept = left.kept ∙ own.3.kept },
+      )
 
-pub one_more_put : (done : List (Option (Box Made))) (made : Option (Box Made)) (old now next : Descriptors) → ArePutSoFar done old now → IsPutAlone made (length done) now next → ArePutSoFar (done ++ made ∷ []) old next
-one_more_put done made old now next so_far one =
-    let still : Each (λ k o. IsPut o k old next) done = λ k o l. then_left (get_or done k o) k old now next (so_far.put.each k o l) (one.others k (λ e. omega (arith, l, e))) in
-    record {
-      put = record {
-        files = one.files ∙ so_far.put.files;
-        kept = one.kept ∙ so_far.put.kept;
-        each = each_pushed (λ k o. IsPut o k old next) done (done ++ made ∷ []) made (length done) refl refl still (left_then made (length done) old now next (so_far.left (length done) (omega arith)) one.there);
-      };
-      left = λ k l. (
-          let far : length done < k = omega (arith, l, length-append done (made ∷ [])) in
-          then_left None k old now next (so_far.left k (omega (arith, far))) (one.others k (λ e. omega (arith, far, e))));
-    }
+  more : (file : ℕ) → Contains (files_made done ++ m.file ∷ []) file → Contains (files_made (done ++ m ∷ [])) file
+  more file c = subst (λ ns. Contains ns file) (sym (one_more done m)) c
+
+  pub one_more_put : ArePut (done ++ m ∷ []) old next
+  one_more_put = record {
+    as_many = record {
+      descriptors = one.as_many.descriptors ∙ so_far.as_many.descriptors;
+      kept = one.as_many.kept ∙ so_far.as_many.kept;
+    };
+    there = λ file c. elim (cases_eq file m.file) [
+      | inl same ↦ (m, Contains-append_right done (m ∷ []) m (contains_head m []), sym same, one.there)
+      | inr other ↦ stays file other (so_far.there file (before file other c))
+    ];
+    others = λ file none. (
+        let was = so_far.others file (λ c. none (more file (Contains-append_left (files_made done) (m.file ∷ []) file c))) in
+        let is = one.others file (λ same. none (more file (Contains-append_right (files_made done) (m.file ∷ []) file (subst (λ n. Contains (m.file ∷ []) n) (sym same) (contains_head m.file []))))) in
+        record { descriptor = is.descriptor ∙ was.descriptor; kept = is.kept ∙ was.kept });
+  }

@@ -1,9 +1,11 @@
 -- What is made anew of edited files, beside what was made of the files that the edit does not
 -- affect, is what is made of all files, and no file has a flaw.
-use Rattle.std.proofs.Common.{◌≡◌, ℕ, zero, suc, ◌+◌, ◌<◌, Bool, true, false, List, [], ◌∷◌, ◌++◌, length, get_or, map, Option, Some, None, option_map, slice_get, sym, refl, ap, ap₂, subst, ◌∙◌, inl, inr, arith, Contains, true≢false}
-use Rattle.std.specs.Global.{Box}
-use Rattle.proto_base.proofs.Common.{cases_Bool, get_or-map, get_or_from_slice_get, length-map, slice_get-get_or}
+use Rattle.std.proofs.Common.{◌≡◌, ℕ, zero, suc, ◌+◌, ◌<◌, Bool, true, false, List, [], ◌∷◌, ◌++◌, length, get_or, map, Option, Some, None, option_map, slice_get, sym, refl, ap, ap₂, subst, ◌∙◌, inl, inr, arith, All, Contains, true≢false}
+use Rattle.std.proofs.lemmas.List.Elements.{All-contains, Contains-get_or}
+use Rattle.proto_base.proofs.Common.{cases_Bool, contains_map, from_map, get_or-map, get_or_from_slice_get, length-map, slice_get-get_or}
 use Rattle.std.proofs.lemmas.Option.{slice_get-map}
+use Rattle.proto_file_sets.specs.FileSets.{files_in}
+use Rattle.proto_file_sets.proofs.Members.{file_is_listed, in_within, listed_files}
 use Rattle.proto_files.proofs.Common.{AreRead, FileOf, HasNoFault, ReadOf, read_at}
 use Rattle.proto_desc_numbers.specs.declared.flaw.Flaw.{Flaw}
 use Rattle.proto_names_imports.specs.Links.{LinkFaults}
@@ -11,6 +13,8 @@ use Rattle.proto_names_update.specs.Edited.{AreSameBut}
 use Rattle.proto_descriptors.proofs.Common.{FileDesc, file_desc}
 use Rattle.proto_descriptors.specs.declared.file.FileDescriptor.{FileDescriptor}
 use Rattle.proto_resolved.specs.LinkOfFiles.{IsLinkOf}
+use Rattle.proto_resolved.specs.SceneOf.{scene_of}
+use Rattle.proto_desc_checks.specs.FileFlaws.{file_flaws}
 use Rattle.proto_names.specs.Following.{WasMadeOf}
 use Rattle.proto_names.specs.Linking.{LinkOf}
 use Rattle.proto_desc_extensions.proofs.NoExtensions.{no_flaw}
@@ -22,7 +26,7 @@ use Rattle.proto_desc_affected.specs.declared.file_summary.FileSummary.{FileSumm
 use Rattle.proto_desc.specs.Checked.{AreDescribed}
 use Rattle.proto_desc.specs.Common.{CheckFaults, described_from, fault_of_flaw, flaws_of, of_flaw}
 use Rattle.proto_desc.specs.Edited.{AreCheckedDescriptors, AreDescriptorsOf, WereDescribed}
-use Rattle.proto_desc.specs.Renewing.{AreMade, ArePut, IsMade, IsMadeIfMarked, IsPut}
+use Rattle.proto_desc.specs.Renewing.{AreMade, ArePut, IsMade, files_made}
 use Rattle.proto_desc.specs.Views.{files_desc, files_kept}
 use Rattle.proto_desc.specs.Whole.FileFaults.{of_check, of_link}
 use Rattle.proto_desc.specs.declared.descriptors.Descriptors.{Descriptors}
@@ -68,18 +72,6 @@ clean_files : (files : List FileOf) → ((reads : List ReadOf) → AreRead files
 clean_files files none y (of_flaw reads file f are within c) =
     let there : Contains [] f = subst (λ (fs : List Flaw). Contains fs f) (none reads are file within) c in
     omega (arith, there.1)
-
--- ---- what was made
-
-made_of : (files : List FileOf) (b : Bool) (file : ℕ) (o : Option (Box Made)) → IsMadeIfMarked files b file o → b ≡ true → (m : Box Made) × (o ≡ Some m) × IsMade files file m.value
-made_of files true file None h e = absurd h
-made_of files true file (Some m) h e = (m, refl, h)
-made_of files false file o h e = absurd (true≢false (sym e))
-
-made_none : (files : List FileOf) (b : Bool) (file : ℕ) (o : Option (Box Made)) → IsMadeIfMarked files b file o → b ≡ false → o ≡ None
-made_none files true file o h e = absurd (true≢false e)
-made_none files false file None h e = refl
-made_none files false file (Some m) h e = absurd h
 
 -- ---- the edit
 
@@ -157,30 +149,37 @@ module _ (tells : KeptFilesTellUnaffected) (places : List ℕ) (before : List Fi
     ];
   }
 
-  module _ (all : List (Option (Box Made))) (made : AreMade files marks all) where
-    -- what was made of a marked file
-    made_at : (file : ℕ) → file < length files → get_or marks file false ≡ true → (m : Box Made) × (get_or all file None ≡ Some m) × IsMade files file m.value
-    made_at file within marked = made_of files (get_or marks file false) file (get_or all file None) (made.each file None (omega (arith, within, made.len))) marked
+  module _ (all : List Made) (made : AreMade files (files_in marks) all) where
+    made_is : (m : Made) → Contains all m → IsMade files m
+    made_is m there = All-contains (IsMade files) all m made.each there
+
+    -- of a marked file something was made
+    marked_made : (file : ℕ) → get_or marks file false ≡ true → Contains (files_made all) file
+    marked_made file marked = subst (λ ns. Contains ns file) (sym made.numbers) (file_is_listed marks file (in_within marks file marked) marked)
+
+    -- of another nothing
+    unmarked_none : (file : ℕ) → get_or marks file false ≡ false → Contains (files_made all) file → ⊥
+    unmarked_none file unmarked c = true≢false (sym ((listed_files marks file).0 (subst (λ ns. Contains ns file) made.numbers c)).1 ∙ unmarked)
+
+    flawless_made : (file : ℕ) → get_or marks file false ≡ true → file_flaws (scene_of None files reads file) (read_at reads file).tree ≡ []
+    flawless_made file marked =
+        let own = from_map (λ (m : Made). m.file) all file (marked_made file marked) in
+        subst (λ k. file_flaws (scene_of None files reads k) (read_at reads k).tree ≡ []) own.2 ((made_is own.0 own.1).flawless reads sound.edited.are_read)
 
     flawless : UnaffectedFilesStayFlawless → HasNoFault (CheckFaults before) → (file : ℕ) → file < length files → flaws_of files reads file ≡ []
     flawless stay clean_before file within = elim (cases_Bool (get_or marks file false)) [
-      | inl marked ↦ ap₂ (λ (own others : List Flaw). own ++ others) ((made_at file within marked).2.flawless reads sound.edited.are_read) (no_flaw None files reads file (has_none file within marked).1)
+      | inl marked ↦ ap₂ (λ (own others : List Flaw). own ++ others) (flawless_made file marked) (no_flaw None files reads file (has_none file within marked).1)
       | inr unmarked ↦ stay places before was files reads sound extends_are_unaffected file (stays file within unmarked).unaffected (clean_file before clean_before was were file (was_within file within))
     ]
 
     module _ (new : Descriptors) (put : ArePut all old new) where
-      put_at : (file : ℕ) → file < length files → (o : Option (Box Made)) → get_or all file None ≡ o → IsPut o file old new
-      put_at file within o e = subst (λ (x : Option (Box Made)). IsPut x file old new) e (put.each file None (omega (arith, within, made.len)))
-
-      put_none : (file : ℕ) → file < length files → get_or marks file false ≡ false → IsPut None file old new
-      put_none file within unmarked = put_at file within None (made_none files (get_or marks file false) file (get_or all file None) (made.each file None (omega (arith, within, made.len))) unmarked)
-
       described_now : UnaffectedDescriptorsStay → AreDescribed before (files_desc old) → (file : ℕ) → file < length files → slice_get (files_desc new) file ≡ Some (described_at files reads file (read_at reads file).tree)
       described_now stay were_described file within = slice_get-map file_desc new.file.items file ∙ elim (cases_Bool (get_or marks file false)) [
-        | inl marked ↦ (let m = made_at file within marked in
-            ap (option_map file_desc) (put_at file within (Some m.0) m.1).0 ∙ ap (λ (d : FileDesc). Some d) (m.2.described reads sound.edited.are_read))
+        | inl marked ↦ (let own = put.there file (marked_made file marked) in
+            subst (λ k. option_map file_desc (slice_get new.file.items k) ≡ Some (described_at files reads k (read_at reads k).tree)) own.2
+            (ap (option_map file_desc) own.3.descriptor ∙ ap (λ (d : FileDesc). Some d) ((made_is own.0 own.1).described reads sound.edited.are_read)))
         | inr unmarked ↦
-            ap (option_map file_desc) (put_none file within unmarked).0
+            ap (option_map file_desc) (put.others file (unmarked_none file unmarked)).descriptor
             ∙ sym (slice_get-map file_desc old.file.items file)
             ∙ one_described before was (files_desc old) were were_described file (was_within file within)
             ∙ ap (λ (d : FileDesc). Some d) (sym (stay places before was files reads sound file (stays file within unmarked).unaffected None))
@@ -188,10 +187,11 @@ module _ (tells : KeptFilesTellUnaffected) (places : List ℕ) (before : List Fi
 
       kept_now : (file : ℕ) → file < length files → slice_get (files_kept new) file ≡ Some (file_summary files reads file)
       kept_now file within = slice_get-map file_summary_of new.kept.items file ∙ elim (cases_Bool (get_or marks file false)) [
-        | inl marked ↦ (let m = made_at file within marked in
-            ap (option_map file_summary_of) (put_at file within (Some m.0) m.1).1 ∙ ap (λ (k : FileSummaryOf). Some k) (m.2.kept reads sound.edited.are_read))
+        | inl marked ↦ (let own = put.there file (marked_made file marked) in
+            subst (λ k. option_map file_summary_of (slice_get new.kept.items k) ≡ Some (file_summary files reads k)) own.2
+            (ap (option_map file_summary_of) own.3.kept ∙ ap (λ (k : FileSummaryOf). Some k) ((made_is own.0 own.1).kept reads sound.edited.are_read)))
         | inr unmarked ↦
-            ap (option_map file_summary_of) (put_none file within unmarked).1
+            ap (option_map file_summary_of) (put.others file (unmarked_none file unmarked)).kept
             ∙ sym (slice_get-map file_summary_of old.kept.items file)
             ∙ slice_get-get_or (files_kept old) file nothing_kept (omega (arith, was_within file within, kept.len))
             ∙ ap (λ (k : FileSummaryOf). Some k) (kept_before file within ∙ sym (stays file within unmarked).kept)
@@ -206,7 +206,7 @@ pub record AreLaws : Type 0 where
   pub flawless : UnaffectedFilesStayFlawless
 
 module _ (laws : AreLaws) (places : List ℕ) (files : List FileOf) (clean : HasNoFault (LinkFaults files)) (told : Option (List Bool)) (old : Descriptors) (was : WasMade files places told old)
-    (l : LinkOf) (marks : List Bool) (are : AreMarks places files l (files_kept old) marks) (all : List (Option (Box Made))) (made : AreMade files marks all) where
+    (l : LinkOf) (marks : List Bool) (are : AreMarks places files l (files_kept old) marks) (all : List Made) (made : AreMade files (files_in marks) all) where
   is_sound : (reads : List ReadOf) → AreRead files reads → AreSoundlyEdited places was.before was.reads files reads
   is_sound reads read = laws.sound places was.before was.reads files reads (record { same = was.same; were_read = was.read; are_read = read }) was.clean clean
 
@@ -219,7 +219,7 @@ module _ (laws : AreLaws) (places : List ℕ) (files : List FileOf) (clean : Has
 
     renewed_kept : AreKeptOf files (files_kept new)
     renewed_kept =
-        let n : length (files_kept new) ≡ length files = length-map new.kept.items file_summary_of ∙ put.kept ∙ as_many_kept was.before old.kept.items was.made.0.kept ∙ count in
+        let n : length (files_kept new) ≡ length files = length-map new.kept.items file_summary_of ∙ put.as_many.kept ∙ as_many_kept was.before old.kept.items was.made.0.kept ∙ count in
         record {
           len = n;
           each = λ file k within reads read.
@@ -229,12 +229,12 @@ module _ (laws : AreLaws) (places : List ℕ) (files : List FileOf) (clean : Has
 
     renewed_described : AreDescribed files (files_desc new)
     renewed_described = λ reads read.
-        each_described files reads new.file.items read (put.files ∙ as_many_described was.before was.reads old.file.items was.read was.made.0.described ∙ count)
+        each_described files reads new.file.items read (put.as_many.descriptors ∙ as_many_described was.before was.reads old.file.items was.read was.made.0.described ∙ count)
         (described_now laws.tells places was.before was.reads files reads (is_sound reads read) was.clean l old was.made.0.kept marks are all made new put laws.described was.made.0.described)
 
 -- what was made and put, beside what was unaffected, is what is made of the files, which have no
 -- flaw
-pub renewed : AreLaws → (places : List ℕ) (files : List FileOf) → HasNoFault (LinkFaults files) → (told : Option (List Bool)) (old new : Descriptors) → WasMade files places told old → (l : LinkOf) (marks : List Bool) → AreMarks places files l (files_kept old) marks → (all : List (Option (Box Made))) → AreMade files marks all → ArePut all old new → HasNoFault (CheckFaults files) × AreDescriptorsOf files new
+pub renewed : AreLaws → (places : List ℕ) (files : List FileOf) → HasNoFault (LinkFaults files) → (told : Option (List Bool)) (old new : Descriptors) → WasMade files places told old → (l : LinkOf) (marks : List Bool) → AreMarks places files l (files_kept old) marks → (all : List Made) → AreMade files (files_in marks) all → ArePut all old new → HasNoFault (CheckFaults files) × AreDescriptorsOf files new
 renewed laws places files clean told old new was l marks are all made put = (
   renewed_clean laws places files clean told old was l marks are all made,
   record {
@@ -242,3 +242,10 @@ renewed laws places files clean told old new was l marks are all made put = (
     kept = renewed_kept laws places files clean told old was l marks are all made new put;
   },
 )
+
+-- what was made is of files of which there are descriptors
+pub made_within : (files : List FileOf) (marks : List Bool) (all : List Made) → length marks ≡ length files → AreMade files (files_in marks) all → (n : ℕ) → n ≡ length files → All (λ (m : Made). m.file < n) all
+made_within files marks all len made n as_many = λ k d l.
+    (let m = get_or all k d in
+    let listed = subst (λ ns. Contains ns m.file) made.numbers (contains_map (λ (m : Made). m.file) all m (Contains-get_or all k d l)) in
+    omega (arith, ((listed_files marks m.file).0 listed).0, len, as_many))

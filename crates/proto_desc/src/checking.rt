@@ -20,7 +20,6 @@ ghost use Rattle.proto_desc_affected.specs.Checked.{AreKeptOf};
 use crate::described::file_descriptor;
 use crate::descriptors::Descriptors;
 use crate::json_form::{close, push_file};
-use indexmap::IndexMap;
 use proto_ast::Scene;
 use proto_base::{NoMemory, SchemaFault};
 use proto_desc_affected::file_summaries;
@@ -28,7 +27,7 @@ use proto_desc_checks::{Flaw, file_flaws, least};
 use proto_desc_extensions::workspace_flaws;
 use proto_descriptors::FileDescriptor;
 use proto_files::{Files, fault_at_token};
-use proto_resolved::enum_table::{EnumRow, enum_table};
+use proto_resolved::enum_table::{EnumTable, enum_table};
 use proto_resolved::scenes::scenes;
 use proto_resolved::{Link, Linked};
 use proto_tree::File;
@@ -130,7 +129,7 @@ fn descriptors(
 fn describe_with(
     alloc: Global,
     linked: &Linked<'_>,
-    table: &[IndexMap<u32, EnumRow>],
+    table: &EnumTable,
 ) -> Result<Vec<FileDescriptor>, SchemaFault>
     requires { IsEnumTable linked.now.files table.now }
     ensures clean { IfOk result (λ _. HasNoFault (CheckFaults linked.now.files)) }
@@ -189,11 +188,7 @@ fn json_of(alloc: Global, linked: &Linked<'_>, scenes: &[Scene]) -> Result<Strin
 }
 
 /// The same where the checks find no fault, with the enums of all files.
-fn print_with(
-    alloc: Global,
-    linked: &Linked<'_>,
-    table: &[IndexMap<u32, EnumRow>],
-) -> Result<String, SchemaFault>
+fn print_with(alloc: Global, linked: &Linked<'_>, table: &EnumTable) -> Result<String, SchemaFault>
     requires { IsEnumTable linked.now.files table.now }
     ensures clean { IfOk result (λ _. HasNoFault (CheckFaults linked.now.files)) }
     ensures text { IfOk result (λ text. IsJsonOf linked.now.files (string_bytes text)) }
@@ -218,7 +213,7 @@ pub(crate) fn print(alloc: Global, linked: &Linked<'_>) -> Result<String, Schema
 fn pass_checks_with(
     alloc: Global,
     linked: &Linked<'_>,
-    table: &[IndexMap<u32, EnumRow>],
+    table: &EnumTable,
 ) -> Result<(), SchemaFault>
     requires { IsEnumTable linked.now.files table.now }
     ensures clean { IfOk result (λ _. HasNoFault (CheckFaults linked.now.files)) }

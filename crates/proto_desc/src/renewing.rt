@@ -1,9 +1,9 @@
 //! Descriptors of edited files, made anew as far as the edit affects them.
 
-ghost use Rattle.std.specs.Prelude.{◌≡◌, ℕ, ◌<◌, true, false, length, get_or, option_map, All, IfOk, OnErr, OnOk};
+ghost use Rattle.std.specs.Prelude.{◌≡◌, ◌<◌, length, option_map, All, IfOk, OnErr, OnOk};
 ghost use Rattle.proto_desc.specs.Checked.{CheckFaults};
 ghost use Rattle.proto_desc.specs.Edited.{AreCheckedDescriptors, AreDescriptorsOf};
-ghost use Rattle.proto_desc.specs.Renewing.{AreMade, ArePut, IsMade, IsPutAlone};
+ghost use Rattle.proto_desc.specs.Renewing.{AreMade, ArePut, IsMade, IsPut};
 ghost use Rattle.proto_desc.specs.Views.{files_kept};
 ghost use Rattle.proto_files.specs.Faults.{HasNoFault};
 ghost use Rattle.proto_names.specs.Following.{WasMadeOf};
@@ -12,7 +12,6 @@ ghost use Rattle.proto_desc_affected.specs.Marks.{AreOthersKept};
 
 use crate::described::file_descriptor;
 use crate::descriptors::Descriptors;
-use indexmap::IndexMap;
 use proto_base::NoMemory;
 use proto_desc_affected::FileSummary;
 use proto_desc_affected::laws::{
@@ -26,15 +25,16 @@ use proto_desc_checks::file_flaws;
 use proto_descriptors::FileDescriptor;
 use proto_file_sets::FileSet;
 use proto_names_update::NotUpdated;
-use proto_resolved::enum_table::{EnumRow, enum_table_of};
+use proto_resolved::enum_table::{EnumTable, enum_table_of};
 use proto_resolved::scenes::scene;
 use proto_resolved::{CleanLinked, Linked};
 use std::alloc::Global;
-use std::hash::{BuildHasherDefault, FoldHasher};
 
-/// The descriptor of a file that was checked again, and what is kept of it.
+/// What was made of a file that was checked again: its descriptor, and what is kept of it.
 #[derive(Drop)]
 pub(crate) struct Made {
+    /// The number of the file.
+    file: u32,
     descriptor: FileDescriptor,
     kept: FileSummary,
 }
@@ -44,12 +44,13 @@ pub(crate) struct Made {
 fn check_again(
     alloc: Global,
     linked: &Linked<'_>,
-    table: &[IndexMap<u32, EnumRow>],
+    table: &EnumTable,
     file: u32,
 ) -> Result<Made, NotUpdated>
     requires file { file < length linked.now.files }
     requires table { HasEnumsMeant linked.now.files linked.now.link file table.now }
-    ensures { IfOk result (IsMade linked.now.files file) }
+    ensures file { IfOk result (λ made. made.file ≡ file) }
+    ensures made { IfOk result (IsMade linked.now.files) }
 {
     let files = linked.files();
     let scene = scene(alloc, linked, table, file)?;
@@ -60,61 +61,57 @@ fn check_again(
     }
     let descriptor = file_descriptor(alloc, &scene, files.path(file), tree)?;
     let kept = FileSummary::new(alloc, linked, file)?;
-    Ok(Made { descriptor, kept })
+    Ok(Made {
+        file,
+        descriptor,
+        kept,
+    })
 }
 
-/// Checks the affected files again, which have no `extend` block, and describes them: for each file
-/// in the order of their paths what was made of it, or nothing where it is not affected. A rebuild
-/// is needed where one has a flaw. What is made is boxed, so that a file of which nothing is made
-/// takes one word.
+/// Checks these files again, which have no `extend` block, and describes them: what was made of
+/// each, in order. A rebuild is needed where one has a flaw.
 fn check_affected(
     alloc: Global,
     linked: &Linked<'_>,
-    table: &[IndexMap<u32, EnumRow>],
-    affected: &FileSet,
-) -> Result<Vec<Option<Box<Made>>>, NotUpdated>
-    requires table { (file : ℕ) → file < length linked.now.files
-        → get_or affected.now file false ≡ true
-        → HasEnumsMeant linked.now.files linked.now.link file table.now }
+    table: &EnumTable,
+    affected: &[u32],
+) -> Result<Vec<Made>, NotUpdated>
+    requires files { All (λ file. file < length linked.now.files) affected.now }
+    requires table { All (λ file. HasEnumsMeant linked.now.files linked.now.link file table.now)
+        affected.now }
     ensures { IfOk result (λ made. AreMade linked.now.files affected.now made.items) }
 {
-    let mut all = Vec::with_capacity(alloc, linked.file_count())?;
-    for file in 0..linked.file_count() as u32 {
-        if affected.contains(file) {
-            let made = check_again(alloc, linked, table, file)?;
-            let boxed = Box::new(alloc, made)?;
-            all.push(Some(boxed))?;
-        } else {
-            all.push(None)?;
-        }
+    let mut all = Vec::with_capacity(alloc, affected.len())?;
+    for file in affected {
+        all.push(check_again(alloc, linked, table, *file)?)?;
     }
     Ok(all)
 }
 
 impl Descriptors {
-    /// Puts what was made of a file, if something was, in place of what was there. Takes no memory.
-    fn put_one(&mut self, file: usize, made: Option<Box<Made>>)
-        requires file { file < length self.old.file.items }
-        requires kept { file < length self.old.kept.items }
-        ensures { IsPutAlone made file self.old self.new }
+    /// Puts what was made of a file in place of what was there. Takes no memory.
+    fn put_one(&mut self, made: Made)
+        requires file { made.file < length self.old.file.items }
+        requires kept { made.file < length self.old.kept.items }
+        ensures { IsPut made self.old self.new }
     {
-        if let Some(made) = made {
-            let Made { descriptor, kept } = Box::into_inner(made);
-            self.file[file] = descriptor;
-            self.kept[file] = kept;
-        }
+        let Made {
+            file,
+            descriptor,
+            kept,
+        } = made;
+        self.file[file as usize] = descriptor;
+        self.kept[file as usize] = kept;
     }
 
     /// Puts what was made of files in place of what was there. Takes no memory.
-    fn put(&mut self, all: Vec<Option<Box<Made>>>)
-        requires file { length all.items ≡ length self.old.file.items }
-        requires kept { length all.items ≡ length self.old.kept.items }
+    fn put(&mut self, all: Vec<Made>)
+        requires file { All (λ made. made.file < length self.old.file.items) all.items }
+        requires kept { All (λ made. made.file < length self.old.kept.items) all.items }
         ensures { ArePut all.items self.old self.new }
     {
-        let mut file = 0;
         for made in all {
-            self.put_one(file, made);
-            file += 1;
+            self.put_one(made);
         }
     }
 
@@ -167,15 +164,18 @@ impl Descriptors {
         clean_edits_are_sound();
         kept_files_tell_unaffected();
         unaffected_files_stay();
-        wanted_enums_are_there::<BuildHasherDefault<FoldHasher>>();
+        wanted_enums_are_there();
         let files = clean.files();
         let affected = self.affected(alloc, clean, places, told)?;
-        if !has_no_marked_extends(files, &affected, &self.kept) {
+        if !has_no_marked_extends(alloc, files, &affected, &self.kept)? {
             return Err(NotUpdated::NeedsRebuild);
         }
         let wanted = files_of_enums(alloc, files, clean.link(), &affected)?;
         let table = enum_table_of(alloc, files, &wanted)?;
-        let all = check_affected(alloc, clean.linked(), &table, &affected)?;
+        // The files are few, so that those of the set can be listed.
+        clean.file_count();
+        let listed = affected.files(alloc)?;
+        let all = check_affected(alloc, clean.linked(), &table, &listed)?;
         self.put(all);
         Ok(())
     }

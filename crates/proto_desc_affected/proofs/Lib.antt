@@ -1,3 +1,4 @@
+mod AskedFiles
 mod Checked
 mod Declared
 mod EnumsByLink

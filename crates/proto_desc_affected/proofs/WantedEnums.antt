@@ -1,6 +1,5 @@
 -- A table of the enums of wanted files has those that references of marked files mean.
 use Rattle.std.proofs.Common.{◌≡◌, ℕ, ◌≤◌, Bool, true, false, if◌then◌else◌, List, [], length, get_or, Option, Some, None, option_map, option_and_then, find, refl, sym, ap, ◌∙◌, inl, inr, arith}
-use Rattle.indexmap.specs.IndexMap.{IndexMap}
 use Rattle.proto_base.proofs.Common.{cases_lt, false≢true, get_or_past}
 use Rattle.proto_tree.proofs.Common.{End}
 use Rattle.proto_files.proofs.Common.{AreRead, FileOf, ReadOf}
@@ -9,7 +8,7 @@ use Rattle.proto_ast.proofs.Common.{EnumOf, blocks_in}
 use Rattle.proto_names.proofs.Common.{LinkOf, declaring_file, declaring_token}
 use Rattle.proto_names.specs.Linking.{Meant}
 use Rattle.proto_resolved.specs.Common.{IsEnumTableOf, enum_at, enum_in, enum_of_name, enum_within, is_enum_at, is_proto3_file, lexemes_of}
-use Rattle.proto_resolved.specs.declared.enum_table.EnumRow.{EnumRow}
+use Rattle.proto_resolved.specs.declared.enum_table.EnumTable.{EnumTable}
 use Rattle.proto_desc_affected.specs.Checked.{MeantMessagesAreNoEnums, kept_by_link}
 use Rattle.proto_desc_affected.specs.Common.{IsEnumMarked, WantedEnumsAreThere}
 
@@ -23,8 +22,8 @@ none_past files reads a past =
 abbrev enum_there : (At → Option EnumOf) → Option ℕ → Option ℕ → Option EnumOf
 enum_there enum file token = option_and_then (λ g. option_and_then (λ t. enum (at g t)) token) file
 
-module _ {S : Type 0} (files : List FileOf) (reads : List ReadOf) (are : AreRead files reads) (l : LinkOf) (wanted : List Bool) (len : length wanted ≡ length files)
-    (table : List (IndexMap ℕ EnumRow S)) (of : IsEnumTableOf files wanted table) (m : Meant) (asked : IsEnumMarked l wanted m)
+module _ (files : List FileOf) (reads : List ReadOf) (are : AreRead files reads) (l : LinkOf) (wanted : List Bool) (len : length wanted ≡ length files)
+    (table : EnumTable) (of : IsEnumTableOf files wanted table) (m : Meant) (asked : IsEnumMarked l wanted m)
     (no_enum : (kept_by_link l m).is_message ≡ true → enum_of_name l (enum_at files reads) m.row ≡ None) where
   -- where a file declares what the reference means, at some token
   at_token : (g t : ℕ) → declaring_file l m.row ≡ Some g → enum_of_name l (enum_at files reads) m.row ≡ enum_at files reads (at g t) → enum_in table (at g t) ≡ enum_at files reads (at g t)
@@ -47,8 +46,8 @@ module _ {S : Type 0} (files : List FileOf) (reads : List ReadOf) (are : AreRead
   same_enum (Some g) e (Some t) h =
       at_token g t e (ap (λ (o : Option ℕ). enum_there (enum_at files reads) o (declaring_token l m.row)) e ∙ ap (enum_there (enum_at files reads) (Some g)) h)
 
-pub wanted_enums_are_there : {S : Type 0} → MeantMessagesAreNoEnums → WantedEnumsAreThere S
-wanted_enums_are_there {S} no_enums files l link marks wanted enums table of file within marked reads are = λ k m n.
+pub wanted_enums_are_there : MeantMessagesAreNoEnums → WantedEnumsAreThere
+wanted_enums_are_there no_enums files l link marks wanted enums table of file within marked reads are = λ k m n.
     (let one = get_or (get_or l.meant file []) k m in
     same_enum files reads are l wanted enums.len table of one (enums.each file within marked k m n) (no_enums files l link reads are file within k m n)
     (declaring_file l one.row) refl (declaring_token l one.row) refl)

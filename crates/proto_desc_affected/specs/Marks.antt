@@ -1,7 +1,6 @@
 -- Marks of files, one for each: those that an edit affects, and those whose enums they mean.
 use Rattle.std.specs.Prelude.{◌≡◌, ◌⊎◌, ℕ, ◌<◌, Bool, true, false, not, ◌||◌, List, [], length, get_or, Option, Some, option_map}
 use Rattle.std.specs.List.{All}
-use Rattle.indexmap.specs.IndexMap.{IndexMap}
 use Rattle.proto_files.specs.Faults.{HasNoFault}
 use Rattle.proto_files.specs.FilesRead.{AreRead, ReadOf, read_at}
 use Rattle.proto_files.specs.GivenFiles.{FileOf}
@@ -13,7 +12,7 @@ use Rattle.proto_names.specs.Linking.{LinkOf, Meant, RefId, declaring_file, name
 use Rattle.proto_names.specs.Referring.{word_key}
 use Rattle.proto_resolved.specs.Enums.{IsEnumTableOf}
 use Rattle.proto_resolved.specs.Meanings.{HasEnumsMeant}
-use Rattle.proto_resolved.specs.declared.enum_table.EnumRow.{EnumRow}
+use Rattle.proto_resolved.specs.declared.enum_table.EnumTable.{EnumTable}
 use Rattle.proto_desc_extensions.specs.Extends.{has_extend}
 use Rattle.proto_desc_affected.specs.Checked.{AreKeptOf, IsKeptStill, FileSummaryOf, is_message_kind, kept_by_link, nothing_kept}
 use Rattle.proto_desc_affected.specs.StillEnums.{is_still_to}
@@ -99,10 +98,10 @@ pub record AreEnumsMarked (files : List FileOf) (l : LinkOf) (marks wanted : Lis
       → All (IsEnumMarked l wanted) (get_or l.meant file [])
 
 -- then a table of the enums of the wanted files has those that a marked file's references mean
-abbrev pub WantedEnumsAreThere : Type 0 → Type 0
-WantedEnumsAreThere S =
+abbrev pub WantedEnumsAreThere : Type 0
+WantedEnumsAreThere =
     (files : List FileOf) (l : LinkOf) → IsLinkOf files l
     → (marks wanted : List Bool) → AreEnumsMarked files l marks wanted
-    → (table : List (IndexMap ℕ EnumRow S)) → IsEnumTableOf files wanted table
+    → (table : EnumTable) → IsEnumTableOf files wanted table
     → (file : ℕ) → file < length files → IsMarked marks file
     → HasEnumsMeant files l file table

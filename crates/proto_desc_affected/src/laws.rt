@@ -65,10 +65,9 @@ pub fn marks_tell_kept()
 }
 
 /// A table of the enums of wanted files has each enum that a reference of a marked file means,
-/// where each file is wanted that declares what these mean, messages left out. The table is of maps
-/// with hashers of this type.
-pub fn wanted_enums_are_there<S>()
-    ensures { WantedEnumsAreThere S }
+/// where each file is wanted that declares what these mean, messages left out.
+pub fn wanted_enums_are_there()
+    ensures { WantedEnumsAreThere }
 {
     links_have_what_is_kept();
 }

@@ -1,7 +1,7 @@
 //! The files that an edit affects, and those whose enums they mean.
 
-ghost use Rattle.std.specs.Prelude.{◌≡◌, ◌↔◌, ◌⊎◌, ◌||◌, ℕ, ◌<◌, List, [], true, false, length, get_or, map, nat_eq, option_map, slice_get, Some, IfOk, IfSome};
-ghost use Rattle.std.specs.List.{All};
+ghost use Rattle.std.specs.Prelude.{◌≡◌, ◌↔◌, ◌⊎◌, ◌||◌, ℕ, ◌^◌, ◌<◌, ◌≤◌, List, [], true, false, length, get_or, map, nat_eq, option_map, slice_get, Some, IfOk, IfSome};
+ghost use Rattle.std.specs.List.{All, Contains};
 ghost use Rattle.indexmap.specs.IndexMap.{get};
 ghost use Rattle.proto_desc_extensions.specs.Extends.{has_extend};
 ghost use Rattle.proto_files.specs.FilesRead.{AreRead, ReadOf, read_at};
@@ -128,26 +128,18 @@ fn is_kept_still(
     !edited.contains(file) && are_meant_still(link, edited, still, kept, link.meant_in(file))
 }
 
-/// Whether a file is not unsure, or is not edited and its references mean what is kept of
-/// them.
-fn is_left_out(
-    link: &Link,
-    edited: &FileSet,
-    still: &IndexMap<usize, bool>,
-    unsure: &FileSet,
-    kept: &FileSummary,
-    file: u32,
-) -> bool
-    ensures { result ≡ true → (get_or unsure.now file false ≡ false) ⊎ ((places : List ℕ)
-        → ArePlacesMarked edited.now places → (files : List FileOf) (ks : List FileSummaryOf)
-        → AreStillEnums files link.now ks (get nat_eq still.now)
-        → file < length files → get_or ks file nothing_kept ≡ file_summary_of kept.now
-        → IsKeptStill places files link.now ks file) }
+/// The files of the set among so many, by their numbers, in order. Fails only when out of memory.
+fn files_among(alloc: Global, set: &FileSet, file_count: usize) -> Result<Vec<u32>, NoMemory>
+    requires few { file_count ≤ 2 ^ 32 }
+    ensures within { IfOk result (λ listed. All (λ file. file < file_count) listed.items) }
+    ensures marked { IfOk result (λ listed. All (IsMarked set.now) listed.items) }
+    ensures whole { IfOk result (λ listed. (file : ℕ) → file < file_count
+        → IsMarked set.now file → Contains listed.items file) }
 {
-    if !unsure.contains(file) {
-        return true;
-    }
-    is_kept_still(link, edited, still, kept, file)
+    let mut among = FileSet::new(alloc, file_count)?;
+    let none = FileSet::new(alloc, 0)?;
+    among.add_new(set, &none);
+    among.files(alloc)
 }
 
 /// What is kept of files, and the enums of edited files that are what is kept of them, as
@@ -178,13 +170,15 @@ fn unsure_to_check(
         linked.now.link (file_summaries_of kept.entry.files.now) unsure.now affected) }
 {
     let link = linked.link();
-    let mut edited = FileSet::new(alloc, linked.file_count())?;
+    let file_count = linked.file_count();
+    let mut edited = FileSet::new(alloc, file_count)?;
     mark_places(&mut edited, places);
-    let mut affected = FileSet::new(alloc, linked.file_count())?;
-    for file in 0..linked.file_count() as u32 {
-        let own = &kept.files[file as usize];
-        if !is_left_out(link, &edited, kept.still, unsure, own, file) {
-            affected.insert(file);
+    let mut affected = FileSet::new(alloc, file_count)?;
+    let asked = files_among(alloc, unsure, file_count)?;
+    for file in &asked {
+        let own = &kept.files[*file as usize];
+        if !is_kept_still(link, &edited, kept.still, own, *file) {
+            affected.insert(*file);
         }
     }
     Ok(affected)
@@ -345,18 +339,25 @@ fn has_or_had_extend(files: &Files, kept: &FileSummary, file: u32) -> bool
 }
 
 /// Whether no file of the set has an `extend` block, and none had one, by what is kept of them.
-/// Takes no memory.
-pub fn has_no_marked_extends(files: &Files, marks: &FileSet, kept: &[FileSummary]) -> bool
+/// Fails only when out of memory.
+pub fn has_no_marked_extends(
+    alloc: Global,
+    files: &Files,
+    marks: &FileSet,
+    kept: &[FileSummary],
+) -> Result<bool, NoMemory>
     requires paired { length kept.now ≡ length files.now }
-    ensures { (result ≡ true) ↔ HasNoMarkedExtends files.now (file_summaries_of kept.now) marks.now }
+    ensures { IfOk result (λ none. (none ≡ true)
+        ↔ HasNoMarkedExtends files.now (file_summaries_of kept.now) marks.now) }
 {
     are_read(files);
-    for file in 0..files.len() as u32 {
-        if marks.contains(file) && has_or_had_extend(files, &kept[file as usize], file) {
-            return false;
+    let marked = files_among(alloc, marks, files.len())?;
+    for file in &marked {
+        if has_or_had_extend(files, &kept[*file as usize], *file) {
+            return Ok(false);
         }
     }
-    true
+    Ok(true)
 }
 
 /// Puts a file into the set, if there is one.
@@ -400,11 +401,11 @@ pub fn files_of_enums(
 ) -> Result<FileSet, NoMemory>
     ensures { IfOk result (λ wanted. AreEnumsMarked files.now link.now marks.now wanted) }
 {
-    let mut wanted = FileSet::new(alloc, files.len())?;
-    for file in 0..files.len() as u32 {
-        if marks.contains(file) {
-            mark_enums(&mut wanted, link, link.meant_in(file));
-        }
+    let file_count = files.len();
+    let mut wanted = FileSet::new(alloc, file_count)?;
+    let marked = files_among(alloc, marks, file_count)?;
+    for file in &marked {
+        mark_enums(&mut wanted, link, link.meant_in(*file));
     }
     Ok(wanted)
 }

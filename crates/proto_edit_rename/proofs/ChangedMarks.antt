@@ -1,8 +1,10 @@
 -- The marks of files with references to names, and that a rename changes no word in other files.
 use Rattle.std.proofs.Common.{◌≡◌, ℕ, ◌+◌, ◌<◌, ◌≤◌, ◌==◌, Bool, true, false, is_some, List, [], ◌∷◌, ◌++◌, length, get_or, drop, map, Option, Some, None, refl, sym, ap, subst, ◌∙◌, inl, inr, arith, slice_set, if◌then◌else◌, Contains, option_and_then, true≢false, ne_eqb, get_or-set_same, length-set}
 use Rattle.std.specs.List.{list_any}
-use Rattle.proto_base.proofs.Common.{any_to, both_ways, cond-true, cond-false, contains_cases, contains_map, drop_all, false_from_ne_true, front_element, word_from_same}
-use Rattle.proto_files.proofs.Common.{HasNoFault, FileOf, ReadOf, AreRead, read_at}
+use Rattle.proto_base.proofs.Common.{Contains-get_or, any_to, both_ways, cases_lt, cond-true, cond-false, contains_cases, contains_map, drop_all, false_from_ne_true, front_element, word_from_same, text_limit}
+use Rattle.proto_base.specs.declared.fault.FaultKind.TheVariants.{TooLarge}
+use Rattle.proto_files.proofs.Common.{HasNoFault, FileOf, ReadFaults, ReadOf, AreRead, file_at, read_at}
+use Rattle.proto_files.specs.GivenFiles.{no_file}
 use Rattle.proto_names_imports.proofs.Common.{LinkFaults}
 use Rattle.proto_names_rules.proofs.Common.{At, joined}
 use Rattle.proto_names.proofs.Common.{IsLinkOf, LinkOf, name_text}
@@ -12,12 +14,13 @@ use Rattle.proto_edit_rename_laws.proofs.Common.{Target, fields_of_file}
 use Rattle.proto_edit_captures.specs.FoundTargets.{IsFoundTarget}
 use Rattle.proto_edit_captures.specs.declared.rename_target.RenameTarget.{RenameTarget}
 use Rattle.proto_edit_rename.specs.ChangedFiles.{AreChangedFiles, HasReferencesMarked, with_references, with_row, with_rows}
-use Rattle.proto_edit_rename.specs.Common.{ArePlacesIn, HasDefaultsIn, IsValueOf, or_own}
+use Rattle.proto_edit_rename.specs.Common.{ArePlacesIn, HasDefaultsIn, IsChangeIn, IsValueOf, or_own}
 use Rattle.proto_edit_rename.specs.Defaults.{is_found_name}
 use Rattle.proto_edit_rename.specs.StandingTokens.{IsStandingIn, goes_on, words_behind}
 use Rattle.proto_edit_rename.proofs.DefaultTexts.{no_renamed}
+use Rattle.proto_edit_rename.proofs.FileChanges.{none_chosen, none_made}
 use Rattle.proto_edit_rename.proofs.KnownReferences.{going_on, known, row_declared}
-use Rattle.proto_edit_rename.proofs.Placed.{places_are}
+use Rattle.proto_edit_rename.proofs.Placed.{change_is, places_are}
 use Rattle.proto_edit_rename.proofs.PlacedWords.{marked_length, marked_there, stays_marked}
 use Rattle.proto_edit_rename.proofs.StandingUses.{none_goes_on}
 
@@ -124,6 +127,15 @@ are_changed_files l a enum_name n blank own names users many inside own_is names
 
 -- ---- a file that is not marked
 
+-- a file without a fault is not too long
+not_too_long : (files : List FileOf) (file : ℕ) → file < length files → HasNoFault (ReadFaults files) → length (file_at files file).bytes ≤ text_limit
+not_too_long files file inside clean = elim (cases_lt text_limit (length (file_at files file).bytes)) [
+  | inr fits ↦ fits
+  | inl long ↦
+      absurd (clean (record { path = (file_at files file).path; offset = 0; kind = TooLarge })
+      (inl (file_at files file, Contains-get_or files file no_file inside, refl, (refl, long))))
+]
+
 found_is : (name : List ℕ) (o : Option (List ℕ)) → is_found_name name o ≡ true → o ≡ Some name
 found_is name None h = absurd (true≢false (sym h))
 found_is name (Some found) h = ap Some (word_from_same found name h)
@@ -169,3 +181,10 @@ module _ (files : List FileOf) (clean : HasNoFault (LinkFaults files)) (l : Link
       let apart : or_own a.file a.token file ≡ [] = cond-false (a.file == file) (a.token ∷ []) [] (ne_eqb a.file file (λ e. both_ways (get_or marks file false) unmarked (subst (λ (f : ℕ). get_or marks f false ≡ true) e changed.own))) in
       let none : ([] ++ or_own a.file a.token file) ++ [] ≡ [] = ap (λ (xs : List ℕ). xs ++ []) apart in
       subst (ArePlacesIn files a file) none (places_are files a file inside enum_name old value [] [] nothing_stands (no_defaults old))
+
+  -- so there is no change of it, where files without faults are read
+  pub no_change : (old : List ℕ) → IsValueOf files a enum_name old → (to : List ℕ) → HasNoFault (ReadFaults files) → IsChangeIn files a file to None
+  no_change old value to read reads are =
+      change_is files a file [] to (nothing_changes old value) None
+      (none_made files file inside (read_at reads file).tokens (are.tokens file inside) [] to [] (sym (none_chosen (read_at reads file).tokens)) refl (not_too_long files file inside read))
+      reads are

@@ -1,70 +1,95 @@
--- The changes file by file are all changes.
-use Rattle.std.proofs.Common.{◌≡◌, ℕ, zero, suc, ◌+◌, ◌<◌, List, [], ◌∷◌, ◌++◌, length, map, Option, refl, sym, ap, ap₂, subst, ◌∙◌, inl, inr, arith, append_assoc, option_to_list, append-nil}
-use Rattle.std.proofs.lemmas.Bool.{cases_lt}
+-- The changes of the files that a rename may change are all changes.
+use Rattle.std.proofs.Common.{◌≡◌, ℕ, zero, suc, ◌+◌, ◌<◌, Bool, false, List, [], ◌∷◌, ◌++◌, All, cond, filter, flat_map, length, get_or, map, take, Option, None, refl, ap, ap₂, subst, ◌∙◌, inl, inr, arith, option_to_list}
+use Rattle.std.specs.List.{range_with_len}
+use Rattle.proto_base.proofs.Common.{All-contains, cases_Bool}
+use Rattle.std.proofs.lemmas.List.Elements.{All-more}
+use Rattle.proto_base.proofs.Turns.{added_more}
+use Rattle.proto_file_sets.specs.FileSets.{files_in}
+use Rattle.proto_file_sets.proofs.Members.{file_is_listed}
 use Rattle.proto_text.specs.Texts.{token_edits}
 use Rattle.proto_files.proofs.Common.{ReadOf, AreRead, read_at, FileOf, file_at}
 use Rattle.proto_names_rules.proofs.Edited.{map_append}
 use Rattle.proto_edit_entries.specs.Entries.{ChangeOf, change_of}
 use Rattle.proto_edit_entries.specs.declared.entry.Change.{Change}
-use Rattle.proto_edit_rename_laws.proofs.Common.{IsRewordedTooLong, change_by, changes_from, changes_of_words, NewWords, words_of_file}
-use Rattle.proto_edit_rename.specs.Common.{IsFileChange, AreWholeChanges, changes_up_to}
+use Rattle.proto_edit_rename_laws.proofs.Common.{IsRewordedTooLong, change_by, changes_from, changes_of_words, splices_in, NewWords, words_of_file}
+use Rattle.proto_edit_rename.specs.Common.{IsFileChange, AreWholeChanges}
+
+-- ---- what is added for each file of a set
+
+-- what the others add nothing to is what all add
+added_by_all : (f : ℕ → List ChangeOf) (p : ℕ → Bool) (a n : ℕ) → ((k : ℕ) → k < a + n → p k ≡ false → [] ≡ f k) → flat_map f (filter p (range_with_len a n)) ≡ flat_map f (range_with_len a n)
+added_by_all f p a zero none = refl
+added_by_all f p a (suc n) none =
+    let rest = range_with_len (a + 1) n in
+    let same = added_by_all f p (a + 1) n (λ k l off. none k (omega (arith, l)) off) in
+    elim (cases_Bool (p a)) [
+      | inl on ↦ ap (λ b. flat_map f (cond b (a ∷ filter p rest) (filter p rest))) on ∙ ap (λ cs. f a ++ cs) same
+      | inr off ↦
+          ap (λ b. flat_map f (cond b (a ∷ filter p rest) (filter p rest))) off
+          ∙ same
+          ∙ ap (λ cs. cs ++ flat_map f rest) (none a (omega arith) off)
+    ]
+
+added_by_files : (f : ℕ → List ChangeOf) (set : List Bool) → ((k : ℕ) → k < length set → get_or set k false ≡ false → [] ≡ f k) → flat_map f (files_in set) ≡ flat_map f (range_with_len 0 (length set))
+unfolding files_in
+added_by_files f set none = added_by_all f (λ file. get_or set file false) 0 (length set) (λ k l off. none k (omega (arith, l)) off)
+
+-- ---- the changes of files
 
 module _ (c : NewWords) where
-  -- the change of the n-th of these files, which are numbered from another one on
+  -- the change of the file with this number
+  abbrev pub change_at : List FileOf → List ReadOf → ℕ → List ChangeOf
+  change_at files reads k = change_by (file_at files k) (splices_in c files reads k)
+
+  -- the change of a file of these, which are numbered from another one on
   abbrev nth : ℕ → List FileOf → List ReadOf → ℕ → List ChangeOf
-  nth m fs rs n = change_by (file_at fs n) (token_edits (file_at fs n).bytes (words_of_file c (m + n)) 0 (read_at rs n).tokens)
+  nth number fs rs k = change_by (file_at fs k) (token_edits (file_at fs k).bytes (words_of_file c number) 0 (read_at rs k).tokens)
 
-  abbrev up : ℕ → List FileOf → List ReadOf → ℕ → List ChangeOf
-  up m fs rs zero = []
-  up m fs rs (suc n) = up m fs rs n ++ nth m fs rs n
+  changes_on : (f : ℕ → List ChangeOf) (m : ℕ) (fs : List FileOf) (rs : List ReadOf) → length rs ≡ length fs → ((k : ℕ) → k < length fs → f (m + k) ≡ nth (m + k) fs rs k) → flat_map f (range_with_len m (length fs)) ≡ changes_from c m fs rs
+  changes_on f m [] rs l same = refl
+  changes_on f m (x ∷ fs) [] l same = absurd (omega (arith, l))
+  changes_on f m (x ∷ fs) (r ∷ rs) l same =
+      let here : m + 0 ≡ m = omega arith in
+      let next : m + 1 ≡ suc m = omega arith in
+      ap₂ (λ (xs ys : List ChangeOf). xs ++ ys)
+      (subst (λ n. f n ≡ nth n (x ∷ fs) (r ∷ rs) 0) here (same 0 (omega arith)))
+      (ap (λ n. flat_map f (range_with_len n (length fs))) next
+      ∙ changes_on f (suc m) fs rs (omega (arith, l)) (λ k lt.
+      let on : m + suc k ≡ suc m + k = omega arith in
+      subst (λ n. f n ≡ nth n fs rs k) on (same (suc k) (omega (arith, lt)))))
 
-  -- the first of them, and the others
-  up_head : (m : ℕ) (f : FileOf) (fs : List FileOf) (r : ReadOf) (rs : List ReadOf) (n : ℕ) → up m (f ∷ fs) (r ∷ rs) (suc n) ≡ change_by f (token_edits f.bytes (words_of_file c m) 0 r.tokens) ++ up (suc m) fs rs n
-  up_head m f fs r rs zero =
-      let e : m + 0 ≡ m = omega arith in
-      ap (λ (z : ℕ). change_by f (token_edits f.bytes (words_of_file c z) 0 r.tokens)) e ∙ sym (append-nil (change_by f (token_edits f.bytes (words_of_file c m) 0 r.tokens)))
-  up_head m f fs r rs (suc n) =
-      let e : m + suc n ≡ suc m + n = omega arith in
-      ap (λ (z : List ChangeOf). z ++ nth m (f ∷ fs) (r ∷ rs) (suc n)) (up_head m f fs r rs n)
-      ∙ append_assoc (change_by f (token_edits f.bytes (words_of_file c m) 0 r.tokens)) (up (suc m) fs rs n) (nth m (f ∷ fs) (r ∷ rs) (suc n))
-      ∙ ap (λ (z : ℕ). change_by f (token_edits f.bytes (words_of_file c m) 0 r.tokens) ++ (up (suc m) fs rs n ++ change_by (file_at fs n) (token_edits (file_at fs n).bytes (words_of_file c z) 0 (read_at rs n).tokens))) e
-
-  up_all : (m : ℕ) (fs : List FileOf) (rs : List ReadOf) → length rs ≡ length fs → up m fs rs (length fs) ≡ changes_from c m fs rs
-  up_all m [] rs l = refl
-  up_all m (f ∷ fs) [] l = absurd (omega (arith, l))
-  up_all m (f ∷ fs) (r ∷ rs) l =
-      up_head m f fs r rs (length fs) ∙ ap (λ (z : List ChangeOf). change_by f (token_edits f.bytes (words_of_file c m) 0 r.tokens) ++ z) (up_all (suc m) fs rs (omega (arith, l)))
-
-  up_from_0 : (files : List FileOf) (reads : List ReadOf) (n : ℕ) → changes_up_to c files reads n ≡ up 0 files reads n
-  up_from_0 files reads zero = refl
-  up_from_0 files reads (suc n) =
-      let e : n ≡ 0 + n = omega arith in
-      ap₂ (λ (x : List ChangeOf) (y : ℕ). x ++ change_by (file_at files n) (token_edits (file_at files n).bytes (words_of_file c y) 0 (read_at reads n).tokens)) (up_from_0 files reads n) e
-
-  all_changes : (files : List FileOf) (reads : List ReadOf) → AreRead files reads → changes_up_to c files reads (length files) ≡ changes_of_words c files reads
-  all_changes files reads r = up_from_0 files reads (length files) ∙ up_all 0 files reads r.same
+  all_changes : (files : List FileOf) (reads : List ReadOf) → AreRead files reads → flat_map (change_at files reads) (range_with_len 0 (length files)) ≡ changes_of_words c files reads
+  all_changes files reads r = changes_on (change_at files reads) 0 files reads r.same (λ k _.
+      let same : 0 + k ≡ k = omega arith in
+      ap (λ n. change_by (file_at files n) (token_edits (file_at files n).bytes (words_of_file c (0 + k)) 0 (read_at reads n).tokens)) same)
 
 -- ---- as the files are gone through
 
--- the changes of so many files, none of which gets too long
-pub record AreChangesUpTo (files : List FileOf) (reads : List ReadOf) (c : NewWords) (n : ℕ) (cs : List ChangeOf) : Type 0 where
-  pub changes : cs ≡ changes_up_to c files reads n
-  pub short : (k : ℕ) → k < n → IsRewordedTooLong c files reads k → ⊥
+-- the changes of these files, none of which gets too long
+pub record AreChangesAt (files : List FileOf) (reads : List ReadOf) (c : NewWords) (listed : List ℕ) (cs : List ChangeOf) : Type 0 where
+  pub changes : cs ≡ flat_map (change_at c files reads) listed
+  pub short : All (λ k. IsRewordedTooLong c files reads k → ⊥) listed
 
-pub more_changes : (files : List FileOf) (reads : List ReadOf) (c : NewWords) (n m : ℕ) → m ≡ n + 1 → (items more : List Change) (found : Option Change) → AreChangesUpTo files reads c n (map change_of items) → more ≡ items ++ option_to_list found → IsFileChange files reads c n found
-    → AreChangesUpTo files reads c m (map change_of more)
-more_changes files reads c n m e items more found h pushed made =
-    let next : suc n ≡ m = omega (arith, e) in
-    subst (λ (z : ℕ). AreChangesUpTo files reads c z (map change_of more)) next (record {
-      changes = ap (map change_of) pushed ∙ map_append change_of items (option_to_list found) ∙ ap₂ (λ (x y : List ChangeOf). x ++ y) h.changes made.change;
-      short = λ k l. elim (cases_lt k n) [
-        | inl below ↦ h.short k below
-        | inr past ↦ (let same : n ≡ k = omega (arith, l, past) in λ x. made.short (subst (λ (z : ℕ). IsRewordedTooLong c files reads z) (sym same) x))
-      ];
-    })
+pub more_changes : (files : List FileOf) (reads : List ReadOf) (c : NewWords) (listed : List ℕ) (i : ℕ) → i < length listed → (items more : List Change) (found : Option Change) → AreChangesAt files reads c (take i listed) (map change_of items) → more ≡ items ++ option_to_list found
+    → IsFileChange files reads c (get_or listed i 0) found → AreChangesAt files reads c (take (i + 1) listed) (map change_of more)
+more_changes files reads c listed i lt items more found h pushed made = record {
+  changes = added_more (change_at c files reads) listed i (get_or listed i 0) 0 [] (map change_of items) (map change_of more) lt refl
+      (ap (map change_of) pushed ∙ map_append change_of items (option_to_list found) ∙ ap (λ (cs : List ChangeOf). map change_of items ++ cs) made.change)
+      h.changes;
+  short = All-more (λ k. IsRewordedTooLong c files reads k → ⊥) listed i 0 lt h.short made.short;
+}
 
-pub whole_changes : (files : List FileOf) (reads : List ReadOf) → AreRead files reads → (c : NewWords) (n : ℕ) → n ≡ length files → (cs : List ChangeOf) → AreChangesUpTo files reads c n cs → AreWholeChanges files reads c cs
-whole_changes files reads r c n e cs h = record {
-  changes = h.changes ∙ ap (changes_up_to c files reads) e ∙ all_changes c files reads r;
-  short = λ k l. h.short k (omega (arith, e, l));
+-- the files that are gone through are those of a set, and no other is changed
+pub whole_changes : (files : List FileOf) (reads : List ReadOf) → AreRead files reads → (c : NewWords) (set : List Bool) → length set ≡ length files → ((k : ℕ) → k < length files → get_or set k false ≡ false → IsFileChange files reads c k None)
+    → (cs : List ChangeOf) → AreChangesAt files reads c (files_in set) cs → AreWholeChanges files reads c cs
+whole_changes files reads r c set as_many others cs h = record {
+  changes =
+      h.changes
+      ∙ added_by_files (change_at c files reads) set (λ k l off. (others k (omega (arith, l, as_many)) off).change)
+      ∙ ap (λ n. flat_map (change_at c files reads) (range_with_len 0 n)) as_many
+      ∙ all_changes c files reads r;
+  short = λ k l. elim (cases_Bool (get_or set k false)) [
+    | inl on ↦ All-contains (λ n. IsRewordedTooLong c files reads n → ⊥) (files_in set) k h.short (file_is_listed set k (omega (arith, l, as_many)) on)
+    | inr off ↦ (others k l off).short
+  ];
 }

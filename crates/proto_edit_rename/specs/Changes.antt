@@ -1,14 +1,15 @@
 -- The changes of a rename, file by file.
-use Rattle.std.specs.Prelude.{◌≡◌, ◌↔◌, ℕ, zero, suc, ◌<◌, ◌==◌, if◌then◌else◌, List, [], ◌∷◌, ◌++◌, length, flat_map, Option, Some, None, option_map}
+use Rattle.std.specs.Prelude.{◌≡◌, ◌↔◌, ℕ, ◌<◌, ◌==◌, Bool, false, if◌then◌else◌, List, [], ◌∷◌, length, get_or, flat_map, Option, Some, None, option_map}
 use Rattle.std.specs.List.{Contains}
 use Rattle.proto_base.specs.Texts.{Text}
-use Rattle.proto_files.specs.GivenFiles.{FileOf, file_at}
+use Rattle.proto_file_sets.specs.FileSets.{files_in}
+use Rattle.proto_files.specs.GivenFiles.{FileOf}
 use Rattle.proto_files.specs.FilesRead.{ReadOf, AreRead, read_at}
 use Rattle.proto_names_rules.specs.Grown.{At, at}
 use Rattle.proto_names_rules.specs.Joined.{joined, ArePlain}
 use Rattle.proto_edit_entries.specs.Entries.{ChangeOf}
 use Rattle.proto_names_imports.specs.Links.{link_skeleton, text_of}
-use Rattle.proto_edit_rules.specs.Rename.{IsRewordedTooLong, change_by, changes_of_words, splices_in, fields_of_file, renamed_default, renamed_defaults, renamed_places, NewWords, Target, name_map, renamed_words}
+use Rattle.proto_edit_rules.specs.Rename.{IsRewordedTooLong, changes_of_words, fields_of_file, renamed_default, renamed_defaults, renamed_places, NewWords, Target, name_map, renamed_words}
 use Rattle.proto_edit_entries.specs.declared.entry.Change.{Change}
 use Rattle.proto_edit_rename.specs.MadeChanges.{IsFileChange}
 use Rattle.proto_edit_rename.specs.declared.changing.RewordFault.{RewordFault}
@@ -30,12 +31,6 @@ ArePlacesIn files aim file found = (reads : List ReadOf)
     → IsFoundTarget files reads aim t
     → (to : Text) (i : ℕ)
     → Contains found i ↔ Contains (places_of files reads t to) (at file i)
-
--- the changes of so many files
-abbrev pub changes_up_to : NewWords → List FileOf → List ReadOf → ℕ → List ChangeOf
-changes_up_to c files reads zero = []
-changes_up_to c files reads (suc n) =
-    changes_up_to c files reads n ++ change_by (file_at files n) (splices_in c files reads n)
 
 -- these are all changes, and no file gets too long by them
 pub record AreWholeChanges
@@ -103,3 +98,15 @@ IsFaultIn files aim file to TooLarge = (reads : List ReadOf)
     → IsFoundTarget files reads aim t
     → IsRewordedTooLong (renamed_words files reads t to) files reads file
 IsFaultIn files aim file to NoMemory = Unit {0}
+
+-- ---- the files that are changed
+
+-- the files of a set, in order: of no other file does the rename change words, whatever the new name
+-- is
+pub record AreFilesToChange (files : List FileOf) (aim : RenameTarget) (listed : List ℕ)
+    : Type 0 where
+  pub set : List Bool
+  pub as_many : length set ≡ length files
+  pub are : listed ≡ files_in set
+  pub others : (file : ℕ) (to : Text) → file < length files → get_or set file false ≡ false
+      → IsChangeIn files aim file to None

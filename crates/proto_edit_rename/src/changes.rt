@@ -38,15 +38,16 @@ fn change_in(
     change_of_file(alloc, scope.files(), file, &places, to)
 }
 
-/// The changes of all files, in their order.
+/// The changes of all files, in their order. Only files are looked at in which words may change.
 fn changes_with(alloc: Global, scope: &RenameScope, to: &str) -> Result<Vec<Change>, RewordFault>
     ensures ok { IfOk result (λ changes.
         AreChangesOf scope.now.files scope.now.target to.now (map change_of changes.items)) }
     ensures err { IfErr result (IsChangesFault scope.now.files scope.now.target to.now) }
 {
     let mut changes = Vec::new(alloc);
-    for file in 0..scope.file_count() as u32 {
-        let change = change_in(alloc, scope, file, to)?;
+    let changed = scope.changed_files(alloc)?;
+    for file in &changed {
+        let change = change_in(alloc, scope, *file, to)?;
         push_some(&mut changes, change)?;
     }
     Ok(changes)

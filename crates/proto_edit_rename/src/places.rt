@@ -1,8 +1,9 @@
 //! The tokens of a file that a rename changes.
 
 ghost use Rattle.std.specs.Prelude.{◌≡◌, ◌<◌, ◌++◌, length, IfOk, OnOk, option_map};
+ghost use Rattle.std.specs.List.{All};
 ghost use Rattle.proto_files.specs.GivenFiles.{AreWorkspaceFiles};
-ghost use Rattle.proto_edit_rename.specs.Changes.{ArePlacesIn, HasDefaultsIn, or_own};
+ghost use Rattle.proto_edit_rename.specs.Changes.{AreFilesToChange, ArePlacesIn, HasDefaultsIn, or_own};
 ghost use Rattle.proto_edit_captures.specs.FoundTargets.{IsTargetOf};
 
 use crate::changed_files::changed_files;
@@ -78,6 +79,20 @@ impl<'a> RenameScope<'a> {
         ensures workspace { AreWorkspaceFiles self.now.files }
     {
         self.linked.file_count()
+    }
+
+    /// The files in which the rename may change words, by their numbers, in order. Fails only when
+    /// out of memory.
+    pub(crate) fn changed_files(&self, alloc: Global) -> Result<Vec<u32>, NoMemory>
+        ensures within { IfOk result (λ listed.
+            All (λ file. file < length self.now.files) listed.items) }
+        ensures whole { IfOk result (λ listed.
+            AreFilesToChange self.now.files self.now.target listed.items) }
+    {
+        // By this there are few files, and none is too long.
+        self.linked.files().len();
+        let listed = self.changed.files(alloc)?;
+        Ok(listed)
     }
 }
 

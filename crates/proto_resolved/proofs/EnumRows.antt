@@ -1,7 +1,6 @@
 -- The rows of a file's enums are those that its blocks give.
-use Rattle.std.proofs.Common.{◌≡◌, ℕ, ◌==◌, ◌≤◌, Bool, true, false, cond, if◌then◌else◌, List, [], ◌∷◌, ◌++◌, length, get_or, replicate, Option, Some, None, option_map, refl, sym, ap, subst, ◌∙◌, inl, inr, arith, nat_eq, is_some, option_and_then, find, eqb-true}
-use Rattle.std.proofs.lemmas.List.{get_or-replicate}
-use Rattle.proto_base.proofs.Common.{option_or, get_or_past, find-append, slice_get_cases, lookup}
+use Rattle.std.proofs.Common.{◌≡◌, ℕ, ◌==◌, Bool, true, false, cond, List, [], ◌∷◌, ◌++◌, Option, Some, None, option_map, refl, sym, ap, ◌∙◌, nat_eq, is_some, find, eqb-true}
+use Rattle.proto_base.proofs.Common.{option_or, find-append, lookup}
 use Rattle.indexmap.specs.IndexMap.{IndexMap, IsEmpty, get}
 use Rattle.proto_text.specs.Tokens.{Lexeme}
 use Rattle.proto_tree.specs.declared.tree.Block.{Block as Braced}
@@ -9,12 +8,10 @@ use Rattle.proto_tree.specs.declared.tree.EnumItem.{EnumItem}
 use Rattle.proto_tree.specs.declared.tree.Extend.{Extend}
 use Rattle.proto_tree.specs.declared.tree.OneofItem.{OneofItem}
 use Rattle.proto_tree.specs.declared.tree.Member.{Member}
-use Rattle.proto_tree.proofs.Common.{enum_item_tree, trees, Tree, End}
-use Rattle.proto_files.proofs.Common.{FileOf, Each, ReadOf, AreRead}
-use Rattle.proto_names_rules.specs.Grown.{At, at}
+use Rattle.proto_tree.proofs.Common.{enum_item_tree, trees, Tree}
 use Rattle.proto_ast.proofs.Common.{BlockOf, blocks_in, EnumOf}
 use Rattle.proto_resolved.proofs.Holders.{found_before, found_in_holders, or_none}
-use Rattle.proto_resolved.specs.Common.{AreEnumsOf, IsEnumTable, IsEnumTableOf, enum_among, enum_block, enum_of_row, extend_block, holders_in, message_block, oneof_block, enum_row_at, enum_at, enum_within, is_enum_at, is_proto3_file, lexemes_of, marked_enum_at, EnumRow}
+use Rattle.proto_resolved.specs.Common.{AreEnumsOf, enum_among, enum_block, enum_of_row, extend_block, holders_in, message_block, oneof_block, enum_within, is_enum_at, EnumRow}
 
 module _ (lexemes : List Lexeme) (proto3 : Bool) where
   abbrev here : BlockOf → EnumOf
@@ -86,45 +83,3 @@ module _ (lexemes : List Lexeme) (proto3 : Bool) where
           let none : option_map here (find (is_it token) blocks) ≡ None = sym (h token) ∙ ap (λ (t : ℕ). option_map enum_of_row (get nat_eq rows t)) (sym same) ∙ no_row (get nat_eq rows b.name) lacks in
           first (find (is_it token) blocks) none
       go false f = h token ∙ ap (option_map here) (or_none (find (is_it token) blocks))
-
--- ---- the table of files
-
-abbrev if_marked : Bool → Option EnumOf → Option EnumOf
-if_marked b o = if b then o else None
-
-none_if_marked : (b : Bool) (o : Option EnumOf) → None ≡ o → None ≡ if_marked b o
-none_if_marked true o e = e
-none_if_marked false o e = refl
-
--- a file that is not there has no enum
-none_past : (files : List FileOf) (reads : List ReadOf) (a : At) → length reads ≤ a.file → None ≡ enum_at files reads a
-none_past files reads a past =
-    ap (λ (r : ReadOf). option_map (λ b. enum_within (lexemes_of files reads a.file) (is_proto3_file files reads a.file) b.within) (find (λ b. is_enum_at a.token b.header) (blocks_in r.tree)))
-    (sym (get_or_past reads a.file (record { tokens = []; tree = End }) past))
-
--- a file that is marked needs those of its enums
-pub rows_marked : (files : List FileOf) (marks : List Bool) (reads : List ReadOf) (file token : ℕ) (o : Option EnumOf) → o ≡ enum_at files reads (at file token) → get_or marks file false ≡ true → o ≡ marked_enum_at marks files reads (at file token)
-rows_marked files marks reads file token o is marked = is ∙ ap (λ (b : Bool). if_marked b (enum_at files reads (at file token))) (sym marked)
-
-module _ {S : Type 0} (files : List FileOf) (marks : List Bool) where
-  -- a file that is not marked needs no row
-  pub rows_unmarked : (reads : List ReadOf) (file : ℕ) (rows : IndexMap ℕ EnumRow S) → IsEmpty rows → get_or marks file false ≡ false → (token : ℕ) → enum_row_at rows token ≡ marked_enum_at marks files reads (at file token)
-  rows_unmarked reads file rows empty other token = no_rows [] false rows empty token ∙ ap (λ (b : Bool). if_marked b (enum_at files reads (at file token))) (sym other)
-
-  pub is_enum_table_of : (table : List (IndexMap ℕ EnumRow S)) → length table ≡ length files
-      → ((reads : List ReadOf) → AreRead files reads → Each (λ k rows. (token : ℕ) → enum_row_at rows token ≡ marked_enum_at marks files reads (at k token)) table) → IsEnumTableOf files marks table
-  is_enum_table_of table n each reads are a = elim (slice_get_cases table a.file).1 [
-    | inl s ↦ ap (option_and_then (λ rows. enum_row_at rows a.token)) s.2 ∙ subst (λ rows. enum_row_at rows a.token ≡ marked_enum_at marks files reads a) s.3 (each reads are a.file s.0 s.1 a.token)
-    | inr s ↦
-        ap (option_and_then (λ rows. enum_row_at rows a.token)) s.1
-        ∙ none_if_marked (get_or marks a.file false) (enum_at files reads a) (none_past files reads a (omega (arith, s.0, n, are.same)))
-  ]
-
--- with every file marked it has the enums of all files
-pub all_marked : {S : Type 0} (files : List FileOf) (marks : List Bool) (table : List (IndexMap ℕ EnumRow S)) → marks ≡ replicate (length files) true → IsEnumTableOf files marks table → IsEnumTable files table
-all_marked {S} files marks table all h reads are a = h reads are a ∙ elim (slice_get_cases reads a.file).1 [
-  | inl s ↦
-      ap (λ (b : Bool). if_marked b (enum_at files reads a))
-      (ap (λ (bs : List Bool). get_or bs a.file false) all ∙ get_or-replicate (length files) a.file true false (omega (arith, s.1, are.same)))
-  | inr s ↦ sym (none_if_marked (get_or marks a.file false) (enum_at files reads a) (none_past files reads a s.0)) ∙ none_past files reads a s.0
-]

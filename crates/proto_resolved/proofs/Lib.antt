@@ -1,5 +1,6 @@
 pub mod BlockTrees
 pub mod EnumRows
+mod EnumTables
 pub mod Holders
 pub mod MeantEnums
 pub mod MeantPlaces

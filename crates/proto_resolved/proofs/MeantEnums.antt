@@ -1,7 +1,6 @@
 -- What the references of a file mean, with the enums, as the link and the table of enums say it.
 use Rattle.std.proofs.Common.{◌≡◌, ℕ, suc, ◌<◌, Bool, false, if◌then◌else◌, List, [], ◌∷◌, length, get_or, map, Option, Some, None, option_map, refl, sym, ap, ◌∙◌, arith, option_and_then, All, AllPairs}
 use Rattle.proto_base.proofs.Common.{or_nothing}
-use Rattle.indexmap.specs.IndexMap.{IndexMap}
 use Rattle.proto_files.proofs.Common.{FileOf, ReadOf}
 use Rattle.proto_names_rules.proofs.Common.{place_of, At, at, joined, is_package, Declared, Used}
 use Rattle.proto_names.specs.Links.{uses_of}
@@ -11,7 +10,7 @@ use Rattle.proto_names.proofs.LinkMeanings.{rising_by}
 use Rattle.proto_ast.specs.declared.scene.MeantAt.{MeantAt}
 use Rattle.proto_ast.specs.Scenes.{EnumOf, MeantOf}
 use Rattle.proto_resolved.proofs.MeantPlaces.{place_meant, row_means}
-use Rattle.proto_resolved.specs.Common.{HasEnumsMeant, IsEnumTable, enum_of_name, meant_in_table, enum_at, enum_named, meaning_of, meant_as, means_of, EnumRow}
+use Rattle.proto_resolved.specs.Common.{HasEnumsMeant, IsEnumTable, enum_of_name, meant_in_table, enum_at, enum_named, meaning_of, meant_as, means_of, EnumTable}
 
 -- as the tokens of other elements rise, so do these
 pub means_rise : (xs : List MeantAt) (ys : List Meant) → map (λ m. m.token) xs ≡ map (λ m. m.token) ys → AllPairs (λ a b. a.token < b.token) ys → AllPairs (λ a b. a.token < b.token) xs
@@ -32,7 +31,7 @@ same_meant l enum other (m ∷ ms) h =
     ∙ ap (λ (xs : List MeantOf). meant_in_table l other m ∷ xs) (same_meant l enum other ms (λ k d n. h (suc k) d (omega (arith, n))))
 
 -- a table of all enums has those that the references of a file mean
-pub all_meant : {S : Type 0} (files : List FileOf) (l : LinkOf) (file : ℕ) (table : List (IndexMap ℕ EnumRow S)) → IsEnumTable files table → HasEnumsMeant files l file table
+pub all_meant : (files : List FileOf) (l : LinkOf) (file : ℕ) (table : EnumTable) → IsEnumTable files table → HasEnumsMeant files l file table
 all_meant files l file table h reads are = λ k m n. ap (λ (enum : At → Option EnumOf). enum_of_name l enum (get_or (get_or l.meant file []) k m).row) (λ i a. h reads are a i)
 
 module _ (files : List FileOf) (reads : List ReadOf) (l : LinkOf) (link : IsLinkRead files reads l) where

@@ -1,5 +1,6 @@
 -- The enums of files, found by the tokens of their names.
-use Rattle.std.specs.Prelude.{◌≡◌, ℕ, Bool, false, if◌then◌else◌, nat_eq, List, find, get_or, slice_get, Option, None, option_map}
+use Rattle.std.specs.Prelude.{◌≡◌, ◌==◌, ℕ, Bool, false, if◌then◌else◌, nat_eq, List, find, get_or, Option, None, option_map}
+use Rattle.std.specs.List.{list_any}
 use Rattle.std.specs.Option.{option_and_then}
 use Rattle.indexmap.specs.IndexMap.{IndexMap, get}
 use Rattle.proto_text.specs.Tokens.{Lexeme}
@@ -10,6 +11,7 @@ use Rattle.proto_ast.specs.Parts.{BlockOf}
 use Rattle.proto_ast.specs.Scenes.{EnumOf}
 use Rattle.proto_resolved.specs.SceneOf.{enum_at, enum_within, is_enum_at}
 use Rattle.proto_resolved.specs.declared.enum_table.EnumRow.{EnumRow}
+use Rattle.proto_resolved.specs.declared.enum_table.EnumTable.{EnumTable}
 
 -- the first enum among these blocks whose name is at the token, if there is one
 abbrev pub enum_among : List Lexeme → Bool → List BlockOf → ℕ → Option EnumOf
@@ -37,9 +39,21 @@ abbrev pub AreEnumsOf
 AreEnumsOf lexemes proto3 blocks rows =
     (token : ℕ) → enum_row_at rows token ≡ enum_among lexemes proto3 blocks token
 
--- the enum that a table of all files has for a token of a file, if it has one
-abbrev pub enum_in : {S : Type 0} → List (IndexMap ℕ EnumRow S) → At → Option EnumOf
-enum_in table a = option_and_then (λ rows. enum_row_at rows a.token) (slice_get table a.file)
+-- the enum that a table has for a token of a file, if it has one
+abbrev pub enum_in : EnumTable → At → Option EnumOf
+enum_in table a =
+    option_and_then (λ rows. enum_row_at rows a.token) (get nat_eq table.files a.file)
+
+-- the enum whose name is at this token of a file, if that is one of the listed files
+abbrev pub listed_enum_at : List ℕ → List FileOf → List ReadOf → At → Option EnumOf
+listed_enum_at listed files reads a =
+    if list_any (λ file. file == a.file) listed then enum_at files reads a else None
+
+-- the table has for each token of each listed file the enum whose name is at it, and nothing else
+abbrev pub IsEnumTableOfListed : List FileOf → List ℕ → EnumTable → Type 0
+IsEnumTableOfListed files listed table =
+    (reads : List ReadOf) → AreRead files reads
+    → (a : At) → enum_in table a ≡ listed_enum_at listed files reads a
 
 -- the enum whose name is at this token of a file, if that is one of the marked files
 abbrev pub marked_enum_at : List Bool → List FileOf → List ReadOf → At → Option EnumOf
@@ -47,14 +61,13 @@ marked_enum_at marks files reads a =
     if get_or marks a.file false then enum_at files reads a else None
 
 -- the table has for each token of each marked file the enum whose name is at it, and nothing else
-abbrev pub IsEnumTableOf
-    : {S : Type 0} → List FileOf → List Bool → List (IndexMap ℕ EnumRow S) → Type 0
+abbrev pub IsEnumTableOf : List FileOf → List Bool → EnumTable → Type 0
 IsEnumTableOf files marks table =
     (reads : List ReadOf) → AreRead files reads
     → (a : At) → enum_in table a ≡ marked_enum_at marks files reads a
 
 -- the table has for each token of each file the enum whose name is at it, and nothing else
-abbrev pub IsEnumTable : {S : Type 0} → List FileOf → List (IndexMap ℕ EnumRow S) → Type 0
+abbrev pub IsEnumTable : List FileOf → EnumTable → Type 0
 IsEnumTable files table =
     (reads : List ReadOf) → AreRead files reads
     → (a : At) → enum_in table a ≡ enum_at files reads a

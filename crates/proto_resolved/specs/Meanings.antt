@@ -2,7 +2,6 @@
 use Rattle.std.specs.Prelude.{◌≡◌, ℕ, List, [], get_or, Option}
 use Rattle.std.specs.List.{All}
 use Rattle.std.specs.Option.{option_and_then}
-use Rattle.indexmap.specs.IndexMap.{IndexMap}
 use Rattle.proto_base.specs.Texts.{or_nothing}
 use Rattle.proto_files.specs.FilesRead.{AreRead, ReadOf}
 use Rattle.proto_files.specs.GivenFiles.{FileOf}
@@ -12,7 +11,7 @@ use Rattle.proto_names.specs.Linking.{Meant}
 use Rattle.proto_ast.specs.Scenes.{EnumOf, MeantOf}
 use Rattle.proto_resolved.specs.Enums.{enum_in}
 use Rattle.proto_resolved.specs.SceneOf.{enum_at}
-use Rattle.proto_resolved.specs.declared.enum_table.EnumRow.{EnumRow}
+use Rattle.proto_resolved.specs.declared.enum_table.EnumTable.{EnumTable}
 
 -- the enum that stands at the file and token of the link's name in a row, if an enum stands there
 abbrev pub enum_of_name : LinkOf → (At → Option EnumOf) → ℕ → Option EnumOf
@@ -31,8 +30,7 @@ meant_in_table l enum m = record {
 }
 
 -- the table has the enums that the references of the file mean
-abbrev pub HasEnumsMeant
-    : {S : Type 0} → List FileOf → LinkOf → ℕ → List (IndexMap ℕ EnumRow S) → Type 0
+abbrev pub HasEnumsMeant : List FileOf → LinkOf → ℕ → EnumTable → Type 0
 HasEnumsMeant files l file table =
     (reads : List ReadOf) → AreRead files reads
     → All (λ m. enum_of_name l (enum_in table) m.row ≡ enum_of_name l (enum_at files reads) m.row)

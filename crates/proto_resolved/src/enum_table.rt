@@ -1,6 +1,8 @@
 //! The enums of files, by the tokens of their names.
 
-ghost use Rattle.std.specs.Prelude.{◌≡◌, ◌<◌, ◌++◌, ◌∷◌, [], ℕ, List, length, map, option_map, IfOk, OnOk};
+ghost use Rattle.std.specs.Prelude.{◌≡◌, ◌↔◌, ◌<◌, ◌++◌, ◌∷◌, [], ℕ, List, length, map, option_map, IfOk, OnOk};
+ghost use Rattle.std.specs.List.{All, Contains};
+ghost use Rattle.proto_file_sets.specs.FileSets.{IsIn};
 ghost use Rattle.proto_text.specs.Texts.{word_at};
 ghost use Rattle.proto_tree.specs.File.{enum_item_tree, tree_of_file, trees};
 ghost use Rattle.proto_files.specs.FilesRead.{AreRead, ReadOf};
@@ -8,7 +10,7 @@ ghost use Rattle.proto_names_rules.specs.Grown.{at};
 ghost use Rattle.proto_ast.specs.Parts.{BlockOf, blocks_in};
 ghost use Rattle.proto_ast.specs.Views.{enum_of};
 ghost use Rattle.proto_resolved.specs.Blocks.{block_of, enum_block};
-ghost use Rattle.proto_resolved.specs.Enums.{AreEnumsOf, IsEnumTable, IsEnumTableOf, enum_in, enum_of_row, enum_row_at, marked_enum_at};
+ghost use Rattle.proto_resolved.specs.Enums.{AreEnumsOf, IsEnumTable, IsEnumTableOf, IsEnumTableOfListed, enum_in, enum_of_row, enum_row_at};
 ghost use Rattle.proto_resolved.specs.SceneOf.{enum_at, enum_within, is_proto3_file, starts_past_zero};
 
 use crate::blocks::{BlockAt, blocks_of};
@@ -29,6 +31,13 @@ pub struct EnumRow<'a> {
     pub starts_past_zero: bool,
     /// The names of its values, in order.
     pub values: ValueNames<'a>,
+}
+
+/// What is read of the enums of files.
+#[derive(Drop)]
+pub struct EnumTable<'a> {
+    /// For each file, by its number, its enums, by the tokens of their names.
+    pub files: IndexMap<u32, IndexMap<u32, EnumRow<'a>>>,
 }
 
 /// Whether the number of a value is not 0.
@@ -164,60 +173,62 @@ pub fn enums_of_file<'a>(
     file_enums(alloc, &words, is_proto3(&words, tree), tree)
 }
 
-/// The enums of a file, if it is in the set; else none.
-fn enums_if_in<'a>(
+/// The enums of these files. Fails only when out of memory.
+fn enums_of_files<'a>(
     alloc: Global,
     files: &'a Files,
-    set: &FileSet,
-    file: u32,
-) -> Result<IndexMap<u32, EnumRow<'a>>, NoMemory>
-    requires { file < length files.now }
-    ensures { IfOk result (λ rows. (reads : List ReadOf) → AreRead files.now reads → (token : ℕ)
-        → enum_row_at rows token ≡ marked_enum_at set.now files.now reads (at file token)) }
+    listed: &[u32],
+) -> Result<EnumTable<'a>, NoMemory>
+    requires { All (λ file. file < length files.now) listed.now }
+    ensures { IfOk result (IsEnumTableOfListed files.now listed.now) }
 {
-    if !set.contains(file) {
-        return Ok(IndexMap::new(alloc));
+    let mut table = IndexMap::with_capacity(alloc, listed.len())?;
+    for file in listed {
+        let enums = enums_of_file(alloc, files, *file)?;
+        table.insert(*file, enums)?;
     }
-    enums_of_file(alloc, files, file)
+    Ok(EnumTable { files: table })
 }
 
-/// The enums of the files of a set: for each of these, in the order of their paths, what is read of
-/// each of its enums, by the token of its name; nothing for another file. Fails only when out of
-/// memory.
+/// Those of the files that are in a set, which may be of more or fewer files, in order.
+fn files_there(alloc: Global, files: &Files, set: &FileSet) -> Result<Vec<u32>, NoMemory>
+    ensures below { IfOk result (λ there. All (λ file. file < length files.now) there.items) }
+    ensures listed { IfOk result (λ there. (file : ℕ) → file < length files.now
+        → (Contains there.items file ↔ IsIn set.now file)) }
+{
+    let count = files.len();
+    let none = FileSet::new(alloc, count)?;
+    let mut there = FileSet::new(alloc, count)?;
+    there.add_new(set, &none);
+    there.files(alloc)
+}
+
+/// The enums of the files of a set: for each of these what is read of each of its enums, by the
+/// token of its name; nothing for another file. Fails only when out of memory.
 pub fn enum_table_of<'a>(
     alloc: Global,
     files: &'a Files,
     set: &FileSet,
-) -> Result<Vec<IndexMap<u32, EnumRow<'a>>>, NoMemory>
-    ensures { IfOk result (λ table. IsEnumTableOf files.now set.now table.items) }
+) -> Result<EnumTable<'a>, NoMemory>
+    ensures { IfOk result (IsEnumTableOf files.now set.now) }
 {
-    let mut table = Vec::with_capacity(alloc, files.len())?;
-    for file in 0..files.len() as u32 {
-        table.push(enums_if_in(alloc, files, set, file)?)?;
-    }
-    Ok(table)
+    let listed = files_there(alloc, files, set)?;
+    enums_of_files(alloc, files, &listed)
 }
 
 /// The enums of all files: as `enum_table_of`, of the set of all.
-pub fn enum_table<'a>(
-    alloc: Global,
-    files: &'a Files,
-) -> Result<Vec<IndexMap<u32, EnumRow<'a>>>, NoMemory>
-    ensures { IfOk result (λ table. IsEnumTable files.now table.items) }
+pub fn enum_table<'a>(alloc: Global, files: &'a Files) -> Result<EnumTable<'a>, NoMemory>
+    ensures { IfOk result (IsEnumTable files.now) }
 {
     let all = FileSet::all(alloc, files.len())?;
     enum_table_of(alloc, files, &all)
 }
 
 /// The enum whose name is this token of the file, if it is an enum's.
-pub(crate) fn enum_at<'a>(
-    table: &'a [IndexMap<u32, EnumRow<'a>>],
-    file: u32,
-    token: u32,
-) -> Option<EnumAt<'a>>
+pub(crate) fn enum_at<'a>(table: &'a EnumTable<'a>, file: u32, token: u32) -> Option<EnumAt<'a>>
     ensures { option_map enum_of result ≡ enum_in table.now (at file token) }
 {
-    let row = table.get(file as usize)?.get(&token)?;
+    let row = table.files.get(&file)?.get(&token)?;
     Some(EnumAt {
         is_proto3: row.is_proto3,
         starts_past_zero: row.starts_past_zero,

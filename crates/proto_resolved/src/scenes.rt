@@ -7,9 +7,8 @@ ghost use Rattle.proto_resolved.specs.Scenes.{AreScenes, IsSceneOf};
 ghost use Rattle.proto_resolved.specs.Enums.{IsEnumTable, enum_in};
 ghost use Rattle.proto_resolved.specs.Meanings.{HasEnumsMeant, enum_of_name, meant_in_table};
 
-use crate::enum_table::{EnumRow, enum_at};
+use crate::enum_table::{EnumTable, enum_at};
 use crate::linked::Linked;
-use indexmap::IndexMap;
 use proto_ast::{EnumAt, MeantAt, Scene, is_proto3};
 use proto_base::NoMemory;
 use proto_files::Words;
@@ -17,11 +16,7 @@ use proto_names::{Link, Meant, SymbolId};
 use std::alloc::Global;
 
 /// The enum of a name of the link; none for another name.
-fn enum_named<'a>(
-    link: &Link,
-    table: &'a [IndexMap<u32, EnumRow<'a>>],
-    name: SymbolId,
-) -> Option<EnumAt<'a>>
+fn enum_named<'a>(link: &Link, table: &'a EnumTable<'a>, name: SymbolId) -> Option<EnumAt<'a>>
     ensures { option_map enum_of result ≡ enum_of_name link.now (enum_in table.now) name.row }
 {
     let file = link.file_of(name)?;
@@ -30,11 +25,7 @@ fn enum_named<'a>(
 }
 
 /// What a reference means: its token, the full name, and the enum that has it.
-fn meaning_of<'a>(
-    link: &'a Link,
-    table: &'a [IndexMap<u32, EnumRow<'a>>],
-    meant: Meant,
-) -> MeantAt<'a>
+fn meaning_of<'a>(link: &'a Link, table: &'a EnumTable<'a>, meant: Meant) -> MeantAt<'a>
     ensures token { result.token ≡ meant.token }
     ensures meant { meant_of result ≡ meant_in_table link.now (enum_in table.now) meant }
 {
@@ -51,7 +42,7 @@ fn meaning_of<'a>(
 fn means<'a>(
     alloc: Global,
     link: &'a Link,
-    table: &'a [IndexMap<u32, EnumRow<'a>>],
+    table: &'a EnumTable<'a>,
     file: u32,
 ) -> Result<Vec<MeantAt<'a>>, NoMemory>
     ensures rising { IfOk result (λ means. AllPairs (λ m n. m.token < n.token) means.items) }
@@ -70,7 +61,7 @@ fn means<'a>(
 pub fn scene<'a>(
     alloc: Global,
     linked: &Linked<'a>,
-    table: &'a [IndexMap<u32, EnumRow<'a>>],
+    table: &'a EnumTable<'a>,
     file: u32,
 ) -> Result<Scene<'a>, NoMemory>
     requires file { file < length linked.now.files }
@@ -89,7 +80,7 @@ pub fn scene<'a>(
 pub fn scenes<'a>(
     alloc: Global,
     linked: &Linked<'a>,
-    table: &'a [IndexMap<u32, EnumRow<'a>>],
+    table: &'a EnumTable<'a>,
 ) -> Result<Vec<Scene<'a>>, NoMemory>
     requires { IsEnumTable linked.now.files table.now }
     ensures { IfOk result (λ scenes. AreScenes linked.now.files scenes.items) }

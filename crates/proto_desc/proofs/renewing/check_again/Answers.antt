@@ -11,8 +11,8 @@ tree-tree-requires c = rw c.files-files.ensures.files c.requires.file
 pub path-requires : goal.path-requires
 path-requires c = rw c.files-files.ensures.files c.requires.file
 
-pub returns : goal.returns
-returns c =
+pub returns-clause-made : goal.returns-clause-made
+returns-clause-made c =
     let files = c.args.linked.now.files in
     let file = c.args.file in
     let scene = c.in_ok-scene.scene in

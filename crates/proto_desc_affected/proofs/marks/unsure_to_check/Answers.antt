@@ -1,10 +1,12 @@
-use Rattle.std.proofs.Common.{◌≡◌, ◌≢◌, ◌<◌, ◌+◌, ◌⊎◌, ℕ, true, Bool, false, List, length, get_or, sym, ap, subst, ◌∙◌, inl, inr, arith, below_more, length-set, get_or-set_other, slice_set}
-use Rattle.std.proofs.lemmas.Bool.{both_ways}
+use Rattle.std.proofs.Common.{◌≡◌, ◌<◌, ◌+◌, ℕ, true, Bool, false, List, All, length, get_or, take, sym, ap, subst, ◌∙◌, inl, inr, arith, length-set, slice_set, take_all}
+use Rattle.std.proofs.lemmas.Bool.{cases_Bool, false≢true}
+use Rattle.std.proofs.lemmas.List.Elements.{All-contains, All-more}
 use Rattle.proto_base.proofs.Common.{get_or-map}
-use Rattle.proto_file_sets.proofs.Members.{inserted_is_in}
-use Rattle.proto_desc_affected.specs.Checked.{IsKeptStill, nothing_kept}
+use Rattle.proto_names_affected.proofs.Inserted.{inserted_marked, inserted_stay}
+use Rattle.proto_desc_affected.specs.Checked.{nothing_kept}
 use Rattle.proto_desc_affected.specs.Common.{file_summary_of, file_summaries_of}
-use Rattle.proto_desc_affected.proofs.marks.unsure_to_check.Goals.{then-not-is_left_out, else-not-is_left_out}
+use Rattle.proto_desc_affected.proofs.AskedFiles.{IsAsked, asked_stay}
+use Rattle.proto_desc_affected.proofs.marks.unsure_to_check.Goals.{then-not-is_kept_still, else-not-is_kept_still}
 use Rattle.proto_desc_affected.proofs.marks.unsure_to_check.Goals as goal
 
 pub loop-file-preserved : goal.loop-file-preserved
@@ -13,28 +15,38 @@ loop-file-preserved c =
     let places = c.args.places.now in
     let l = c.args.linked.now.link in
     let kept = c.args.kept.files.now in
-    let unsure = c.args.unsure.now in
-    let file = c.loop-file.file in
+    let ks = file_summaries_of kept in
+    let asked = c.deref-file-items.result.now in
+    let i = c.loop-file.file-index in
+    let file = get_or asked i 0 in
     let was = c.loop-file.affected in
-    let within : file < length files = omega (arith, c.loop-file-test.true, c.file_count-file-end.ensures.len) in
-    elim c.if-not-is_left_out.branch [
-      | then-not-is_left_out w ↦
-          let is : c.if-not-is_left_out.affected ≡ slice_set was file true = w.affected-is ∙ w.insert.ensures in
+    let within : file < length files = omega (arith, subst (All (λ (f : ℕ). f < c.file_count-file_count.result)) (sym c.deref-file-items.ensures.value) c.in_ok-asked.ensures.within i 0 c.loop-file-test.true, c.file_count-file_count.ensures.len) in
+    elim c.if-not-is_kept_still.branch [
+      | then-not-is_kept_still w ↦
+          let is : c.if-not-is_kept_still.affected ≡ slice_set was file true = w.affected-is ∙ w.insert.ensures in
+          let now = c.if-not-is_kept_still.affected in
           record {
             len = ap length is ∙ length-set was file true ∙ c.loop-file.invariant.len;
-            others = λ k n out. (
-                let apart : k ≢ file = λ e. both_ways (get_or (slice_set was file true) file false) (subst (λ j. get_or (slice_set was file true) j false ≡ false) e (ap (λ (s : List Bool). get_or s k false) (sym is) ∙ out)) (inserted_is_in was file (omega (arith, within, c.loop-file.invariant.len))) in
-                c.loop-file.invariant.others k (omega (arith, n, apart)) (sym (get_or-set_other was file k true false apart) ∙ ap (λ (s : List Bool). get_or s k false) (sym is) ∙ out));
+            asked = All-more (IsAsked places files l ks now) asked i 0 c.loop-file-test.true
+                (asked_stay places files l ks was now (inserted_stay was now file is) (take i asked) c.loop-file.invariant.asked)
+                (λ off. absurd (false≢true (sym off ∙ inserted_marked was now file (omega (arith, within, c.loop-file.invariant.len)) is)));
           }
-      | else-not-is_left_out w ↦
+      | else-not-is_kept_still w ↦
           record {
             len = ap length w.affected-is ∙ c.loop-file.invariant.len;
-            others = subst (λ (s : List Bool). (k : ℕ) → k < file + 1 → get_or s k false ≡ false → (get_or unsure k false ≡ false) ⊎ IsKeptStill places files l (file_summaries_of kept) k) (sym w.affected-is)
-                (below_more (λ k. get_or was k false ≡ false → (get_or unsure k false ≡ false) ⊎ IsKeptStill places files l (file_summaries_of kept) k) file c.loop-file.invariant.others
-                (λ _. elim ((rw c.link-link.ensures.link at c.is_left_out.ensures) w.if-not-is_left_out.false) [
-                  | inl sure ↦ inl sure
-                  | inr stays ↦ inr (stays places c.mark_places.ensures.marked files (file_summaries_of kept) c.requires.still within
-                      (get_or-map file_summary_of kept file c.index-kept-file.result nothing_kept (omega (arith, within, c.requires.paired))))
-                ]));
+            asked = subst (λ (s : List Bool). All (IsAsked places files l ks s) (take (i + 1) asked)) (sym w.affected-is)
+                (All-more (IsAsked places files l ks was) asked i 0 c.loop-file-test.true c.loop-file.invariant.asked
+                (λ _. (rw c.link-link.ensures.link at c.is_kept_still.ensures) w.if-not-is_kept_still.false places c.mark_places.ensures.marked files ks c.requires.still within
+                (get_or-map file_summary_of kept file c.index-kept-file.result nothing_kept (omega (arith, within, c.requires.paired)))));
           }
+    ]
+
+pub returns-clause-others : goal.returns-clause-others
+returns-clause-others c = λ file within off.
+    let P = IsAsked c.args.places.now c.args.linked.now.files c.args.linked.now.link (file_summaries_of c.args.kept.files.now) c.loop-file.affected in
+    let asked = c.deref-file-items.result.now in
+    let whole = take_all c.loop-file.file-index asked c.loop-file-test.false ∙ c.deref-file-items.ensures.value in
+    elim (cases_Bool (get_or c.args.unsure.now file false)) [
+      | inl on ↦ inr (All-contains P c.in_ok-asked.asked.items file (subst (All P) whole c.loop-file.invariant.asked) (c.in_ok-asked.ensures.whole file (omega (arith, within, c.file_count-file_count.ensures.len)) on) off)
+      | inr sure ↦ inl sure
     ]

@@ -1,9 +1,5 @@
-use Rattle.std.proofs.Common.{◌≡◌, length}
-use Rattle.proto_desc.proofs.MadePut.{ArePutSoFar}
+use Rattle.proto_desc.specs.Renewing.{ArePut}
 use Rattle.proto_desc.proofs.descriptors.Descriptors.put.Given as goal
 
 abbrev pub invariant-loop-made : goal.invariant-loop-made
-invariant-loop-made l = record {
-  file : l.file ≡ length l.yielded;
-  put : ArePutSoFar l.yielded l.initial.self l.self;
-}
+invariant-loop-made l = ArePut l.yielded l.initial.self l.self
