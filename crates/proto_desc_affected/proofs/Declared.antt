@@ -5,7 +5,7 @@ use Rattle.proto_case.specs.Camel.{entry_name}
 use Rattle.proto_base.specs.declared.fault.FaultKind.TheVariants as kind
 use Rattle.proto_text.specs.Texts.{offset_at}
 use Rattle.proto_files.proofs.Common.{AreRead, FaultAt, FileOf, HasNoFault, ReadOf, file_at, read_at}
-use Rattle.proto_names_rules.proofs.Common.{At, Declared, EntryOf, Fault, FileNames, Given, NameFault, Placed, Source, Symbol, Token, Used, all_declared, at, declares, earlier, file_declared, file_placed, is_type, map_agree, map_map, meant, name_from_same, name_of, of_package, package_or, place_from, place_of, same_from_name, same_name, shifted_source, spell, symbol_of}
+use Rattle.proto_names_rules.proofs.Common.{At, Declared, EntryOf, Fault, FileNames, Given, NameFault, Placed, Source, Symbol, Token, Used, all_declared, at, declares, earlier, file_declared, file_placed, is_type, map_agree, map_map, may_resolve_to, meant, name_from_same, name_of, of_package, package_or, place_from, place_of, same_from_name, same_name, shifted_source, spell, symbol_of, wanted_no_package}
 use Rattle.proto_names_rules.specs.declared.kind.Kind.{Kind}
 use Rattle.proto_names_rules.specs.declared.kind.Kind.TheVariants.{Package}
 use Rattle.proto_names_imports.specs.Links.{LinkFaults, link_skeleton, names_in, names_of_files, of_name, text_of, used_named}
@@ -81,10 +81,10 @@ module _ (text : At → List ℕ) (declared : List (Declared At)) (apart : (f : 
     | inr (inr above) ↦ absurd (apart _ (earlier s (ct.0, cs.0, s, above, cs.1, cs.2, ap (λ (d : Declared At). name_of text entry_name d.path) (get_or_default declared ct.0 s t ct.1 ∙ ct.2) ∙ sym e) other))
   ]
 
--- the declaration of a type's name
+-- the declaration of a name that is no package's
 pub record IsNamed (files : List FileOf) (reads : List ReadOf) (name : List (List ℕ)) (d : Declared At) : Type 0 where
   pub there : Contains (link_skeleton files reads).declared d
-  pub typed : is_type d.kind ≡ true
+  pub other : d.kind ≢ Package
   pub spelled : name_of (text_of files reads) entry_name d.path ≡ name
 
 pub no_package : (k : Kind) → is_type k ≡ true → k ≢ Package
@@ -98,7 +98,7 @@ meant_named files reads file u name means =
       d.0,
       record {
         there = d.1;
-        typed = ap (λ (s : Symbol). is_type s.kind) d.2 ∙ t.3;
+        other = wanted_no_package u.wants d.0.kind (ap (λ (s : Symbol). may_resolve_to u.wants s.kind) d.2 ∙ t.3);
         spelled = ap (λ (s : Symbol). s.name) d.2 ∙ t.2;
       },
     )
@@ -125,7 +125,17 @@ declared_named files reads apart name d is =
     let spelled : Declared At → List (List ℕ) = λ x. name_of (text_of files reads) entry_name x.path in
     let f = some_found (λ x. same_name (spelled x) name) declared d is.there (same_from_name (spelled d) name is.spelled) in
     let g = found_passes (λ x. same_name (spelled x) name) declared f.0 f.1 in
-    f.1 ∙ ap (λ (x : Declared At). Some x) (one_of_name (text_of files reads) declared apart d f.0 is.there g.0 (no_package d.kind is.typed) (is.spelled ∙ sym (name_from_same (spelled f.0) name g.1)))
+    f.1 ∙ ap (λ (x : Declared At). Some x) (one_of_name (text_of files reads) declared apart d f.0 is.there g.0 is.other (is.spelled ∙ sym (name_from_same (spelled f.0) name g.1)))
+
+-- of a kind that the reference may resolve to
+pub meant_kind : (files : List FileOf) (reads : List ReadOf) → NoNameClashes files reads → (file : ℕ) (u : Used ℕ) (name : List (List ℕ)) → meaning_of files reads file u ≡ Some name → (d : Declared At) → IsNamed files reads name d → may_resolve_to u.wants d.kind ≡ true
+meant_kind files reads apart file u name means d is =
+    let t = meant (names_of_files files reads) (used_named (text_of files reads) file u) name means in
+    let x = from_map (symbol_of (text_of files reads) entry_name) (link_skeleton files reads).declared t.0 t.1 in
+    let wanted : may_resolve_to u.wants x.0.kind ≡ true = ap (λ (s : Symbol). may_resolve_to u.wants s.kind) x.2 ∙ t.3 in
+    let named : IsNamed files reads name x.0 = record { there = x.1; other = wanted_no_package u.wants x.0.kind wanted; spelled = ap (λ (s : Symbol). s.name) x.2 ∙ t.2 } in
+    let same : d ≡ x.0 = same_Some d x.0 (sym (declared_named files reads apart name d is) ∙ declared_named files reads apart name x.0 named) in
+    subst (λ (y : Declared At). may_resolve_to u.wants y.kind ≡ true) (sym same) wanted
 
 -- ---- where other files are edited
 
@@ -168,7 +178,7 @@ module _ (places : List ℕ) (before : List FileOf) (was : List ReadOf) (files :
         within = omega (arith, stands, l);
         named = record {
           there = subst (Contains (all_declared 0 (map names_in reads))) p.2.2 there;
-          typed = is.typed;
+          other = is.other;
           spelled = spelled d declares_it ∙ is.spelled;
         };
       }

@@ -98,7 +98,7 @@ module _ (files : List FileOf) (reads : List ReadOf) (are : AreRead files reads)
       let same : own_name p.0 ≡ name = joined_apart (own_name p.0) name plain_own plain k.1 in
       record {
         declared = declares file p.0;
-        named = record { there = declared; typed = ap is_type k.0; spelled = spelled p.0 ∙ same };
+        named = record { there = declared; other = no_package p.0.kind (ap is_type k.0); spelled = spelled p.0 ∙ same };
         kind = k.0;
         is = ap (enum_at files reads) (stands p.0) ∙ k.2;
       }

@@ -1,13 +1,13 @@
 -- What a link has of references is what is kept of them; and a message that it has is no enum.
-use Rattle.std.proofs.Common.{◌≡◌, ℕ, suc, ◌+◌, ◌<◌, Bool, true, false, if◌then◌else◌, List, [], ◌∷◌, ◌++◌, length, get_or, map, Option, Some, None, option_map, option_and_then, refl, sym, ◌∙◌, ap, ap₂, subst, arith, true≢false, All, Contains}
+use Rattle.std.proofs.Common.{◌≡◌, ◌≢◌, ℕ, suc, ◌+◌, ◌<◌, Bool, true, false, if◌then◌else◌, List, [], ◌∷◌, ◌++◌, length, get_or, map, Option, Some, None, option_map, option_and_then, refl, sym, ◌∙◌, ap, ap₂, subst, arith, true≢false, All, Contains}
 use Rattle.proto_base.proofs.Common.{Contains-get_or, false_from_ne_true, contains_map, from_map, or_nothing, same_Some}
 use Rattle.proto_case.specs.Camel.{entry_name}
 use Rattle.proto_text.specs.Tokens.{lexeme_at}
 use Rattle.proto_tree.proofs.Common.{Numbered, Tree, flat, trees_are_numbered_in}
 use Rattle.proto_files.proofs.Common.{AreRead, FileOf, ReadOf, file_at, read_at}
 use Rattle.proto_names_rules.specs.declared.kind.Kind.{Kind}
-use Rattle.proto_names_rules.specs.declared.kind.Kind.TheVariants.{Message}
-use Rattle.proto_names_rules.proofs.Common.{At, Declared, EntryOf, Given, Placed, Source, Token, Used, at, declares, is_package, is_type, joined, name_from_same, name_of, package_from, package_of, place_from, place_of, same_from_name, same_name, shifted_source, symbol_of}
+use Rattle.proto_names_rules.specs.declared.kind.Kind.TheVariants.{Message, Package}
+use Rattle.proto_names_rules.proofs.Common.{At, Declared, EntryOf, Given, Placed, Source, Token, Used, at, declares, is_package, joined, name_from_same, name_of, package_from, package_of, place_from, place_of, same_from_name, same_name, shifted_source, symbol_of}
 use Rattle.proto_names_outline.specs.FromTree.{items_in}
 use Rattle.proto_names_imports.specs.Links.{link_skeleton, text_of, uses_of}
 use Rattle.proto_names.specs.LinkOfFiles.{IsLinkRead, meant_by_link, meant_by_use}
@@ -18,7 +18,7 @@ use Rattle.proto_resolved.proofs.MeantPlaces.{row_means}
 use Rattle.proto_resolved.specs.Meanings.{enum_of_name}
 use Rattle.proto_resolved.specs.SceneOf.{declared_as, enum_at, enum_named, enum_within, is_proto3_file, lexemes_of, meaning_of}
 use Rattle.proto_desc_affected.specs.Checked.{TypeUseOf, LinksHaveWhatIsKept, MeantMessagesAreNoEnums, is_message_kind, kept_by_link, type_use}
-use Rattle.proto_desc_affected.proofs.Declared.{IsNamed, declared_by, found_passes, meant_named, no_package, some_found}
+use Rattle.proto_desc_affected.proofs.Declared.{IsNamed, declared_by, found_passes, meant_named, some_found}
 use Rattle.proto_desc_affected.proofs.MessageBlocks.{in_items, no_enum_there}
 
 -- ---- a message is no enum
@@ -91,15 +91,16 @@ module _ (files : List FileOf) (reads : List ReadOf) (l : LinkOf) (link : IsLink
       let same : spelled f.0 ≡ r.name = name_from_same (spelled f.0) r.name g.1 in
       let text : r.has.text ≡ joined (spelled f.0) = r.text ∙ ap joined (sym same) in
       let kind : r.has.kind ≡ f.0.kind = one_kind m.row r.has r.there f.0 g.0 text in
-      let type : is_type f.0.kind ≡ true = ap is_type (sym kind ∙ one_kind m.row r.has r.there d.0 d.1.there (r.text ∙ ap joined (sym d.1.spelled))) ∙ d.1.typed in
-      let place = (name_declared_as (text_of files reads) (link_skeleton files reads) l link.by f.0 g.0 (no_package f.0.kind type) m.row r.has r.there text).1 in
-      let other : is_package r.has.kind ≡ false = false_from_ne_true (is_package r.has.kind) (λ q. no_package f.0.kind type (sym kind ∙ package_from r.has.kind q)) in
+      let same_kind : f.0.kind ≡ d.0.kind = sym kind ∙ one_kind m.row r.has r.there d.0 d.1.there (r.text ∙ ap joined (sym d.1.spelled)) in
+      let apart : f.0.kind ≢ Package = λ e. d.1.other (sym same_kind ∙ e) in
+      let place = (name_declared_as (text_of files reads) (link_skeleton files reads) l link.by f.0 g.0 apart m.row r.has r.there text).1 in
+      let other : is_package r.has.kind ≡ false = false_from_ne_true (is_package r.has.kind) (λ q. apart (sym kind ∙ package_from r.has.kind q)) in
       record {
         name = r.name;
         means = r.means;
         text = ap (option_map (λ (y : NameOf). y.text)) r.there ∙ ap (λ (t : List ℕ). Some t) r.text;
         declared = f.0;
-        named = record { there = g.0; typed = type; spelled = same };
+        named = record { there = g.0; other = apart; spelled = same };
         found = f.1;
         kind = ap (option_map (λ (y : NameOf). y.kind)) r.there ∙ ap (λ (k : Kind). Some k) kind;
         file_is = ap (option_and_then own_file) r.there ∙ ap₂ (λ (b : Bool) (a : At). if b then None else Some a.file) other place;

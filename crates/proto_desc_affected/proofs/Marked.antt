@@ -5,7 +5,7 @@ use Rattle.proto_case.specs.Camel.{entry_name}
 use Rattle.proto_files.proofs.Common.{FileOf, HasNoFault, ReadOf}
 use Rattle.proto_names_rules.specs.declared.kind.Kind.{Kind}
 use Rattle.proto_names_rules.specs.declared.kind.Kind.TheVariants.{Message}
-use Rattle.proto_names_rules.proofs.Common.{At, Declared, Reference, Symbol, Used, all_used, is_type, joined, meaning, reference_of, symbol_of, used_in}
+use Rattle.proto_names_rules.proofs.Common.{At, Declared, Reference, Symbol, Used, all_used, joined, meaning, reference_of, symbol_of, used_in}
 use Rattle.proto_names_imports.proofs.Common.{use_in}
 use Rattle.proto_names_imports.specs.Links.{LinkFaults, link_skeleton, names_in, names_of_files, text_of, used_named, uses_of}
 use Rattle.proto_names.specs.LinkOfFiles.{IsLinkRead, meant_by_link, meant_by_use}
@@ -17,7 +17,7 @@ use Rattle.proto_resolved.specs.SceneOf.{declared_as, meaning_of}
 use Rattle.proto_desc_affected.specs.Checked.{AreKeptOf, AreMeantStill, DoesMeanStill, IsMeantStill, IsSettled, FileSummaryOf, MarksTellKept, is_message_kind, file_summary, type_use, nothing_kept}
 use Rattle.proto_desc_affected.specs.Unaffected.{AreSoundlyEdited}
 use Rattle.proto_desc_affected.proofs.Checked.{resolved}
-use Rattle.proto_desc_affected.proofs.Declared.{IsNamed, declared_named, meant_named}
+use Rattle.proto_desc_affected.proofs.Declared.{IsNamed, declared_named, meant_kind, meant_named}
 use Rattle.proto_desc_affected.proofs.Linked.{has_meant, message_kind}
 use Rattle.proto_desc_affected.proofs.Unedited.{as_many, same_reading, same_text}
 
@@ -57,7 +57,7 @@ module _ (differ : EditedFilesDiffer) (unmarked : UnmarkedFilesMeanTheSame) (key
       let s : Symbol = symbol_of (text_of before was) entry_name d in
       let there = contains_map (symbol_of (text_of before was) entry_name) (link_skeleton before was).declared d is.there in
       elim (contains_or_not places s.file) [
-        | inl edited ↦ told.none_gone (used_named (text_of before was) file u) s (reference_there before was file u within_before c) off (means ∙ ap (λ (n : List (List ℕ)). Some n) (sym is.spelled)) there edited is.typed
+        | inl edited ↦ told.none_gone (used_named (text_of before was) file u) s (reference_there before was file u within_before c) off (means ∙ ap (λ (n : List (List ℕ)). Some n) (sym is.spelled)) there edited (meant_kind before was are.apart_before file u name means d is)
         | inr elsewhere ↦ (differ places before was files reads are.edited).stay s there elsewhere
       ]
 
@@ -66,7 +66,7 @@ module _ (differ : EditedFilesDiffer) (unmarked : UnmarkedFilesMeanTheSame) (key
   kind_stays u c name means d is x found =
       let t = from_map (symbol_of (text_of files reads) entry_name) (link_skeleton files reads).declared (symbol_of (text_of before was) entry_name d) (stays_declared u c name means d is) in
       let kind : t.0.kind ≡ d.kind = ap (λ (s : Symbol). s.kind) t.2 in
-      let named : IsNamed files reads name t.0 = record { there = t.1; typed = ap is_type kind ∙ is.typed; spelled = ap (λ (s : Symbol). s.name) t.2 ∙ is.spelled } in
+      let named : IsNamed files reads name t.0 = record { there = t.1; other = λ e. is.other (sym kind ∙ e); spelled = ap (λ (s : Symbol). s.name) t.2 ∙ is.spelled } in
       ap (λ (y : Declared At). y.kind) (same_Some x t.0 (sym found ∙ declared_named files reads are.apart_now name t.0 named)) ∙ kind
 
   abbrev by_which : FileSummaryOf

@@ -5,7 +5,7 @@ use Rattle.proto_names_rules.proofs.Common.{Renaming, target, ArePlain, IsPlain,
 use Rattle.proto_names_rules.specs.declared.kind.Kind.{Kind}
 use Rattle.proto_names_imports.proofs.PlainNames.{plain_join}
 use Rattle.proto_names.proofs.Common.{HoldsNames, LinkOf, NameOf, is_visible, name_at, name_text}
-use Rattle.proto_edit_captures.specs.Common.{NewTexts, shows_anew, shows_beside, shows_entry, entry_shown_if, first_fits, kind_fits, kind_named, shown_below, shown_beside, shows_fitting}
+use Rattle.proto_edit_captures.specs.Common.{Fit, NewTexts, shows_anew, shows_beside, shows_entry, entry_shown_if, first_fits, kind_fits, kind_named, shown_below, shown_beside, shows_fitting}
 use Rattle.proto_edit_captures.proofs.KindNamed.{kind_at}
 use Rattle.proto_edit_captures.proofs.NewlyShown.{same_truth}
 
@@ -49,29 +49,29 @@ module _ (w : Workspace) (l : LinkOf) (file : ℕ) (names : HoldsNames w l) (vis
       let n = names.there s cs in
       sym (kind_at l (joined s.name) n.0 (ap (option_map (λ n. n.text)) n.2 ∙ ap Some n.3) one_text) ∙ ap (option_map (λ n. n.kind)) n.2 ∙ ap Some n.4
 
-  pub shows_is : (is_long : Bool) (x : List (List ℕ)) → ArePlain x → shows_fitting l file is_long (joined x) ≡ shows w file (first_fits is_long) x
-  shows_is is_long x plain = same_truth (shows_fitting l file is_long (joined x)) (shows w file (first_fits is_long) x) forth back
+  pub shows_is : (fit : Fit) (x : List (List ℕ)) → ArePlain x → shows_fitting l file fit (joined x) ≡ shows w file (first_fits fit) x
+  shows_is fit x plain = same_truth (shows_fitting l file fit (joined x)) (shows w file (first_fits fit) x) forth back
     where
-      forth : shows_fitting l file is_long (joined x) ≡ true → shows w file (first_fits is_long) x ≡ true
+      forth : shows_fitting l file fit (joined x) ≡ true → shows w file (first_fits fit) x ≡ true
       forth h =
-          let t = and_parts (kind_fits is_long (kind_named l (joined x))) (is_visible l file (joined x)) h in
+          let t = and_parts (kind_fits fit (kind_named l (joined x))) (is_visible l file (joined x)) h in
           let s = shown w file (λ k. true) x (sym (visible x plain) ∙ t.1) in
-          let good : first_fits is_long s.0.kind ≡ true = ap (kind_fits is_long) (sym (ap (kind_named l) (ap joined (sym s.2)) ∙ kind_of_symbol s.0 s.1)) ∙ t.0 in
-          any_from (λ s. same_name s.name x && (first_fits is_long s.kind && sees w file s.file)) w.symbols s.0 s.1
-          (and_from (same_name s.0.name x) (first_fits is_long s.0.kind && sees w file s.0.file) (same_from_name s.0.name x s.2) (and_from (first_fits is_long s.0.kind) (sees w file s.0.file) good s.4))
+          let good : first_fits fit s.0.kind ≡ true = ap (kind_fits fit) (sym (ap (kind_named l) (ap joined (sym s.2)) ∙ kind_of_symbol s.0 s.1)) ∙ t.0 in
+          any_from (λ s. same_name s.name x && (first_fits fit s.kind && sees w file s.file)) w.symbols s.0 s.1
+          (and_from (same_name s.0.name x) (first_fits fit s.0.kind && sees w file s.0.file) (same_from_name s.0.name x s.2) (and_from (first_fits fit s.0.kind) (sees w file s.0.file) good s.4))
 
-      back : shows w file (first_fits is_long) x ≡ true → shows_fitting l file is_long (joined x) ≡ true
+      back : shows w file (first_fits fit) x ≡ true → shows_fitting l file fit (joined x) ≡ true
       back h =
-          let s = shown w file (first_fits is_long) x h in
-          and_from (kind_fits is_long (kind_named l (joined x))) (is_visible l file (joined x))
-          (ap (kind_fits is_long) (ap (kind_named l) (ap joined (sym s.2)) ∙ kind_of_symbol s.0 s.1) ∙ s.3)
-          (visible x plain ∙ shown_to_all w file (first_fits is_long) x h)
+          let s = shown w file (first_fits fit) x h in
+          and_from (kind_fits fit (kind_named l (joined x))) (is_visible l file (joined x))
+          (ap (kind_fits fit) (ap (kind_named l) (ap joined (sym s.2)) ∙ kind_of_symbol s.0 s.1) ∙ s.3)
+          (visible x plain ∙ shown_to_all w file (first_fits fit) x h)
 
   module _ (e : Renaming) (is : IsRenaming e w) where
     pub target_plain : ArePlain (target e)
     target_plain = subst ArePlain is.target_is.2 (names.plain is.target_is.0 is.target_is.1)
 
-    module _ (S : List (List ℕ)) (some : S ≢ []) (plain : ArePlain S) (q : List ℕ) (word : IsPlain q) (is_long : Bool) where
+    module _ (S : List (List ℕ)) (some : S ≢ []) (plain : ArePlain S) (q : List ℕ) (word : IsPlain q) (fit : Fit) where
       is_parent : bytes_eq (below (joined S) e.old) (joined (target e)) ≡ same_name S e.parent
       is_parent = same_truth (bytes_eq (below (joined S) e.old) (joined (target e))) (same_name S e.parent) forth back
         where
@@ -84,20 +84,20 @@ module _ (w : Workspace) (l : LinkOf) (file : ℕ) (names : HoldsNames w l) (vis
           back : same_name S e.parent ≡ true → bytes_eq (below (joined S) e.old) (joined (target e)) ≡ true
           back h = same_from_word (below (joined S) e.old) (joined (target e)) (below_is S e.old some ∙ ap (λ z. joined (z ++ e.old ∷ [])) (name_from_same S e.parent h))
 
-      entry_is : S ≡ e.parent → (o : Option (List ℕ × List ℕ)) → e.entry ≡ o → entry_shown_if l file is_long o (joined S) q ≡ shows_entry w file (first_fits is_long) S o q
+      entry_is : S ≡ e.parent → (o : Option (List ℕ × List ℕ)) → e.entry ≡ o → entry_shown_if l file fit o (joined S) q ≡ shows_entry w file (first_fits fit) S o q
       entry_is own None eo = refl
       entry_is own (Some p) eo =
           let fits : EntryFits w e (Some p) = subst (EntryFits w e) eo is.entry_is in
           let s = fits.2 in
           let whole : s.0.name ≡ S ++ p.0 ∷ [] = s.2 ∙ ap (λ z. z ++ p.0 ∷ []) (sym own) in
-          ap (λ z. bytes_eq q p.1 && z) (ap (shows_fitting l file is_long) (below_is S p.0 some) ∙ shows_is is_long (S ++ p.0 ∷ []) (subst ArePlain whole (names.plain s.0 s.1)))
+          ap (λ z. bytes_eq q p.1 && z) (ap (shows_fitting l file fit) (below_is S p.0 some) ∙ shows_is fit (S ++ p.0 ∷ []) (subst ArePlain whole (names.plain s.0 s.1)))
 
-      by : (b : Bool) → same_name S e.parent ≡ b → (if b then shown_beside l file is_long (texts_for e) (joined S) q else shows_fitting l file is_long (below (joined S) q))
-          ≡ (if b then shows_beside e w file (first_fits is_long) S q else shows w file (first_fits is_long) (S ++ q ∷ []))
-      by true own = ap₂ (λ (x y : Bool). (bytes_eq q e.new && x) || y) (shows_is is_long (target e) target_plain) (entry_is (name_from_same S e.parent own) e.entry refl)
-      by false other = ap (shows_fitting l file is_long) (below_is S q some) ∙ shows_is is_long (S ++ q ∷ []) (plain_join S q plain word)
+      by : (b : Bool) → same_name S e.parent ≡ b → (if b then shown_beside l file fit (texts_for e) (joined S) q else shows_fitting l file fit (below (joined S) q))
+          ≡ (if b then shows_beside e w file (first_fits fit) S q else shows w file (first_fits fit) (S ++ q ∷ []))
+      by true own = ap₂ (λ (x y : Bool). (bytes_eq q e.new && x) || y) (shows_is fit (target e) target_plain) (entry_is (name_from_same S e.parent own) e.entry refl)
+      by false other = ap (shows_fitting l file fit) (below_is S q some) ∙ shows_is fit (S ++ q ∷ []) (plain_join S q plain word)
 
-      pub shown_is : shown_below l file is_long (texts_for e) (joined S) q ≡ shows_anew e w file (first_fits is_long) S q
+      pub shown_is : shown_below l file fit (texts_for e) (joined S) q ≡ shows_anew e w file (first_fits fit) S q
       shown_is =
-          ap (λ b. if b then shown_beside l file is_long (texts_for e) (joined S) q else shows_fitting l file is_long (below (joined S) q)) is_parent
+          ap (λ b. if b then shown_beside l file fit (texts_for e) (joined S) q else shows_fitting l file fit (below (joined S) q)) is_parent
           ∙ by (same_name S e.parent) refl

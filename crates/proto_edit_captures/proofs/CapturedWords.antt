@@ -1,12 +1,15 @@
 -- The answer by texts for one reference is that of the definition by names.
 use Rattle.std.proofs.Common.{◌≡◌, ◌≢◌, ℕ, ◌-◌, ◌<◌, ◌≤◌, Bool, true, false, ◌&&◌, if◌then◌else◌, List, [], ◌∷◌, ◌++◌, length, take, drop, Option, Some, None, refl, sym, ap, subst, ◌∙◌, inl, inr, arith, ◌==◌, nat_eq, bytes_eq, eq-eqb, eqb-true, length-take-le, take-append-drop, take_at}
 use Rattle.proto_base.proofs.Common.{starts_with, and_from, and_parts, both_ways, cond-false, or_cases, or_left, or_right, none-some, same_from_word, word_from_same}
-use Rattle.proto_names_rules.proofs.Common.{Renaming, Collides, IsCaptured, ren, rewritten, shows_mapped, target, ArePlain, IsPlain, joined, IsLinked, IsRenaming, Reference, Workspace, fits_at_first, front_at, hit, meaning, meaning_at, same_name, shows, typed, name_from_same, same_from_name, joined_apart, hit_relative}
+use Rattle.proto_names_rules.proofs.Common.{Renaming, Collides, IsCaptured, ren, rewritten, shows_mapped, target, ArePlain, IsPlain, joined, IsLinked, IsRenaming, Reference, Workspace, fits_at_first, front_at, hit, may_resolve_to, meaning, meaning_at, same_name, shows, visible_as, name_from_same, same_from_name, joined_apart, hit_relative}
+use Rattle.proto_names_rules.specs.declared.kind.Kind.{Kind}
+use Rattle.proto_names_rules.specs.declared.wants.Wants.{Wants}
+use Rattle.proto_names_rules.specs.declared.wants.Wants.TheVariants as wants
 use Rattle.proto_names_imports.proofs.PlainNames.{plain_join}
 use Rattle.proto_names.proofs.Common.{HoldsNames, LinkOf, is_visible}
 use Rattle.proto_edit_rename_laws.proofs.Common.{HasScope, IsNewWord, meaning_parts}
 use Rattle.proto_edit_rename_laws.proofs.Captures.{captures_begin_anew}
-use Rattle.proto_edit_captures.specs.Common.{bytes_before, captures_at, captures_words, first_now, is_cons, shown_from, stands_first, NewTexts, is_new_by, is_new_word, IsDeclaredName, first_fits, shown_below}
+use Rattle.proto_edit_captures.specs.Common.{bytes_before, captures_at, captures_words, first_now, fit_of, shown_from, stands_first, NewTexts, is_new_by, is_new_word, IsDeclaredName, first_fits, shown_below}
 use Rattle.proto_edit_captures.proofs.ByTexts.{shown_is, target_plain, texts_for}
 use Rattle.proto_edit_captures.proofs.FrontLengths.{before_first, deeper, joined_begins, not_deeper, scan_from, scan_to}
 use Rattle.proto_edit_captures.proofs.NewlyShown.{same_truth, shown_is_anew}
@@ -28,6 +31,18 @@ new_from e q h = elim (or_cases (bytes_eq q e.new) (is_new_by e.entry q) h) [
 new_to : (e : Renaming) (q : List ℕ) → IsNewWord e q → is_new_word (texts_for e) q ≡ true
 new_to e q (inl x) = or_left (bytes_eq q e.new) (is_new_by e.entry q) (same_from_word q e.new x)
 new_to e q (inr x) = or_right (bytes_eq q e.new) (is_new_by e.entry q) (ap (λ o. is_new_by o q) x.1 ∙ same_from_word q x.0.1 x.2)
+
+-- what fits at the first word, by the words behind it
+fits_word : (what : Wants) (p : List ℕ) (ws : List (List ℕ)) (k : Kind) → first_fits (fit_of what ws) k ≡ fits_at_first what (p ∷ ws) k
+fits_word wants.Type p [] k = refl
+fits_word wants.Type p (v ∷ ws) k = refl
+fits_word wants.Message p [] k = refl
+fits_word wants.Message p (v ∷ ws) k = refl
+fits_word wants.Extension p [] k = refl
+fits_word wants.Extension p (v ∷ ws) k = refl
+
+pub fits_first : (what : Wants) (p : List ℕ) (ws : List (List ℕ)) → first_fits (fit_of what ws) ≡ fits_at_first what (p ∷ ws)
+fits_first what p ws = λ i k. fits_word what p ws k i
 
 -- the first word of a reference stands for the target
 stands_is : (t front : List (List ℕ)) (p : List ℕ) (rest : List (List ℕ)) → ArePlain t → ArePlain (front ++ p ∷ [])
@@ -57,18 +72,16 @@ module _ (e : Renaming) (w : Workspace) (l : LinkOf) (ok : IsLinked w) (is : IsR
   abbrev n : NewTexts
   n = texts_for e
 
-  fitting : (x : List (List ℕ)) → shows_mapped e w r.file (first_fits (is_cons rest)) x ≡ shows_mapped e w r.file (fits_at_first r.words) x
-  fitting x = by rest words
-    where
-      by : (ws : List (List ℕ)) → r.words ≡ p ∷ ws → shows_mapped e w r.file (first_fits (is_cons ws)) x ≡ shows_mapped e w r.file (fits_at_first r.words) x
-      by [] h = ap (λ z. shows_mapped e w r.file (fits_at_first z) x) (sym h)
-      by (v ∷ ws) h = ap (λ z. shows_mapped e w r.file (fits_at_first z) x) (sym h)
+  fitting : (x : List (List ℕ)) → shows_mapped e w r.file (first_fits (fit_of r.wants rest)) x ≡ shows_mapped e w r.file (fits_at_first r.wants r.words) x
+  fitting x =
+      ap (λ (good : Kind → Bool). shows_mapped e w r.file good x) (fits_first r.wants p rest)
+      ∙ ap (λ z. shows_mapped e w r.file (fits_at_first r.wants z) x) (sym words)
 
   has_hit : r.is_absolute ≡ false → (k : ℕ) × (hit w r ≡ Some k)
   has_hit relative = by (hit w r) refl means
     where
       by : (o : Option ℕ) → hit w r ≡ o → meaning_at w r o ≡ Some m → (k : ℕ) × (hit w r ≡ Some k)
-      by None h x = absurd (none-some m (sym (cond-false r.is_absolute (typed w r.file r.words) None relative) ∙ x))
+      by None h x = absurd (none-some m (sym (cond-false r.is_absolute (visible_as w r.file (may_resolve_to r.wants) r.words) None relative) ∙ x))
       by (Some k) h x = (k, h)
 
   module _ (k : ℕ) (at : hit w r ≡ Some k) where
@@ -107,24 +120,24 @@ module _ (e : Renaming) (w : Workspace) (l : LinkOf) (ok : IsLinked w) (is : IsR
         ∙ ap (λ b. if b then e.new else p) (stands_is (target e) (take k r.scope) p rest (target_plain w l r.file names visible e is) (plain_join (take k r.scope) p (plain_take r.scope k scope_plain) word_plain))
 
     abbrev test : List ℕ → Bool
-    test f = shown_below l r.file (is_cons rest) n f q
+    test f = shown_below l r.file (fit_of r.wants rest) n f q
 
-    answer_is : captures_words l r.file n r.scope p rest (joined m) ≡ (is_new_word n q && shown_from test (len - length p) [] r.scope)
+    answer_is : captures_words l r.file n r.wants r.scope p rest (joined m) ≡ (is_new_word n q && shown_from test (len - length p) [] r.scope)
     answer_is =
-        ap (λ z. captures_at l r.file n r.scope (is_cons rest) p z (first_now n (joined m) (bytes_before (length (joined m)) rest) p)) len_is
-        ∙ ap (captures_at l r.file n r.scope (is_cons rest) p len) word_is
+        ap (λ z. captures_at l r.file n r.scope (fit_of r.wants rest) p z (first_now n (joined m) (bytes_before (length (joined m)) rest) p)) len_is
+        ∙ ap (captures_at l r.file n r.scope (fit_of r.wants rest) p len) word_is
 
     -- what is shown in a longer front, by texts and by names
-    shown_in : (j : ℕ) → 0 < j → j ≤ length r.scope → IsNewWord e q → test (joined (take j r.scope)) ≡ shows_mapped e w r.file (fits_at_first r.words) (ren e (take j r.scope) ++ take 1 (rewritten e (take k r.scope) r.words))
+    shown_in : (j : ℕ) → 0 < j → j ≤ length r.scope → IsNewWord e q → test (joined (take j r.scope)) ≡ shows_mapped e w r.file (fits_at_first r.wants r.words) (ren e (take j r.scope) ++ take 1 (rewritten e (take k r.scope) r.words))
     shown_in j some inside new =
         let not_nil = taken r.scope j some inside in
         let declared : IsDeclaredName w (take j r.scope) = (not_nil, scoped (take j r.scope) (drop j r.scope) (take-append-drop j r.scope) not_nil) in
-        shown_is w l r.file names visible e is (take j r.scope) not_nil (plain_take r.scope j scope_plain) q q_plain (is_cons rest)
-        ∙ sym (shown_is_anew e w ok is free (take j r.scope) declared q new r.file (first_fits (is_cons rest)))
+        shown_is w l r.file names visible e is (take j r.scope) not_nil (plain_take r.scope j scope_plain) q q_plain (fit_of r.wants rest)
+        ∙ sym (shown_is_anew e w ok is free (take j r.scope) declared q new r.file (first_fits (fit_of r.wants rest)))
         ∙ fitting (ren e (take j r.scope) ++ q ∷ [])
-        ∙ ap (λ z. shows_mapped e w r.file (fits_at_first r.words) (ren e (take j r.scope) ++ z)) (sym first_is)
+        ∙ ap (λ z. shows_mapped e w r.file (fits_at_first r.wants r.words) (ren e (take j r.scope) ++ z)) (sym first_is)
 
-    forth_at : captures_words l r.file n r.scope p rest (joined m) ≡ true → IsCaptured e w r
+    forth_at : captures_words l r.file n r.wants r.scope p rest (joined m) ≡ true → IsCaptured e w r
     forth_at h =
         let t = and_parts (is_new_word n q) (shown_from test (len - length p) [] r.scope) (sym answer_is ∙ h) in
         let new = new_from e q t.0 in
@@ -134,7 +147,7 @@ module _ (e : Renaming) (w : Workspace) (l : LinkOf) (ok : IsLinked w) (is : IsR
         let below = not_deeper r.scope p k s.0 some within inside s.3 in
         (k, s.0, at, below, inside, sym (shown_in s.0 some inside new) ∙ s.4)
 
-    back_at : (c : IsCaptured e w r) → c.0 ≡ k → captures_words l r.file n r.scope p rest (joined m) ≡ true
+    back_at : (c : IsCaptured e w r) → c.0 ≡ k → captures_words l r.file n r.wants r.scope p rest (joined m) ≡ true
     back_at c same =
         let j = c.1 in
         let b = c.3 in
@@ -142,7 +155,7 @@ module _ (e : Renaming) (w : Workspace) (l : LinkOf) (ok : IsLinked w) (is : IsR
         let begun = captures_begin_anew e w r k ok is free scoped at c in
         let word : q ≡ begun.0 = one_word (sym first_is ∙ begun.1) in
         let new : IsNewWord e q = subst (IsNewWord e) (sym word) begun.2 in
-        let shown = ap (λ i. shows_mapped e w r.file (fits_at_first r.words) (ren e (take j r.scope) ++ take 1 (rewritten e (take i r.scope) r.words))) (sym same) ∙ c.5 in
+        let shown = ap (λ i. shows_mapped e w r.file (fits_at_first r.wants r.words) (ren e (take j r.scope) ++ take 1 (rewritten e (take i r.scope) r.words))) (sym same) ∙ c.5 in
         let some : 0 < j = omega (arith, below) in
         answer_is ∙ and_from (is_new_word n q) (shown_from test (len - length p) [] r.scope) (new_to e q new)
         (scan_from test (len - length p) [] r.scope scope_plain j some c.4 (deeper r.scope p k j below c.4) (shown_in j some c.4 new ∙ shown))
@@ -150,8 +163,8 @@ module _ (e : Renaming) (w : Workspace) (l : LinkOf) (ok : IsLinked w) (is : IsR
         one_word : {v : List ℕ} → q ∷ [] ≡ v ∷ [] → q ≡ v
         one_word h = cc
 
-  pub forth : r.is_absolute ≡ false → captures_words l r.file n r.scope p rest (joined m) ≡ true → IsCaptured e w r
+  pub forth : r.is_absolute ≡ false → captures_words l r.file n r.wants r.scope p rest (joined m) ≡ true → IsCaptured e w r
   forth relative h = let x = has_hit relative in forth_at x.0 x.1 h
 
-  pub back : IsCaptured e w r → (r.is_absolute ≡ false) × (captures_words l r.file n r.scope p rest (joined m) ≡ true)
+  pub back : IsCaptured e w r → (r.is_absolute ≡ false) × (captures_words l r.file n r.wants r.scope p rest (joined m) ≡ true)
   back c = ((hit_relative w r c.0 c.2).0, back_at c.0 c.2 c refl)

@@ -118,7 +118,7 @@ module _ (files : List FileOf) (reads : List ReadOf) (t : Target) (to : List ℕ
           by (Some m) h = (m, h)
 
       abbrev answer : List (List ℕ) → Bool
-      answer m = captures_words l file (texts_for e) q.scope p rest (joined m)
+      answer m = captures_words l file (texts_for e) q.wants q.scope p rest (joined m)
 
       names : HoldsNames w l
       names = (link reads r.read).by.names
@@ -134,7 +134,7 @@ module _ (files : List FileOf) (reads : List ReadOf) (t : Target) (to : List ℕ
 
       -- the code's answer
       answer_is : (m : List (List ℕ)) → captures_use l file (texts_for e) own declared u (joined m) ≡ (not q.is_absolute && answer m)
-      answer_is m = ap (λ (s : List (List ℕ)). not q.is_absolute && captures_words l file (texts_for e) s p rest (joined m)) (sym scope_is)
+      answer_is m = ap (λ (s : List (List ℕ)). not q.is_absolute && captures_words l file (texts_for e) q.wants s p rest (joined m)) (sym scope_is)
 
       decided : (x : Meant) → meant_by_link l x ≡ meant_by_use files reads file v
           → (captures_by l file (texts_for e) own declared u x ≡ true → P v) × (P v → captures_by l file (texts_for e) own declared u x ≡ true)

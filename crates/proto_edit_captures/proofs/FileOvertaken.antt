@@ -80,7 +80,7 @@ module _ (files : List FileOf) (reads : List ReadOf) (are : AreRead files reads)
         by (Some m) h = (m, h)
 
     abbrev answer : List (List ℕ) → Bool
-    answer m = overtakes_words l marks packages q.scope p rest (joined m)
+    answer m = overtakes_words l marks packages q.wants q.scope p rest (joined m)
 
     plain : ArePlain q.scope
     plain = scope_plain w q names.plain scoped
@@ -93,7 +93,7 @@ module _ (files : List FileOf) (reads : List ReadOf) (are : AreRead files reads)
 
     -- the code's answer
     answer_is : (m : List (List ℕ)) → overtakes_use l marks packages own declared u (joined m) ≡ (not q.is_absolute && answer m)
-    answer_is m = ap (λ (s : List (List ℕ)). not q.is_absolute && overtakes_words l marks packages s p rest (joined m)) (sym scope_is)
+    answer_is m = ap (λ (s : List (List ℕ)). not q.is_absolute && overtakes_words l marks packages q.wants s p rest (joined m)) (sym scope_is)
 
     decided : (y : Meant) → meant_by_link l y ≡ meant_by_use files reads file x
         → (overtakes_by l marks packages own declared u y ≡ true → P x) × (P x → overtakes_by l marks packages own declared u y ≡ true)

@@ -51,7 +51,7 @@ module _ (files : List FileOf) (reads : List ReadOf) (t : Target) (to : List ℕ
   visible_at : VisibleIsShown → (q : Reference) → q.file ≡ file → (k : ℕ) → hit w q ≡ Some k → take k q.scope ++ take 1 q.words ≡ target e → is_visible l file (joined (target e)) ≡ true
   visible_at sight q at k h there =
       let visible = sight files reads l link r.read file within in
-      let shown = shown_to_all w q.file (fits_at_first q.words) (take k q.scope ++ take 1 q.words) (hit_relative w q k h).1.passes in
+      let shown = shown_to_all w q.file (fits_at_first q.wants q.words) (take k q.scope ++ take 1 q.words) (hit_relative w q k h).1.passes in
       visible (target e) (target_plain w l file (link reads r.read).by.names visible e (is_renaming files reads t to r))
       ∙ subst (λ (f : ℕ). shows w f (λ k. true) (target e) ≡ true) at (subst (λ (x : List (List ℕ)). shows w q.file (λ k. true) x ≡ true) there shown)
 

@@ -3,13 +3,13 @@ use Rattle.std.proofs.Common.{◌≡◌, ◌↔◌, ℕ, zero, suc, ◌-◌, ◌
 use Rattle.proto_base.proofs.Common.{and_from, and_parts, both_ways, cases_Bool, cond-false, cond-true, get_or_default, none-some, any_from}
 use Rattle.proto_names_rules.specs.declared.kind.Kind.{Kind}
 use Rattle.proto_names_rules.specs.declared.kind.Kind.TheVariants.{Package}
-use Rattle.proto_names_rules.proofs.Common.{IsOvertaken, ArePlain, IsPlain, below, joined, AreApart, is_package, MarksSeen, Reference, Symbol, Workspace, fits_at_first, front_at, hit, hits_at, meaning, meaning_at, same_name, sees, shows, typed, same_from_name, joined_apart, hit_relative, package_from, one_symbol, shown}
+use Rattle.proto_names_rules.proofs.Common.{IsOvertaken, ArePlain, IsPlain, below, joined, AreApart, is_package, MarksSeen, Reference, Symbol, Workspace, fits_at_first, front_at, hit, hits_at, may_resolve_to, meaning, meaning_at, same_name, sees, shows, visible_as, same_from_name, joined_apart, hit_relative, package_from, one_symbol, shown}
 use Rattle.proto_names_imports.proofs.PlainNames.{plain_join}
 use Rattle.proto_names.proofs.Common.{HoldsNames, LinkOf, NameOf, name_at, name_with, name_text}
 use Rattle.proto_edit_rename_laws.proofs.PlacesSuit.{meaning_parts}
-use Rattle.proto_edit_captures.specs.Common.{bytes_before, is_cons, shown_from, fits_seen, is_marked, sees_name, overtakes_words, sees_text, first_fits}
+use Rattle.proto_edit_captures.specs.Common.{Fit, bytes_before, fit_of, shown_from, fits_seen, is_marked, sees_name, overtakes_words, sees_text, first_fits}
 use Rattle.proto_edit_captures.proofs.ByTexts.{below_is, named_at}
-use Rattle.proto_edit_captures.proofs.CapturedWords.{plain_take, taken}
+use Rattle.proto_edit_captures.proofs.CapturedWords.{fits_first, plain_take, taken}
 use Rattle.proto_edit_captures.proofs.FrontLengths.{before_first, deeper, not_deeper, scan_from, scan_to}
 use Rattle.proto_edit_captures.proofs.KindNamed.{found_at, found_some}
 use Rattle.proto_edit_captures.proofs.NewlyShown.{same_truth}
@@ -40,9 +40,9 @@ module _ (w v : Workspace) (l : LinkOf) (file : ℕ) (marks : List Bool) (packag
   seen_if : (g : ℕ) → is_marked marks g ≡ sees v file g
   seen_if g = marked_is marks g ∙ seen g
 
-  module _ (is_long : Bool) (x : List (List ℕ)) (plain : ArePlain x) where
+  module _ (fit : Fit) (x : List (List ℕ)) (plain : ArePlain x) where
     abbrev good : Kind → Bool
-    good k = first_fits is_long k
+    good k = first_fits fit k
 
     abbrev found : Option NameOf
     found = name_with l (joined x)
@@ -65,7 +65,7 @@ module _ (w v : Workspace) (l : LinkOf) (file : ℕ) (marks : List Bool) (packag
           shows_it s.0 s.1 (s.2 ∙ text) (ap good s.3 ∙ fine) (ap (is_marked marks) s.4 ∙ marked)
     ]
 
-    forth_found : (o : Option NameOf) → found ≡ o → fits_seen marks packages is_long o ≡ true → shows v file good x ≡ true
+    forth_found : (o : Option NameOf) → found ≡ o → fits_seen marks packages fit o ≡ true → shows v file good x ≡ true
     forth_found None e h = absurd (both_ways false refl h)
     forth_found (Some n) e h =
         let r = found_some l.names (joined x) n e in
@@ -87,45 +87,41 @@ module _ (w v : Workspace) (l : LinkOf) (file : ℕ) (marks : List Bool) (packag
           cond-false (is_package n.kind) (packages n.text) (is_marked marks (get_or n.files 0 0)) p ∙ own
     ]
 
-    pub seen_is : sees_text l marks packages is_long (joined x) ≡ shows v file (first_fits is_long) x
-    seen_is = same_truth (sees_text l marks packages is_long (joined x)) (shows v file (first_fits is_long) x) (forth_found found refl) back
+    pub seen_is : sees_text l marks packages fit (joined x) ≡ shows v file (first_fits fit) x
+    seen_is = same_truth (sees_text l marks packages fit (joined x)) (shows v file (first_fits fit) x) (forth_found found refl) back
       where
-        back : shows v file (first_fits is_long) x ≡ true → sees_text l marks packages is_long (joined x) ≡ true
+        back : shows v file (first_fits fit) x ≡ true → sees_text l marks packages fit (joined x) ≡ true
         back h =
-            let s = shown v file (first_fits is_long) x h in
+            let s = shown v file (first_fits fit) x h in
             let c : Contains w.symbols s.0 = subst (λ (z : List Symbol). Contains z s.0) same s.1 in
             let n = names.there s.0 c in
             let text : n.1.text ≡ joined x = n.3 ∙ ap joined s.2 in
-            ap (fits_seen marks packages is_long) (name_found n.0 n.1 (joined x) n.2 text)
+            ap (fits_seen marks packages fit) (name_found n.0 n.1 (joined x) n.2 text)
             ∙ and_from (good n.1.kind) (sees_name marks packages n.1) (ap good n.4 ∙ s.3) (back_name s.0 c s.4 n.0 n.1 n.2 n.3 n.4)
 
   module _ (r : Reference) (own : r.file ≡ file) (scope_plain : ArePlain r.scope) (p : List ℕ) (rest : List (List ℕ)) (words : r.words ≡ p ∷ rest) (word_plain : IsPlain p)
       (m : List (List ℕ)) (means : meaning w r ≡ Some m) where
     abbrev test : List ℕ → Bool
-    test front = sees_text l marks packages (is_cons rest) (below front p)
+    test front = sees_text l marks packages (fit_of r.wants rest) (below front p)
 
     has_hit : r.is_absolute ≡ false → (k : ℕ) × (hit w r ≡ Some k)
     has_hit relative = by (hit w r) refl means
       where
         by : (o : Option ℕ) → hit w r ≡ o → meaning_at w r o ≡ Some m → (k : ℕ) × (hit w r ≡ Some k)
-        by None h x = absurd (none-some m (sym (cond-false r.is_absolute (typed w r.file r.words) None relative) ∙ x))
+        by None h x = absurd (none-some m (sym (cond-false r.is_absolute (visible_as w r.file (may_resolve_to r.wants) r.words) None relative) ∙ x))
         by (Some k) h x = (k, h)
 
-    fitting : (x : List (List ℕ)) → shows v file (first_fits (is_cons rest)) x ≡ shows v file (fits_at_first r.words) x
-    fitting x = by rest words
-      where
-        by : (ws : List (List ℕ)) → r.words ≡ p ∷ ws → shows v file (first_fits (is_cons ws)) x ≡ shows v file (fits_at_first r.words) x
-        by [] h = ap (λ z. shows v file (fits_at_first z) x) (sym h)
-        by (u ∷ ws) h = ap (λ z. shows v file (fits_at_first z) x) (sym h)
+    fitting : (x : List (List ℕ)) → shows v file (first_fits (fit_of r.wants rest)) x ≡ shows v file (fits_at_first r.wants r.words) x
+    fitting x = ap (λ (good : Kind → Bool). shows v file good x) (fits_first r.wants p rest) ∙ ap (λ z. shows v file (fits_at_first r.wants z) x) (sym words)
 
     -- what is seen in a front, by texts and by names
     seen_in : (j : ℕ) → 0 < j → j ≤ length r.scope → test (joined (take j r.scope)) ≡ hits_at v r j
     seen_in j some inside =
-        ap (sees_text l marks packages (is_cons rest)) (below_is (take j r.scope) p (taken r.scope j some inside))
-        ∙ seen_is (is_cons rest) (take j r.scope ++ p ∷ []) (plain_join (take j r.scope) p (plain_take r.scope j scope_plain) word_plain)
+        ap (sees_text l marks packages (fit_of r.wants rest)) (below_is (take j r.scope) p (taken r.scope j some inside))
+        ∙ seen_is (fit_of r.wants rest) (take j r.scope ++ p ∷ []) (plain_join (take j r.scope) p (plain_take r.scope j scope_plain) word_plain)
         ∙ fitting (take j r.scope ++ p ∷ [])
-        ∙ ap (λ z. shows v file (fits_at_first r.words) (take j r.scope ++ take 1 z)) (sym words)
-        ∙ ap (λ z. shows v z (fits_at_first r.words) (take j r.scope ++ take 1 r.words)) (sym own)
+        ∙ ap (λ z. shows v file (fits_at_first r.wants r.words) (take j r.scope ++ take 1 z)) (sym words)
+        ∙ ap (λ z. shows v z (fits_at_first r.wants r.words) (take j r.scope ++ take 1 r.words)) (sym own)
 
     module _ (k : ℕ) (at : hit w r ≡ Some k) where
       within : k ≤ length r.scope
@@ -139,17 +135,17 @@ module _ (w v : Workspace) (l : LinkOf) (file : ℕ) (marks : List Bool) (packag
           ap (λ z. bytes_before (length (joined z)) rest) (meaning_parts w r m means ∙ ap (λ o. front_at r o ++ r.words) at ∙ ap (λ z. take k r.scope ++ z) words)
           ∙ before_first (take k r.scope) p rest
 
-      answer_is : overtakes_words l marks packages r.scope p rest (joined m) ≡ shown_from test (len - length p) [] r.scope
+      answer_is : overtakes_words l marks packages r.wants r.scope p rest (joined m) ≡ shown_from test (len - length p) [] r.scope
       answer_is = ap (λ z. shown_from test (z - length p) [] r.scope) len_is
 
-      forth_at : overtakes_words l marks packages r.scope p rest (joined m) ≡ true → IsOvertaken w v r
+      forth_at : overtakes_words l marks packages r.wants r.scope p rest (joined m) ≡ true → IsOvertaken w v r
       forth_at h =
           let s = scan_to test (len - length p) [] r.scope scope_plain (sym answer_is ∙ h) in
           let some = s.1 in
           let inside = s.2 in
           (k, s.0, at, not_deeper r.scope p k s.0 some within inside s.3, inside, sym (seen_in s.0 some inside) ∙ s.4)
 
-      back_at : (c : IsOvertaken w v r) → c.0 ≡ k → overtakes_words l marks packages r.scope p rest (joined m) ≡ true
+      back_at : (c : IsOvertaken w v r) → c.0 ≡ k → overtakes_words l marks packages r.wants r.scope p rest (joined m) ≡ true
       back_at c same =
           let j = c.1 in
           let b = c.3 in
@@ -157,8 +153,8 @@ module _ (w v : Workspace) (l : LinkOf) (file : ℕ) (marks : List Bool) (packag
           let some : 0 < j = omega (arith, below) in
           answer_is ∙ scan_from test (len - length p) [] r.scope scope_plain j some c.4 (deeper r.scope p k j below c.4) (seen_in j some c.4 ∙ c.5)
 
-    pub forth : r.is_absolute ≡ false → overtakes_words l marks packages r.scope p rest (joined m) ≡ true → IsOvertaken w v r
+    pub forth : r.is_absolute ≡ false → overtakes_words l marks packages r.wants r.scope p rest (joined m) ≡ true → IsOvertaken w v r
     forth relative h = let x = has_hit relative in forth_at x.0 x.1 h
 
-    pub back : IsOvertaken w v r → (r.is_absolute ≡ false) × (overtakes_words l marks packages r.scope p rest (joined m) ≡ true)
+    pub back : IsOvertaken w v r → (r.is_absolute ≡ false) × (overtakes_words l marks packages r.wants r.scope p rest (joined m) ≡ true)
     back c = ((hit_relative w r c.0 c.2).0, back_at c.0 c.2 c refl)

@@ -6,7 +6,7 @@ use Rattle.proto_names_outline.specs.declared.listing.Listed.{Listed}
 use Rattle.proto_names_outline.specs.declared.listing.Use.{Use}
 use Rattle.proto_names_rules.proofs.Common.{under, name_of, below}
 use Rattle.proto_names.specs.Linking.{LinkOf}
-use Rattle.proto_edit_captures.specs.Common.{bytes_before, captures_use, first_now, is_cons, shown_from, NewTexts, is_new_word, overtakes_use, sees_text, shown_below}
+use Rattle.proto_edit_captures.specs.Common.{Fit, bytes_before, captures_use, first_now, is_cons, shown_from, NewTexts, is_new_word, overtakes_use, sees_text, shown_below}
 use Rattle.proto_edit_captures.proofs.FirstOnes.{front}
 
 -- the front by one word more, and what is left of the scope
@@ -29,12 +29,16 @@ pub cons_is : {A B : Type 0} (f : A → B) (xs : List A) (b : Bool) → b ≡ (l
 cons_is f [] b e = ap not e
 cons_is f (x ∷ xs) b e = ap not (e ∙ ne_eqb (length (x ∷ xs)) 0 (λ z. omega (arith, z)))
 
+-- what fits at the first word of a use
+abbrev fit_by : Use → Bool → Fit
+fit_by u is_long = record { wants = u.wants; is_long = is_long }
+
 module _ (l : LinkOf) (file : ℕ) (n : NewTexts) (text : ℕ → List ℕ) (declared : List Listed) (u : Use) (meaning : List ℕ) where
   abbrev rest : List (List ℕ)
   rest = map (λ b. text b.item) u.reference.now.words.rest
 
   abbrev shown : Bool → List ℕ → ℕ → List (List ℕ) → Bool
-  shown is_long word least scope = shown_from (λ front. shown_below l file is_long n front word) least [] scope
+  shown is_long word least scope = shown_from (λ front. shown_below l file (fit_by u is_long) n front word) least [] scope
 
   pub captures_is : (len least : ℕ) (word first : List ℕ) (is_long : Bool) (scope : List (List ℕ)) → is_some u.reference.now.dot ≡ false → first ≡ text u.reference.now.words.first
       → len ≡ bytes_before (length meaning) rest → word ≡ first_now n meaning len first → is_new_word n word ≡ true → is_long ≡ is_cons rest → least ≡ len - length first → scope ≡ name_of text entry_name (path_at (read declared) u.scope)
@@ -58,7 +62,7 @@ module _ (l : LinkOf) (marks : List Bool) (packages : List ℕ → Bool) (text :
   behind = map (λ b. text b.item) u.reference.now.words.rest
 
   abbrev seen : Bool → List ℕ → ℕ → List (List ℕ) → Bool
-  seen is_long word least scope = shown_from (λ front. sees_text l marks packages is_long (below front word)) least [] scope
+  seen is_long word least scope = shown_from (λ front. sees_text l marks packages (fit_by u is_long) (below front word)) least [] scope
 
   pub overtakes_is : (len least : ℕ) (first : List ℕ) (is_long : Bool) (scope : List (List ℕ)) → is_some u.reference.now.dot ≡ false → first ≡ text u.reference.now.words.first
       → len ≡ bytes_before (length meaning) behind → is_long ≡ is_cons behind → least ≡ len - length first → scope ≡ name_of text entry_name (path_at (read declared) u.scope)

@@ -17,15 +17,17 @@ use Rattle.proto_names_rules.specs.Grown.{at}
 use Rattle.proto_names_rules.specs.Linked.{is_package}
 use Rattle.proto_names_rules.specs.Marks.{MarksSeen}
 use Rattle.proto_names_rules.specs.Names.{Workspace}
+use Rattle.proto_names_rules.specs.declared.wants.Wants.{Wants}
 use Rattle.proto_names_rules.specs.Skeleton.{Used, name_of}
 use Rattle.proto_names_rules.specs.Tree.{package_of}
 use Rattle.proto_names_imports.specs.Links.{uses_of}
 use Rattle.proto_names.specs.Linking.{LinkOf, NameOf, name_with, name_text}
 use Rattle.proto_names.specs.Linking.{Meant}
 use Rattle.proto_names_imports.specs.Links.{used_named}
-use Rattle.proto_edit_captures.specs.Capturing.{bytes_before, is_cons, shown_from}
+use Rattle.proto_edit_captures.specs.Capturing.{bytes_before, fit_of, shown_from}
 use Rattle.proto_names_rules.specs.Joined.{below}
 use Rattle.proto_edit_captures.specs.ShownTexts.{first_fits}
+use Rattle.proto_edit_captures.specs.declared.scope.Fit.{Fit}
 
 -- ---- by names
 
@@ -86,28 +88,29 @@ sees_name marks packages n =
     if is_package n.kind then packages n.text else is_marked marks (get_or n.files 0 0)
 
 -- whether a name is there, of a kind that fits a first word, and is seen
-abbrev pub fits_seen : List Bool → (Text → Bool) → Bool → Option NameOf → Bool
-fits_seen marks packages is_long None = false
-fits_seen marks packages is_long (Some n) = first_fits is_long n.kind && sees_name marks packages n
+abbrev pub fits_seen : List Bool → (Text → Bool) → Fit → Option NameOf → Bool
+fits_seen marks packages fit None = false
+fits_seen marks packages fit (Some n) = first_fits fit n.kind && sees_name marks packages n
 
 -- a name with this text fits, and is seen
-abbrev pub sees_text : LinkOf → List Bool → (Text → Bool) → Bool → Text → Bool
-sees_text l marks packages is_long text =
-    fits_seen marks packages is_long (name_with l text)
+abbrev pub sees_text : LinkOf → List Bool → (Text → Bool) → Fit → Text → Bool
+sees_text l marks packages fit text =
+    fits_seen marks packages fit (name_with l text)
 
--- in a front of the scope that is longer than that of the hit,
--- something is seen under the first word
-abbrev pub overtakes_words : LinkOf → List Bool → (Text → Bool) → List Text → Text
+-- in a front of the scope that is longer than that of the hit, something that fits by what the
+-- reference wants is seen under the first word
+abbrev pub overtakes_words : LinkOf → List Bool → (Text → Bool) → Wants → List Text → Text
     → List Text → Text → Bool
-overtakes_words l marks packages scope first rest meaning =
-    shown_from (λ front. sees_text l marks packages (is_cons rest) (below front first))
+overtakes_words l marks packages what scope first rest meaning =
+    shown_from (λ front. sees_text l marks packages (fit_of what rest) (below front first))
     (bytes_before (length meaning) rest - length first) [] scope
 
 -- of a reference of a file, in its scope among what the file declares
 abbrev pub overtakes_use : LinkOf → List Bool → (Text → Bool) → (ℕ → Text) → List Listed → Use
     → Text → Bool
 overtakes_use l marks packages text declared u meaning = not (is_some u.reference.now.dot)
-    && overtakes_words l marks packages (name_of text entry_name (path_at (read declared) u.scope))
+    && overtakes_words l marks packages u.wants
+    (name_of text entry_name (path_at (read declared) u.scope))
     (text u.reference.now.words.first) (map (λ b. text b.item) u.reference.now.words.rest) meaning
 
 -- by what the link says that it means

@@ -13,7 +13,7 @@ ghost use Rattle.proto_names.specs.Linking.{name_text};
 ghost use Rattle.proto_text.specs.Texts.{word_at};
 
 use crate::names::NewNames;
-use crate::scope::{Around, Declared, scope_words};
+use crate::scope::{Around, Declared, Fit, scope_words};
 use crate::shown::{NamesAfter, is_shown_below};
 use proto_base::NoMemory;
 use proto_files::Words;
@@ -81,13 +81,13 @@ fn is_shown_in(
     word: &str,
 ) -> Result<bool, NoMemory>
     ensures { IfOk result (λ b. b ≡ (nat_le around.entry.least (length front.now)
-        && shown_below after.now.link.now after.now.file around.entry.is_long
+        && shown_below after.now.link.now after.now.file around.entry.fit
         (texts_of after.now.names.now) front.now word.now)) }
 {
     if front.len() < around.least {
         return Ok(false);
     }
-    is_shown_below(alloc, after, around.is_long, front, word)
+    is_shown_below(alloc, after, around.fit, front, word)
 }
 
 /// Whether in one of the fronts of a scope that have at least so many bytes,
@@ -99,7 +99,7 @@ fn is_shown_from(
     word: &str,
 ) -> Result<bool, NoMemory>
     ensures { IfOk result (λ b. b ≡ shown_from
-        (λ front. shown_below after.now.link.now after.now.file around.entry.is_long
+        (λ front. shown_below after.now.link.now after.now.file around.entry.fit
         (texts_of after.now.names.now) front word.now)
         around.entry.least [] (map string_bytes around.entry.scope.now)) }
 {
@@ -142,7 +142,10 @@ pub(crate) fn is_captured(
     let around = Around {
         scope: &scope,
         least: len.saturating_sub(first.len()),
-        is_long: !behind.is_empty(),
+        fit: Fit {
+            wants: used.wants,
+            is_long: !behind.is_empty(),
+        },
     };
     is_shown_from(alloc, after, around, word)
 }

@@ -15,7 +15,7 @@ ghost use Rattle.proto_names_rules.specs.Names.{Workspace};
 ghost use Rattle.proto_text.specs.Texts.{word_at};
 
 use crate::capturing::{bytes_before, extend, meaning};
-use crate::scope::{Around, Declared, scope_words};
+use crate::scope::{Around, Declared, Fit, scope_words};
 use crate::shown::fits;
 use proto_base::NoMemory;
 use proto_file_sets::FileSet;
@@ -73,9 +73,9 @@ fn packages(alloc: Global, files: &Files, set: &FileSet) -> Result<HashSet<Strin
 }
 
 /// Whether a name with this text fits and is seen.
-fn is_seen(seen: &Seen, is_long: bool, name: &str) -> bool
+fn is_seen(seen: &Seen, fit: Fit, name: &str) -> bool
     ensures { result ≡ sees_text seen.now.link.now seen.now.files.now
-        (contains_text seen.now.packages) is_long name.now }
+        (contains_text seen.now.packages) fit name.now }
 {
     let Some(id) = seen.link.symbol(name) else {
         return false;
@@ -83,7 +83,7 @@ fn is_seen(seen: &Seen, is_long: bool, name: &str) -> bool
     let Some(kind) = seen.link.kind_of(id) else {
         return false;
     };
-    if !fits(kind, is_long) {
+    if !fits(kind, fit) {
         return false;
     }
     match seen.link.file_of(id) {
@@ -103,13 +103,13 @@ fn is_seen_in(
 ) -> Result<bool, NoMemory>
     ensures { IfOk result (λ b. b ≡ (nat_le around.entry.least (length front.now)
         && sees_text seen.now.link.now seen.now.files.now (contains_text seen.now.packages)
-        around.entry.is_long (below front.now word.now))) }
+        around.entry.fit (below front.now word.now))) }
 {
     if front.len() < around.least {
         return Ok(false);
     }
     let name = below(alloc, front, word)?;
-    Ok(is_seen(seen, around.is_long, name.as_str()))
+    Ok(is_seen(seen, around.fit, name.as_str()))
 }
 
 /// Whether in one of the fronts of a scope that have at least so many bytes, something
@@ -117,7 +117,7 @@ fn is_seen_in(
 fn is_seen_from(alloc: Global, seen: &Seen, around: Around, word: &str) -> Result<bool, NoMemory>
     ensures { IfOk result (λ b. b ≡ shown_from
         (λ front. sees_text seen.now.link.now seen.now.files.now
-        (contains_text seen.now.packages) around.entry.is_long (below front word.now))
+        (contains_text seen.now.packages) around.entry.fit (below front word.now))
         around.entry.least [] (map string_bytes around.entry.scope.now)) }
 {
     let mut front = String::new(alloc);
@@ -155,7 +155,10 @@ fn is_overtaken(
     let around = Around {
         scope: &scope,
         least: len.saturating_sub(first.len()),
-        is_long: !behind.is_empty(),
+        fit: Fit {
+            wants: used.wants,
+            is_long: !behind.is_empty(),
+        },
     };
     is_seen_from(alloc, seen, around, first)
 }

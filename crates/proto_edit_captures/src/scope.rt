@@ -11,6 +11,7 @@ use proto_base::NoMemory;
 use proto_case::entry_name;
 use proto_files::Words;
 use proto_names_outline::listing::{Above, LastWord, Listed};
+use proto_names_rules::Wants;
 use std::alloc::Global;
 
 /// The texts of a file's tokens, and what the file declares.
@@ -20,13 +21,21 @@ pub(crate) struct Declared<'a> {
     pub(crate) all: &'a [Listed],
 }
 
+/// What a reference's first word has to fit: what the reference wants, and whether more words
+/// follow it.
+#[derive(Clone, Copy)]
+pub(crate) struct Fit {
+    pub(crate) wants: Wants,
+    pub(crate) is_long: bool,
+}
+
 /// From where a reference's first word is looked up: the words around it, and from how many bytes
-/// on; and whether more words follow it.
+/// on; and what it has to fit.
 #[derive(Clone, Copy)]
 pub(crate) struct Around<'a> {
     pub(crate) scope: &'a [String],
     pub(crate) least: usize,
-    pub(crate) is_long: bool,
+    pub(crate) fit: Fit,
 }
 
 /// The last word of a declaration's name.

@@ -16,9 +16,9 @@ mod NoTargets
 mod OneAim
 mod OneScene
 mod OneofItems
-mod OuterKinds
 mod Placed
 mod PlacedWords
+mod ReferredKinds
 mod Refused
 mod ReservedNames
 mod StandingUses

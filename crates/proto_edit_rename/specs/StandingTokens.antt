@@ -1,5 +1,5 @@
 -- The tokens of a file's references that stand for what a rename aims at.
-use Rattle.std.specs.Prelude.{◌↔◌, ℕ, ◌+◌, Bool, ◌==◌, if◌then◌else◌, List, [], ◌∷◌, ◌++◌, length, flat_map, Option, Some, None, is_some, option_to_list}
+use Rattle.std.specs.Prelude.{◌↔◌, ℕ, ◌+◌, Bool, ◌||◌, ◌==◌, if◌then◌else◌, List, [], ◌∷◌, ◌++◌, length, flat_map, Option, Some, None, is_some, option_to_list}
 use Rattle.std.specs.List.{Contains}
 use Rattle.std.specs.Option.{option_and_then}
 use Rattle.proto_base.specs.Ascii as ascii
@@ -8,7 +8,9 @@ use Rattle.proto_tree.specs.References.{dotted}
 use Rattle.proto_files.specs.GivenFiles.{FileOf}
 use Rattle.proto_files.specs.FilesRead.{ReadOf, AreRead}
 use Rattle.proto_names_outline.specs.declared.listing.Use.{Use}
+use Rattle.proto_names_rules.specs.declared.kind.Kind.{Kind}
 use Rattle.proto_names_rules.specs.Grown.{at}
+use Rattle.proto_names_rules.specs.Names.{is_extension, is_outer}
 use Rattle.proto_names_imports.specs.Links.{text_of, link_skeleton}
 use Rattle.proto_names.specs.Linking.{LinkOf, name_text}
 use Rattle.proto_names.specs.Linking.{Meant}
@@ -27,6 +29,10 @@ IsStandingIn files aim file found = (reads : List ReadOf)
     → Contains found i
     ↔ Contains (flat_map (standing (text_of files reads) (link_skeleton files reads)
     (name_map files reads t to)) (link_skeleton files reads).used) (at file i)
+
+-- a reference may mean a symbol of this kind, or what stands in it
+abbrev pub may_be_referred : Kind → Bool
+may_be_referred kind = is_outer kind || is_extension kind
 
 -- ---- full names by their texts
 

@@ -5,13 +5,14 @@ ghost use Rattle.std.specs.List.{count_by, list_any};
 ghost use Rattle.proto_base.specs.Ascii as ascii;
 ghost use Rattle.proto_tree.specs.References.{dotted};
 ghost use Rattle.proto_names.specs.Linking.{name_text};
-ghost use Rattle.proto_edit_rename.specs.StandingTokens.{IsStandingIn, goes_on, words_after, words_in, words_behind, from_end, counted, standing_tokens};
+ghost use Rattle.proto_edit_rename.specs.StandingTokens.{IsStandingIn, goes_on, may_be_referred, words_after, words_in, words_behind, from_end, counted, standing_tokens};
 
 use proto_base::NoMemory;
 use proto_edit_captures::RenameTarget;
 use proto_names::{Link, Meant};
 use proto_names_outline::file_listing::list_file;
 use proto_names_outline::listing::Use;
+use proto_names_rules::Kind;
 use proto_resolved::CleanLinked;
 use proto_tree::Dotted;
 use std::alloc::Global;
@@ -30,8 +31,8 @@ pub(crate) fn standing_in(
 {
     let files = linked.files();
     let link = linked.link();
-    // Fields, extensions, values and methods are neither meant nor hold what is meant.
-    if !target.kind.is_outer() {
+    // Fields, values and methods are neither meant nor hold what is meant.
+    if !may_be_referred(target.kind) {
         return Ok(Vec::new(alloc));
     }
     // Nor is a file listed whose references mean nothing of it: most are such.
@@ -41,6 +42,13 @@ pub(crate) fn standing_in(
     }
     let listing = list_file(alloc, files.tree(file))?;
     standing_words(alloc, link, target.name, &listing.used, meant)
+}
+
+/// Whether a reference may mean a symbol of this kind, or what stands in it.
+fn may_be_referred(kind: Kind) -> bool
+    ensures { result ≡ may_be_referred kind }
+{
+    kind.is_outer() || kind.is_extension()
 }
 
 /// Whether one of these means the name, or one that goes on from it.

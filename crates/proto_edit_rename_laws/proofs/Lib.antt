@@ -12,6 +12,7 @@ pub mod Inside
 pub mod NoLinkFault
 pub mod OldTexts
 pub mod OneTarget
+pub mod OptionWords
 pub mod Places
 pub mod PlacesSuit
 pub mod Rewording

@@ -11,11 +11,13 @@ use Rattle.proto_tree.specs.declared.class.Class.TheVariants as class
 use Rattle.proto_tree.specs.declared.class.Expected.TheVariants as want
 use Rattle.proto_files.proofs.Common.{FileOf, ReadOf, read_at}
 use Rattle.proto_names_rules.specs.declared.kind.Kind.{Kind}
+use Rattle.proto_names_rules.specs.declared.wants.Wants.TheVariants as wants
 use Rattle.proto_names_rules.specs.declared.kind.Kind.TheVariants.{Package, Message, Entry, Enum, Service, Field, EntryField, Oneof, Value, Method, Extension}
-use Rattle.proto_names_rules.proofs.Common.{Renaming, target, At, at, IsLinked, Reference, Symbol, Workspace, front_at, hit, is_outer, is_type, meaning, meaning_at, typed, Token, Used, name_of, reference_of, symbol_of, spell, name_from_same, map_append, typed_is, has_meaning, meant, front_or_same, one_symbol}
+use Rattle.proto_names_rules.proofs.Common.{Renaming, target, At, at, IsLinked, Reference, Symbol, Workspace, front_at, hit, is_outer, is_type, may_resolve_to, meaning, meaning_at, visible_as, Token, Used, name_of, reference_of, symbol_of, spell, name_from_same, map_append, visible_is, has_meaning, meant, front_or_same, one_symbol}
 use Rattle.proto_names_imports.specs.Links.{text_of, link_skeleton, names_of_files}
 use Rattle.proto_edit_rename_laws.specs.Common.{is_keyword_of, is_value_keyword, renamed_defaults, SuitFiles, words_of_file, front_of as front_before, renamed_places, same_at, standing, HasWants, Target, IsNamed, may_rename, name_map, renamed_words}
 use Rattle.proto_edit_rename_laws.specs.PlacesSuit.{PlacesSuit}
+use Rattle.proto_edit_rename_laws.proofs.OptionWords.{names_option_or_type, type_wanted}
 use Rattle.proto_edit_rename_laws.proofs.Places.{from_flat_map, listed_is_there as is_there, stands_at}
 
 -- ---- words that are no keywords
@@ -57,10 +59,10 @@ pub meaning_parts : (w : Workspace) (r : Reference) (m : List (List ℕ)) → me
 meaning_parts w r m h = by (hit w r) h
   where
     by : (o : Option ℕ) → meaning_at w r o ≡ Some m → m ≡ front_at r o ++ r.words
-    by (Some k) e = sym (typed_is w r.file _ m e).1
+    by (Some k) e = sym (visible_is w r.file (may_resolve_to r.wants) _ m e).1
     by None e = elim (cases_Bool r.is_absolute) [
-      | inl t ↦ sym (typed_is w r.file r.words m (sym (cond-true r.is_absolute (typed w r.file r.words) None t) ∙ e)).1
-      | inr f ↦ absurd (none-some m (sym (cond-false r.is_absolute (typed w r.file r.words) None f) ∙ e))
+      | inl t ↦ sym (visible_is w r.file (may_resolve_to r.wants) r.words m (sym (cond-true r.is_absolute (visible_as w r.file (may_resolve_to r.wants) r.words) None t) ∙ e)).1
+      | inr f ↦ absurd (none-some m (sym (cond-false r.is_absolute (visible_as w r.file (may_resolve_to r.wants) r.words) None f) ∙ e))
     ]
 
 -- ---- what a word of a reference stands for
@@ -100,8 +102,8 @@ module _ (files : List FileOf) (reads : List ReadOf) (name to : List ℕ) (t : T
     ]
   ]
 
-  stands_for_outer : (u : Used At) → Contains (link_skeleton files reads).used u → (i : At) → Contains (standing (text_of files reads) (link_skeleton files reads) e u) i → (is_type t.aim.kind ≡ true) ⊎ (is_outer t.aim.kind ≡ true)
-  stands_for_outer u cu i ci =
+  stands_for_outer : (u : Used At) → Contains (link_skeleton files reads).used u → u.wants ≢ wants.Extension → (i : At) → Contains (standing (text_of files reads) (link_skeleton files reads) e u) i → (is_type t.aim.kind ≡ true) ⊎ (is_outer t.aim.kind ≡ true)
+  stands_for_outer u cu typed i ci =
       let r = reference_of (text_of files reads) entry_name u in
       let cr = contains_map (reference_of (text_of files reads) entry_name) (link_skeleton files reads).used u cu in
       let m = has_meaning (meaning w r) (linked.resolved r cr) in
@@ -115,9 +117,9 @@ module _ (files : List FileOf) (reads : List ReadOf) (name to : List ℕ) (t : T
       ∙ sym (append_assoc front (map (text_of files reads) st.before) (text_of files reads i ∷ map (text_of files reads) st.behind))
       ∙ sym (append_assoc (front ++ map (text_of files reads) st.before) (text_of files reads i ∷ []) (map (text_of files reads) st.behind))
       ∙ ap (λ z. z ++ map (text_of files reads) st.behind) is_target in
-      outer s.0 s.1 s.3 (map (text_of files reads) st.behind) whole
+      outer s.0 s.1 (type_wanted u.wants typed s.0.kind s.3) (map (text_of files reads) st.behind) whole
 
-  module _ (wants : HasWants files reads t to) (run : IsRun Letter to) (free : is_keyword_of t.aim.kind to ≡ true → ⊥) where
+  module _ (suits : HasWants files reads t to) (run : IsRun Letter to) (free : is_keyword_of t.aim.kind to ≡ true → ⊥) where
     abbrev places : List At
     places = renamed_places (text_of files reads) (link_skeleton files reads) (name_map files reads t to) t.token (renamed_defaults files reads t.enum (name_map files reads t to).old)
 
@@ -129,7 +131,7 @@ module _ (files : List FileOf) (reads : List ReadOf) (name to : List ℕ) (t : T
 
     place_fits : (k : ℕ) (m : Mark) → Contains (flat (read_at reads k).tree) m → Contains places (at k m.at) → fits m.want (class_by Word to) ≡ true
     place_fits k m cm c = elim (contains_cases t.token (at k m.at) (used_places ++ renamed_defaults files reads t.enum (name_map files reads t to).old) c) [
-      | inl same ↦ elim (wants.name k m cm (sym same)) [
+      | inl same ↦ elim (suits.name k m cm (sym same)) [
         | inl x ↦ fits_as want.Name m.want (word_is_word to) x
         | inr x ↦ ap (λ z. fits z (class_by Word to)) x.0 ∙ unreserved to (λ h. free (ap (λ z. is_keyword_of z to) x.1 ∙ h))
       ]
@@ -138,12 +140,16 @@ module _ (files : List FileOf) (reads : List ReadOf) (name to : List ℕ) (t : T
             let u = from_flat_map (standing (text_of files reads) (link_skeleton files reads) e) (link_skeleton files reads).used (at k m.at) h in
             let st = stands_at e (text_of files reads) (front_before (text_of files reads) (link_skeleton files reads) u.0) u.0.tokens (at k m.at) u.2 in
             let inside = subst (λ z. Contains z (at k m.at)) (sym st.parts) (Contains-append_right st.before (at k m.at ∷ st.behind) (at k m.at) (contains_head (at k m.at) st.behind)) in
-            let is = outer_keyword t.aim.kind to (stands_for_outer u.0 u.1 (at k m.at) u.2) named.kind in
-            elim (wants.uses k m cm (u.0, u.1, inside)) [
-              | inl x ↦ fits_as want.Word m.want (word_is_word to) x
-              | inr x ↦ ap (λ z. fits z (class_by Word to)) x ∙ unlisted to (λ h. free (is ∙ h))
+            elim (names_option_or_type u.0.wants) [
+              | inl option ↦ fits_as want.Word m.want (word_is_word to) (suits.options k m cm u.0 u.1 option inside)
+              | inr typed ↦ elim (suits.uses k m cm (u.0, u.1, inside)) [
+                | inl x ↦ fits_as want.Word m.want (word_is_word to) x
+                | inr x ↦ (
+                    let is = outer_keyword t.aim.kind to (stands_for_outer u.0 u.1 typed (at k m.at) u.2) named.kind in
+                    ap (λ z. fits z (class_by Word to)) x ∙ unlisted to (λ h. free (is ∙ h)))
+              ]
             ])
-        | inr h ↦ fits_as want.Constant m.want (word_is_word to) (wants.defaults k m cm h)
+        | inr h ↦ fits_as want.Constant m.want (word_is_word to) (suits.defaults k m cm h)
       ]
     ]
 
@@ -169,4 +175,4 @@ module _ (files : List FileOf) (reads : List ReadOf) (name to : List ℕ) (t : T
     )
 
 pub places_are_suited : PlacesSuit
-places_are_suited files reads name to t linked named wants run free = places_suit files reads name to t linked named wants run free
+places_are_suited files reads name to t linked named suits run free = places_suit files reads name to t linked named suits run free

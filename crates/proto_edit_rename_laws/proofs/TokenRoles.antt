@@ -12,7 +12,7 @@ use Rattle.proto_tree.specs.declared.piece.Header.TheVariants as header
 use Rattle.proto_tree.specs.declared.tree.Constant.TheVariants as constant
 use Rattle.proto_tree.specs.declared.tree.FieldType.{FieldType}
 use Rattle.proto_tree.specs.declared.tree.Value.{Value as ValueParts}
-use Rattle.proto_tree.proofs.Common.{Mark, HasRole, Role, is_number, is_value, names, names_option, refers, role_of, Tree, End, Spells, flat, classes_in, one_mark_in, roles_are_one_in}
+use Rattle.proto_tree.proofs.Common.{Mark, mark, HasRole, Role, is_number, is_value, names, names_option, refers, role_of, Tree, End, Spells, flat, classes_in, one_mark_in, roles_are_one_in}
 use Rattle.proto_files.proofs.Common.{ReadOf, AreRead, read_at, FileOf, file_at}
 use Rattle.proto_names_rules.specs.declared.kind.Kind.{Kind}
 use Rattle.proto_names_rules.specs.declared.kind.Kind.TheVariants as kind
@@ -29,6 +29,7 @@ use Rattle.proto_edit_rename_laws.proofs.Common.{is_enum_at, lexemes_of, scene_o
 use Rattle.proto_edit_rename_laws.proofs.DefaultTokens.{IsDefaultOf, default_of_file, of_block}
 use Rattle.proto_edit_rename_laws.proofs.EntryFields.{HasField, has_field}
 use Rattle.proto_edit_rename_laws.proofs.OldTexts.{changed_to}
+use Rattle.proto_edit_rename_laws.proofs.OptionWords.{option_words}
 use Rattle.proto_edit_rename_laws.specs.TokenRoles.{AllTokensHaveRoles}
 use Rattle.proto_edit_rename_laws.proofs.ValueMarks.{value_of_mark}
 
@@ -362,6 +363,7 @@ module _ (files : List FileOf) (reads : List ReadOf) (r : AreRead files reads) w
       token_wants = record {
         name = name_wants;
         uses = λ k m c u. used_wants m.want (mark_at k m c refers (use_role (at k m.at) u));
+        options = λ k m c u cu e ci. ap (λ (x : Mark). x.want) (one_mark_in (file_at files k).profile (read_at reads k).tree (lexemes_of files reads k) m (mark want.Word m.at) (spelled k (mark_inside k m c)) c (option_words files reads u cu e (at k m.at) ci) refl);
         defaults = λ k m c d. value_wants m.want (mark_at k m c is_value (default_role t.enum (text_of files reads t.token) (at k m.at) d));
       }
 

@@ -21,6 +21,7 @@ use Rattle.proto_names_rules.specs.Faults.{place_of}
 use Rattle.proto_names_rules.specs.Grown.{At, at}
 use Rattle.proto_names_rules.specs.Skeleton.{Declared, Used, Skeleton, name_of}
 use Rattle.proto_names_rules.specs.declared.kind.Kind.TheVariants as kind
+use Rattle.proto_names_rules.specs.declared.wants.Wants.TheVariants as wants
 use Rattle.proto_names_imports.specs.Links.{link_skeleton, text_of}
 use Rattle.proto_ast.specs.Options.{is_named}
 use Rattle.proto_ast.specs.Parts.{BlockOf, FieldOf, OptionOf, blocks_in, fields_in, values_in}
@@ -57,6 +58,14 @@ pub record HasWants
       → Contains (flat (read_at reads k).tree) m
       → Uses (link_skeleton files reads) (at k m.at)
       → (m.want ≡ want.Word) ⊎ (m.want ≡ want.One class.Name)
+  -- any word may stand in the name of an option
+  pub options : (k : ℕ) (m : Mark)
+      → Contains (flat (read_at reads k).tree) m
+      → (u : Used At)
+      → Contains (link_skeleton files reads).used u
+      → u.wants ≡ wants.Extension
+      → Contains u.tokens (at k m.at)
+      → m.want ≡ want.Word
   pub defaults : (k : ℕ) (m : Mark)
       → Contains (flat (read_at reads k).tree) m
       → Contains (renamed_defaults files reads t.enum (name_map files reads t to).old) (at k m.at)

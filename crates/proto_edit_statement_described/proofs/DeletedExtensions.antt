@@ -15,7 +15,7 @@ use Rattle.proto_ast.proofs.Common.{BlockOf, Scene, blocks_in}
 use Rattle.proto_desc_checks_laws.proofs.Common.{IsMoved, blocks_moved}
 use Rattle.proto_edit_statement_described.proofs.Common.{AtField, AtOneof, BehindBlock, BehindLeaf, Deeper, ExtensionOf, ExtensionsStay, Found, FurtherOn, InMessage, IsAmong, IsDeletedIn, IsDeletedRight, PastBlock, PastLeaf, Reservation, Saying, WrittenField, block_said, block_says, blocks_said, deep_leave, extendable_same, extendee_meant, extensions_in, extensions_left, extensions_said, first_moved, is_extendable, is_message_at, leaves, left_at, left_named, left_there, meaning_of, message_moved, moved_leaves, name_meant, right_leave, saying_of, scene_at, scenes_are_moved, tree_at}
 use Rattle.proto_edit_statement_laws.proofs.NamesCommon.{MeanTheSame}
-use Rattle.proto_edit_statement_laws.proofs.Less.{type_stays as type_keeps}
+use Rattle.proto_edit_statement_laws.proofs.Less.{wanted_stays}
 use Rattle.proto_edit_statement_described.specs.DeletedScenes.{HaveTokens, IsReadWithout, OtherScenesStay}
 use Rattle.proto_edit_statement_described.proofs.Declared.{found_alike, joined_is, named, none_passes, type_stays}
 use Rattle.proto_edit_statement_described.proofs.Enums.{same_test}
@@ -193,7 +193,7 @@ module _ (files : List FileOf) (reads : List ReadOf) (after : List FileOf) (seen
       let q = used_named (text_of files reads) j u.0 in
       let there = is_referred files reads j (is_there reads j u.0 u.1) u.0 u.1 in
       let s = meant (names_of_files files reads) q e.extendee u.2 in
-      let keeps = type_keeps s.0.kind s.3 (linked.no_entry q there s.0 s.1 (u.2 ∙ ap Some (sym s.2))) in
+      let keeps = wanted_stays q.wants s.0.kind s.3 (linked.no_entry q there s.0 s.1 (u.2 ∙ ap Some (sym s.2))) in
       extendable_same files reads after seen e
       (subst (λ (m : List (List ℕ)). left_named after seen n m ≡ left_named files reads n m) s.2
       (type_stays files reads after seen place g k w r x without is linked (left_at files reads n) (left_at after seen n) (other_left n) (own_left n) s.0 s.1 keeps))

@@ -12,7 +12,7 @@ use Rattle.proto_ast.specs.Scenes.{EnumOf, MeantOf, Scene}
 use Rattle.proto_edit_statement_described.proofs.Common.{enum_named, is_proto3_file, meaning_of, meant_as, means_of, Reservation, WrittenField, scene_at, tree_at, HasTokens, move_meant}
 use Rattle.proto_desc_checks_laws.proofs.MovedParts.{maps_moved}
 use Rattle.proto_edit_statement_laws.proofs.NamesCommon.{MeanTheSame, HasMore, more_has, index_past}
-use Rattle.proto_edit_statement_laws.proofs.Less.{type_stays as type_keeps}
+use Rattle.proto_edit_statement_laws.proofs.Less.{wanted_stays}
 use Rattle.proto_edit_statement_described.specs.DeletedScenes.{IsReadWithout, ScenesHaveTokens}
 use Rattle.proto_edit_statement_described.proofs.Declared.{named, new_text, old_text, other_lexemes, other_texts, other_version, same_version, enum_stays}
 use Rattle.proto_edit_statement_described.proofs.NamedFiles.{used_more}
@@ -65,7 +65,7 @@ module _ (files : List FileOf) (reads : List ReadOf) (after : List FileOf) (seen
       let v = names_of_files files reads in
       let m = has_meaning (meaning v q) (linked.resolved q c) in
       let t = meant v q m.0 m.1 in
-      let keeps = type_keeps t.0.kind t.3 (linked.no_entry q c t.0 t.1 (m.1 ∙ ap Some (sym t.2))) in
+      let keeps = wanted_stays q.wants t.0.kind t.3 (linked.no_entry q c t.0 t.1 (m.1 ∙ ap Some (sym t.2))) in
       let enum : enum_named after seen m.0 ≡ enum_named files reads m.0 = subst (λ n. enum_named after seen n ≡ enum_named files reads n) t.2 (enum_stays files reads after seen place g k w r x without is linked t.0 t.1 keeps) in
       ap (meant_as after seen a) (same q c ∙ m.1)
       ∙ ap (λ (e : Option EnumOf). let z : MeantOf = record { token = a; name = joined m.0; enum = e } in z) enum

@@ -77,7 +77,7 @@ module _ (files : List FileOf) (reads : List ReadOf) (after : List FileOf) (seen
   -- ---- references
 
   abbrev referring : ℕ → Used ℕ → List (List ℕ) → List (List ℕ) → Reference
-  referring k u scope words = record { file = k; scope = scope; is_absolute = u.is_absolute; wants_message = u.wants_message; words = words }
+  referring k u scope words = record { file = k; scope = scope; is_absolute = u.is_absolute; wants = u.wants; words = words }
 
   pub use_here : (u : Used ℕ) → used_named (text_of after seen) place (shifted_used g u) ≡ used_named (text_of files reads) place u
   use_here u =

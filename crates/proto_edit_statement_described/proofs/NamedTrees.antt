@@ -7,12 +7,11 @@ use Rattle.proto_tree.specs.declared.piece.Heading.{Heading}
 use Rattle.proto_tree.specs.declared.piece.Statement.{Statement}
 use Rattle.proto_tree.specs.declared.piece.Statement.TheVariants as statement
 use Rattle.proto_tree.specs.declared.tree.Field.{Field}
-use Rattle.proto_tree.specs.Moved.{move_extending}
 use Rattle.proto_tree.proofs.Common.{Move, move_header, move_statement, move_tree, Tree, End, Leaf, Block}
 use Rattle.proto_names_rules.specs.declared.kind.Kind.TheVariants as kind
 use Rattle.proto_names_rules.proofs.Common.{Source, Token, Used, shifted_used, Placed, all_placed, beside, extend, map_field, place, placed, map_append}
 use Rattle.proto_names_outline.specs.FromTree.{field_names, flat_uses, member_uses, members_in, no_names, picked, statement_uses, value_names}
-use Rattle.proto_edit_statement_laws.proofs.NamesCommon.{MayGoAt, HasMore, move_placed, more_back, more_front, both_moved, extend_moved, extend_uses, field_names_moved, fields_picked, flat_uses_moved, member_uses_moved, members_moved, path_more, path_of, statement_moved}
+use Rattle.proto_edit_statement_laws.proofs.NamesCommon.{MayGoAt, HasMore, move_placed, more_back, more_front, both_moved, field_names_moved, fields_picked, flat_uses_moved, inner_moved, inner_uses, member_uses_moved, members_moved, path_more, path_of, statement_moved}
 use Rattle.proto_edit_statement_described.specs.Deletions.{AtField, AtOneof, BehindBlock, BehindLeaf, Deeper, Found, FurtherOn, InMessage, IsAmong, IsDeletedIn, IsDeletedRight, OfMap, PastBlock, PastLeaf, Plain, Reservation, WrittenField, statement_of}
 
 -- ---- moved lists with more in them
@@ -97,24 +96,16 @@ module _ (g : Move) where
       ∙ both_placed (all_placed path (members_in (Block h i within j End))) (all_placed path (members_in x)) (all_placed (path_of g path) (members_in (Block (move_header g h) (g i) (move_tree g within) (g j) End))) (all_placed (path_of g path) (members_in t)) (members_moved g path (Block h i within j End)) e
       ∙ ap (map (move_placed g)) (sym (block_first path h i within j x))
 
-  uses_past_block : (P : Used ℕ → Type 0) (scope : List (Source ℕ)) (h : Header) (i : ℕ) (within : Tree) (j : ℕ) (x t : Tree) → HasMore P (map (shifted_used g) (member_uses scope x)) (member_uses (path_of g scope) t)
-      → HasMore P (map (shifted_used g) (member_uses scope (Block h i within j x))) (member_uses (path_of g scope) (Block (move_header g h) (g i) (move_tree g within) (g j) t))
-  uses_past_block P scope (header.Message h) i within j x t m =
-      behind_more (shifted_used g) P (member_uses scope x) (member_uses (path_of g scope) t) (member_uses (scope ++ Token h.name ∷ []) within) (member_uses (path_of g scope ++ Token (g h.name) ∷ []) (move_tree g within))
-      (ap (λ p. member_uses p (move_tree g within)) (sym (path_more g scope (Token h.name))) ∙ member_uses_moved g (scope ++ Token h.name ∷ []) within) m
-  uses_past_block P scope (header.Oneof h) i within j x t m =
-      behind_more (shifted_used g) P (member_uses scope x) (member_uses (path_of g scope) t) (flat_uses scope within) (flat_uses (path_of g scope) (move_tree g within)) (flat_uses_moved g scope within) m
-  uses_past_block P scope (header.Extend e) i within j x t m =
-      behind_more (shifted_used g) P (member_uses scope x) (member_uses (path_of g scope) t) (extend_uses scope e within) (extend_uses (path_of g scope) (move_extending g e) (move_tree g within)) (extend_moved g scope e within) m
-  uses_past_block P scope whole i within j x t m = m
+  uses_past_block : (P : Used ℕ → Type 0) (around scope : List (Source ℕ)) (h : Header) (i : ℕ) (within : Tree) (j : ℕ) (x t : Tree) → HasMore P (map (shifted_used g) (member_uses around scope x)) (member_uses (path_of g around) (path_of g scope) t)
+      → HasMore P (map (shifted_used g) (member_uses around scope (Block h i within j x))) (member_uses (path_of g around) (path_of g scope) (Block (move_header g h) (g i) (move_tree g within) (g j) t))
+  uses_past_block P around scope (header.Service h) i within j x t m = m
+  uses_past_block P around scope h i within j x t m =
+      behind_more (shifted_used g) P (member_uses around scope x) (member_uses (path_of g around) (path_of g scope) t) (inner_uses scope h within) (inner_uses (path_of g scope) (move_header g h) (move_tree g within)) (inner_moved g scope h within) m
 
-  uses_same_block : (scope : List (Source ℕ)) (h : Header) (i : ℕ) (within : Tree) (j : ℕ) (x t : Tree) → member_uses (path_of g scope) t ≡ map (shifted_used g) (member_uses scope x)
-      → member_uses (path_of g scope) (Block (move_header g h) (g i) (move_tree g within) (g j) t) ≡ map (shifted_used g) (member_uses scope (Block h i within j x))
-  uses_same_block scope (header.Message h) i within j x t m =
-      both_moved g (member_uses (scope ++ Token h.name ∷ []) within) (member_uses scope x) _ _ (ap (λ p. member_uses p (move_tree g within)) (sym (path_more g scope (Token h.name))) ∙ member_uses_moved g (scope ++ Token h.name ∷ []) within) m
-  uses_same_block scope (header.Oneof h) i within j x t m = both_moved g (flat_uses scope within) (member_uses scope x) _ _ (flat_uses_moved g scope within) m
-  uses_same_block scope (header.Extend e) i within j x t m = both_moved g (extend_uses scope e within) (member_uses scope x) _ _ (extend_moved g scope e within) m
-  uses_same_block scope whole i within j x t m = m
+  uses_same_block : (around scope : List (Source ℕ)) (h : Header) (i : ℕ) (within : Tree) (j : ℕ) (x t : Tree) → member_uses (path_of g around) (path_of g scope) t ≡ map (shifted_used g) (member_uses around scope x)
+      → member_uses (path_of g around) (path_of g scope) (Block (move_header g h) (g i) (move_tree g within) (g j) t) ≡ map (shifted_used g) (member_uses around scope (Block h i within j x))
+  uses_same_block around scope (header.Service h) i within j x t m = m
+  uses_same_block around scope h i within j x t m = both_moved g (inner_uses scope h within) (member_uses around scope x) _ _ (inner_moved g scope h within) m
 
   -- ---- among the fields of a oneof
 
@@ -135,15 +126,17 @@ module _ (g : Move) where
       (behind_more (move_placed g) MayGoAt (map (field_in path) (picked field_names no_names x)) _ (map (field_in path) (field_names a)) (map (field_in (path_of g path)) (field_names (move_statement g a)))
       (ap (map (field_in (path_of g path))) (field_names_moved g a) ∙ fields_placed path (field_names a)) (among_placed path f x t h))
 
-  among_uses : (P : Used ℕ → Type 0) (scope : List (Source ℕ)) (f : Field) (x t : Tree) → ((u : Used ℕ) → Contains (statement_uses (path_of g scope) (statement.Field f)) u → P u) → IsAmong g f x t → HasMore P (map (shifted_used g) (flat_uses scope x)) (flat_uses (path_of g scope) t)
-  among_uses P scope f _ _ so (Found rest) =
-      let new : List (Used ℕ) = statement_uses (path_of g scope) (statement.Field f) in
-      first_more (shifted_used g) P new (flat_uses scope rest) (flat_uses (path_of g scope) (move_tree g rest)) so (flat_uses_moved g scope rest)
-  among_uses P scope f _ _ so (FurtherOn a x t h) = behind_more (shifted_used g) P (flat_uses scope x) _ (statement_uses scope a) (statement_uses (path_of g scope) (move_statement g a)) (statement_moved g scope a) (among_uses P scope f x t so h)
+  among_uses : (P : Used ℕ → Type 0) (around scope : List (Source ℕ)) (f : Field) (x t : Tree) → ((u : Used ℕ) → Contains (statement_uses (path_of g around) (path_of g scope) (statement.Field f)) u → P u) → IsAmong g f x t
+      → HasMore P (map (shifted_used g) (flat_uses around scope x)) (flat_uses (path_of g around) (path_of g scope) t)
+  among_uses P around scope f _ _ so (Found rest) =
+      let new : List (Used ℕ) = statement_uses (path_of g around) (path_of g scope) (statement.Field f) in
+      first_more (shifted_used g) P new (flat_uses around scope rest) (flat_uses (path_of g around) (path_of g scope) (move_tree g rest)) so (flat_uses_moved g around scope rest)
+  among_uses P around scope f _ _ so (FurtherOn a x t h) =
+      behind_more (shifted_used g) P (flat_uses around scope x) _ (statement_uses around scope a) (statement_uses (path_of g around) (path_of g scope) (move_statement g a)) (statement_moved g around scope a) (among_uses P around scope f x t so h)
 
 -- ---- in a message
 
-module _ (g k : Move) (w : WrittenField) (r : Reservation) (P : Used ℕ → Type 0) (so : (scope : List (Source ℕ)) (u : Used ℕ) → Contains (statement_uses scope (statement_of w)) u → P u) where
+module _ (g k : Move) (w : WrittenField) (r : Reservation) (P : Used ℕ → Type 0) (so : (around scope : List (Source ℕ)) (u : Used ℕ) → Contains (statement_uses around scope (statement_of w)) u → P u) where
   old_members : (path : List (Source ℕ)) (x t u : Tree) → IsDeletedRight g k w r x t u → HasMore MayGoAt (map (move_placed g) (all_placed path (members_in x))) (all_placed (path_of g path) (members_in t))
   old_members path _ _ _ (AtField rest) =
       more_as (move_placed g) MayGoAt refl (added_first (path_of g path) w (move_tree g rest))
@@ -160,71 +153,73 @@ module _ (g k : Move) (w : WrittenField) (r : Reservation) (P : Used ℕ → Typ
   new_members path _ _ _ (PastLeaf a x t u sw) = same_leaf k path a x u (new_members path x t u sw)
   new_members path _ _ _ (PastBlock h i within j x t u sw) = same_block k path h i within j x u (new_members path x t u sw)
 
-  old_uses : (scope : List (Source ℕ)) (x t u : Tree) → IsDeletedRight g k w r x t u → HasMore P (map (shifted_used g) (member_uses scope x)) (member_uses (path_of g scope) t)
-  old_uses scope _ _ _ (AtField rest) =
-      let new : List (Used ℕ) = statement_uses (path_of g scope) (statement_of w) in
-      first_more (shifted_used g) P new (member_uses scope rest) (member_uses (path_of g scope) (move_tree g rest)) (so (path_of g scope)) (member_uses_moved g scope rest)
-  old_uses scope _ _ _ (AtOneof h f i x t j rest is some at) =
-      before_more (shifted_used g) P (flat_uses scope x) _ (member_uses scope rest) (member_uses (path_of g scope) (move_tree g rest)) (member_uses_moved g scope rest) (among_uses g P scope f x t (subst (λ v. (u : Used ℕ) → Contains (statement_uses (path_of g scope) (statement_of v)) u → P u) is (so (path_of g scope))) at)
-  old_uses scope _ _ _ (PastLeaf a x t u sw) = behind_more (shifted_used g) P (member_uses scope x) _ (statement_uses scope a) (statement_uses (path_of g scope) (move_statement g a)) (statement_moved g scope a) (old_uses scope x t u sw)
-  old_uses scope _ _ _ (PastBlock h i within j x t u sw) = uses_past_block g P scope h i within j x t (old_uses scope x t u sw)
+  old_uses : (around scope : List (Source ℕ)) (x t u : Tree) → IsDeletedRight g k w r x t u → HasMore P (map (shifted_used g) (member_uses around scope x)) (member_uses (path_of g around) (path_of g scope) t)
+  old_uses around scope _ _ _ (AtField rest) =
+      let new : List (Used ℕ) = statement_uses (path_of g around) (path_of g scope) (statement_of w) in
+      first_more (shifted_used g) P new (member_uses around scope rest) (member_uses (path_of g around) (path_of g scope) (move_tree g rest)) (so (path_of g around) (path_of g scope)) (member_uses_moved g around scope rest)
+  old_uses around scope _ _ _ (AtOneof h f i x t j rest is some at) =
+      before_more (shifted_used g) P (flat_uses scope scope x) _ (member_uses around scope rest) (member_uses (path_of g around) (path_of g scope) (move_tree g rest)) (member_uses_moved g around scope rest)
+      (among_uses g P scope scope f x t (subst (λ v. (u : Used ℕ) → Contains (statement_uses (path_of g scope) (path_of g scope) (statement_of v)) u → P u) is (so (path_of g scope) (path_of g scope))) at)
+  old_uses around scope _ _ _ (PastLeaf a x t u sw) =
+      behind_more (shifted_used g) P (member_uses around scope x) _ (statement_uses around scope a) (statement_uses (path_of g around) (path_of g scope) (move_statement g a)) (statement_moved g around scope a) (old_uses around scope x t u sw)
+  old_uses around scope _ _ _ (PastBlock h i within j x t u sw) = uses_past_block g P around scope h i within j x t (old_uses around scope x t u sw)
 
-  new_uses : (scope : List (Source ℕ)) (x t u : Tree) → IsDeletedRight g k w r x t u → member_uses (path_of k scope) u ≡ map (shifted_used k) (member_uses scope x)
-  new_uses scope _ _ _ (AtField rest) = member_uses_moved k scope rest
-  new_uses scope _ _ _ (AtOneof h f i x t j rest is some at) = member_uses_moved k scope (Block (header.Oneof h) i x j rest)
-  new_uses scope _ _ _ (PastLeaf a x t u sw) = both_moved k (statement_uses scope a) (member_uses scope x) _ _ (statement_moved k scope a) (new_uses scope x t u sw)
-  new_uses scope _ _ _ (PastBlock h i within j x t u sw) = uses_same_block k scope h i within j x u (new_uses scope x t u sw)
+  new_uses : (around scope : List (Source ℕ)) (x t u : Tree) → IsDeletedRight g k w r x t u → member_uses (path_of k around) (path_of k scope) u ≡ map (shifted_used k) (member_uses around scope x)
+  new_uses around scope _ _ _ (AtField rest) = member_uses_moved k around scope rest
+  new_uses around scope _ _ _ (AtOneof h f i x t j rest is some at) = member_uses_moved k around scope (Block (header.Oneof h) i x j rest)
+  new_uses around scope _ _ _ (PastLeaf a x t u sw) = both_moved k (statement_uses around scope a) (member_uses around scope x) _ _ (statement_moved k around scope a) (new_uses around scope x t u sw)
+  new_uses around scope _ _ _ (PastBlock h i within j x t u sw) = uses_same_block k around scope h i within j x u (new_uses around scope x t u sw)
 
   -- among the items of a message, at any depth
-  pub record InMembers (path : List (Source ℕ)) (x t u : Tree) : Type 0 where
+  pub record InMembers (around path : List (Source ℕ)) (x t u : Tree) : Type 0 where
     pub old : HasMore MayGoAt (map (move_placed g) (all_placed path (members_in x))) (all_placed (path_of g path) (members_in t))
     pub new : all_placed (path_of k path) (members_in u) ≡ map (move_placed k) (all_placed path (members_in x))
-    pub old_used : HasMore P (map (shifted_used g) (member_uses path x)) (member_uses (path_of g path) t)
-    pub new_used : member_uses (path_of k path) u ≡ map (shifted_used k) (member_uses path x)
+    pub old_used : HasMore P (map (shifted_used g) (member_uses around path x)) (member_uses (path_of g around) (path_of g path) t)
+    pub new_used : member_uses (path_of k around) (path_of k path) u ≡ map (shifted_used k) (member_uses around path x)
 
-  pub right_in : (path : List (Source ℕ)) (x t u : Tree) → IsDeletedRight g k w r x t u → InMembers path x t u
-  right_in path x t u sw = record { old = old_members path x t u sw; new = new_members path x t u sw; old_used = old_uses path x t u sw; new_used = new_uses path x t u sw }
+  pub right_in : (around path : List (Source ℕ)) (x t u : Tree) → IsDeletedRight g k w r x t u → InMembers around path x t u
+  right_in around path x t u sw = record { old = old_members path x t u sw; new = new_members path x t u sw; old_used = old_uses around path x t u sw; new_used = new_uses around path x t u sw }
 
   -- a message with these items: itself, and what it uses
-  pub message_old : (path : List (Source ℕ)) (h : ℕ) (x t u : Tree) → InMembers (path ++ Token h ∷ []) x t u
+  pub message_old : (path : List (Source ℕ)) (h : ℕ) (x t u : Tree) → InMembers path (path ++ Token h ∷ []) x t u
       → HasMore MayGoAt (map (move_placed g) (place path (Token h) kind.Message ∷ all_placed (path ++ Token h ∷ []) (members_in x))) (place (path_of g path) (Token (g h)) kind.Message ∷ all_placed (path_of g path ++ Token (g h) ∷ []) (members_in t))
   message_old path h x t u v =
       behind_more (move_placed g) MayGoAt (all_placed (path ++ Token h ∷ []) (members_in x)) _ (place path (Token h) kind.Message ∷ []) (place (path_of g path) (Token (g h)) kind.Message ∷ []) refl
       (more_as (move_placed g) MayGoAt refl (ap (λ p. all_placed p (members_in t)) (sym (path_more g path (Token h)))) v.old)
 
-  pub message_new : (path : List (Source ℕ)) (h : ℕ) (x t u : Tree) → InMembers (path ++ Token h ∷ []) x t u
+  pub message_new : (path : List (Source ℕ)) (h : ℕ) (x t u : Tree) → InMembers path (path ++ Token h ∷ []) x t u
       → place (path_of k path) (Token (k h)) kind.Message ∷ all_placed (path_of k path ++ Token (k h) ∷ []) (members_in u) ≡ map (move_placed k) (place path (Token h) kind.Message ∷ all_placed (path ++ Token h ∷ []) (members_in x))
   message_new path h x t u v = ap (λ (z : List Placed). place (path_of k path) (Token (k h)) kind.Message ∷ z) (ap (λ p. all_placed p (members_in u)) (sym (path_more k path (Token h))) ∙ v.new)
 
-  pub message_used : (path : List (Source ℕ)) (h : ℕ) (x t u : Tree) → InMembers (path ++ Token h ∷ []) x t u
-      → HasMore P (map (shifted_used g) (member_uses (path ++ Token h ∷ []) x)) (member_uses (path_of g path ++ Token (g h) ∷ []) t)
-  message_used path h x t u v = more_as (shifted_used g) P refl (ap (λ p. member_uses p t) (sym (path_more g path (Token h)))) v.old_used
+  pub message_used : (path : List (Source ℕ)) (h : ℕ) (x t u : Tree) → InMembers path (path ++ Token h ∷ []) x t u
+      → HasMore P (map (shifted_used g) (member_uses path (path ++ Token h ∷ []) x)) (member_uses (path_of g path) (path_of g path ++ Token (g h) ∷ []) t)
+  message_used path h x t u v = more_as (shifted_used g) P refl (ap (λ p. member_uses (path_of g path) p t) (sym (path_more g path (Token h)))) v.old_used
 
-  in_message : (path : List (Source ℕ)) (h : Heading) (i : ℕ) (x t u : Tree) (j : ℕ) (rest : Tree) → InMembers (path ++ Token h.name ∷ []) x t u
-      → InMembers path (Block (header.Message h) i x j rest) (Block (move_header g (header.Message h)) (g i) t (g j) (move_tree g rest)) (Block (move_header k (header.Message h)) (k i) u (k j) (move_tree k rest))
-  in_message path h i x t u j rest v = record {
+  in_message : (around path : List (Source ℕ)) (h : Heading) (i : ℕ) (x t u : Tree) (j : ℕ) (rest : Tree) → InMembers path (path ++ Token h.name ∷ []) x t u
+      → InMembers around path (Block (header.Message h) i x j rest) (Block (move_header g (header.Message h)) (g i) t (g j) (move_tree g rest)) (Block (move_header k (header.Message h)) (k i) u (k j) (move_tree k rest))
+  in_message around path h i x t u j rest v = record {
     old = before_more (move_placed g) MayGoAt (place path (Token h.name) kind.Message ∷ all_placed (path ++ Token h.name ∷ []) (members_in x)) _ (all_placed path (members_in rest)) (all_placed (path_of g path) (members_in (move_tree g rest))) (members_moved g path rest) (message_old path h.name x t u v);
     new = both_placed k (place path (Token h.name) kind.Message ∷ all_placed (path ++ Token h.name ∷ []) (members_in x)) (all_placed path (members_in rest)) _ _ (message_new path h.name x t u v) (members_moved k path rest);
-    old_used = before_more (shifted_used g) P (member_uses (path ++ Token h.name ∷ []) x) _ (member_uses path rest) (member_uses (path_of g path) (move_tree g rest)) (member_uses_moved g path rest) (message_used path h.name x t u v);
-    new_used = both_moved k (member_uses (path ++ Token h.name ∷ []) x) (member_uses path rest) _ _ (ap (λ p. member_uses p u) (sym (path_more k path (Token h.name))) ∙ v.new_used) (member_uses_moved k path rest);
+    old_used = before_more (shifted_used g) P (member_uses path (path ++ Token h.name ∷ []) x) _ (member_uses around path rest) (member_uses (path_of g around) (path_of g path) (move_tree g rest)) (member_uses_moved g around path rest) (message_used path h.name x t u v);
+    new_used = both_moved k (member_uses path (path ++ Token h.name ∷ []) x) (member_uses around path rest) _ _ (ap (λ p. member_uses (path_of k path) p u) (sym (path_more k path (Token h.name))) ∙ v.new_used) (member_uses_moved k around path rest);
   }
 
-  pub deeper_in : (path : List (Source ℕ)) (x t u : Tree) → IsDeletedIn g k w r x t u → InMembers path x t u
-  deeper_in path _ _ _ (InMessage h i x t u j rest sw) = in_message path h i x t u j rest (right_in (path ++ Token h.name ∷ []) x t u sw)
-  deeper_in path _ _ _ (Deeper h i x t u j rest sw) = in_message path h i x t u j rest (deeper_in (path ++ Token h.name ∷ []) x t u sw)
-  deeper_in path _ _ _ (BehindLeaf a x t u sw) =
-      let v = deeper_in path x t u sw in
+  pub deeper_in : (around path : List (Source ℕ)) (x t u : Tree) → IsDeletedIn g k w r x t u → InMembers around path x t u
+  deeper_in around path _ _ _ (InMessage h i x t u j rest sw) = in_message around path h i x t u j rest (right_in path (path ++ Token h.name ∷ []) x t u sw)
+  deeper_in around path _ _ _ (Deeper h i x t u j rest sw) = in_message around path h i x t u j rest (deeper_in path (path ++ Token h.name ∷ []) x t u sw)
+  deeper_in around path _ _ _ (BehindLeaf a x t u sw) =
+      let v = deeper_in around path x t u sw in
       record {
         old = past_leaf g path a x t v.old;
         new = same_leaf k path a x u v.new;
-        old_used = behind_more (shifted_used g) P (member_uses path x) _ (statement_uses path a) (statement_uses (path_of g path) (move_statement g a)) (statement_moved g path a) v.old_used;
-        new_used = both_moved k (statement_uses path a) (member_uses path x) _ _ (statement_moved k path a) v.new_used;
+        old_used = behind_more (shifted_used g) P (member_uses around path x) _ (statement_uses around path a) (statement_uses (path_of g around) (path_of g path) (move_statement g a)) (statement_moved g around path a) v.old_used;
+        new_used = both_moved k (statement_uses around path a) (member_uses around path x) _ _ (statement_moved k around path a) v.new_used;
       }
-  deeper_in path _ _ _ (BehindBlock h i within j x t u sw) =
-      let v = deeper_in path x t u sw in
+  deeper_in around path _ _ _ (BehindBlock h i within j x t u sw) =
+      let v = deeper_in around path x t u sw in
       record {
         old = past_block g path h i within j x t v.old;
         new = same_block k path h i within j x u v.new;
-        old_used = uses_past_block g P path h i within j x t v.old_used;
-        new_used = uses_same_block k path h i within j x u v.new_used;
+        old_used = uses_past_block g P around path h i within j x t v.old_used;
+        new_used = uses_same_block k around path h i within j x u v.new_used;
       }

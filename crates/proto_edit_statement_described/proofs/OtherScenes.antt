@@ -41,7 +41,7 @@ source_in k was now e (EntryOf i) = ap entry_name (e i)
 source_in k was now e (Given w) = refl
 
 abbrev referring : ℕ → Used ℕ → List (List ℕ) → List (List ℕ) → Reference
-referring k u scope words = record { file = k; scope = scope; is_absolute = u.is_absolute; wants_message = u.wants_message; words = words }
+referring k u scope words = record { file = k; scope = scope; is_absolute = u.is_absolute; wants = u.wants; words = words }
 
 pub use_stays : (k : ℕ) (was now : At → List ℕ) → ((i : ℕ) → now (at k i) ≡ was (at k i)) → (u : Used ℕ) → used_named now k u ≡ used_named was k u
 use_stays k was now e u =

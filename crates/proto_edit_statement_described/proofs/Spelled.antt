@@ -26,9 +26,9 @@ module _ (file : ℕ) (m : Move) (text : At → List ℕ) (words : ℕ → List 
   pub named_by : (p : Placed) → name_of text entry_name (declared_at file (move_placed m p)).path ≡ name_of words entry_name (p.above ++ p.last ∷ [])
   named_by p = ap (λ (q : List (Source ℕ)). name_of text entry_name (map (shifted_source (at file)) q)) (sym (map_append (shifted_source m) p.above (p.last ∷ []))) ∙ path_by (p.above ++ p.last ∷ [])
 
-  pub referred_by : (u : Used ℕ) → reference_of text entry_name (used_in file (shifted_used m u)) ≡ (let r : Reference = record { file = file; scope = name_of words entry_name u.scope; is_absolute = u.is_absolute; wants_message = u.wants_message; words = map words u.tokens } in r)
+  pub referred_by : (u : Used ℕ) → reference_of text entry_name (used_in file (shifted_used m u)) ≡ (let r : Reference = record { file = file; scope = name_of words entry_name u.scope; is_absolute = u.is_absolute; wants = u.wants; words = map words u.tokens } in r)
   referred_by u =
-      ap₂ (λ (s ws : List (List ℕ)). let r : Reference = record { file = file; scope = s; is_absolute = u.is_absolute; wants_message = u.wants_message; words = ws } in r)
+      ap₂ (λ (s ws : List (List ℕ)). let r : Reference = record { file = file; scope = s; is_absolute = u.is_absolute; wants = u.wants; words = ws } in r)
       (path_by u.scope)
       (map_map (at file) text (map m u.tokens) ∙ map_map m (λ i. text (at file i)) u.tokens ∙ map_agree (λ i. text (at file (m i))) words u.tokens (λ i c. same i))
 
@@ -54,6 +54,6 @@ placed_moved file m first p =
 -- a reference of a file whose texts stay
 pub other_reference : (file : ℕ) (text now : At → List ℕ) → ((i : ℕ) → now (at file i) ≡ text (at file i)) → (u : Used ℕ) → reference_of now entry_name (used_in file u) ≡ reference_of text entry_name (used_in file u)
 other_reference file text now e u =
-    ap₂ (λ (s ws : List (List ℕ)). let r : Reference = record { file = file; scope = s; is_absolute = u.is_absolute; wants_message = u.wants_message; words = ws } in r)
+    ap₂ (λ (s ws : List (List ℕ)). let r : Reference = record { file = file; scope = s; is_absolute = u.is_absolute; wants = u.wants; words = ws } in r)
     (name_by now (at file) u.scope ∙ name_agrees (λ i. now (at file i)) (λ i. text (at file i)) e u.scope ∙ sym (name_by text (at file) u.scope))
     (map_map (at file) now u.tokens ∙ map_agree (λ i. now (at file i)) (λ i. text (at file i)) u.tokens (λ i c. e i) ∙ sym (map_map (at file) text u.tokens))

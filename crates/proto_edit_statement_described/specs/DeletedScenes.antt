@@ -20,7 +20,7 @@ use Rattle.proto_edit_statement_laws.specs.Kept.{MeanTheSame}
 
 -- One file is read of other tokens and as another tree. Of the tokens that are neither the field's
 -- nor the reservation's, each stands at its moved index, apart from the others, and the first one
--- first; and no token of the field's type is one of them.
+-- first; and no reference of the field begins at one of them.
 pub record IsReadWithout
     (files : List FileOf) (reads : List ReadOf) (after : List FileOf) (seen : List ReadOf)
     (place : ℕ) (g k : Move) (w : WrittenField) (r : Reservation) (x : Tree) (without : List Lexeme)
@@ -40,8 +40,8 @@ pub record IsReadWithout
   pub new_apart : (i j : ℕ) → k i ≡ k j → i ≡ j
   pub old_first : g 0 ≡ 0
   pub new_first : k 0 ≡ 0
-  pub own : (scope : List (Source ℕ)) (u : Used ℕ)
-      → Contains (statement_uses scope (statement_of w)) u
+  pub own : (around scope : List (Source ℕ)) (u : Used ℕ)
+      → Contains (statement_uses around scope (statement_of w)) u
       → (i : ℕ)
       → u.first ≢ g i
 

@@ -19,7 +19,6 @@ mod ImportPlaces
 mod Imports
 pub mod Kept
 mod LastOf
-pub mod LeadingWalks
 pub mod Less
 pub mod LexemesMoved
 pub mod Lists

@@ -1,27 +1,31 @@
 -- What a tree declares, uses and imports where its tokens are moved (for the crates above).
-use Rattle.std.proofs.Common.{◌≡◌, ℕ, Bool, true, false, List, [], ◌∷◌, ◌++◌, map, Option, Some, None, is_some, refl, sym, ◌∙◌, ap, ap₂}
-use Rattle.proto_tree.specs.declared.piece.Extending.{Extending}
+use Rattle.std.proofs.Common.{◌≡◌, ℕ, List, [], ◌∷◌, ◌++◌, map, flat_map, Option, Some, None, is_some, refl, sym, ◌∙◌, ap, ap₂}
 use Rattle.proto_tree.specs.declared.piece.Header.{Header}
 use Rattle.proto_tree.specs.declared.piece.Header.TheVariants as header
 use Rattle.proto_tree.specs.declared.piece.Statement.{Statement}
 use Rattle.proto_tree.specs.declared.piece.Statement.TheVariants as statement
+use Rattle.proto_tree.specs.declared.tree.Behind.{Behind}
 use Rattle.proto_tree.specs.declared.tree.FieldType.{FieldType}
 use Rattle.proto_tree.specs.declared.tree.FieldType.TheVariants as field_type
 use Rattle.proto_tree.specs.declared.tree.Reference.{Reference}
 use Rattle.proto_tree.specs.declared.tree.Separated.{Separated}
+use Rattle.proto_tree.specs.declared.tree.Setting.{Setting}
+use Rattle.proto_tree.specs.declared.tree.Setting.TheVariants as setting
+use Rattle.proto_tree.specs.declared.tree.Settings.{Settings}
 use Rattle.proto_tree.specs.declared.tree.Signature.{Signature}
-use Rattle.proto_tree.specs.Moved.{move_extending}
-use Rattle.proto_tree.proofs.Common.{Move, move_header, move_option, move_reference, move_separated, move_signature, move_statement, move_tree, move_type, dotted, first_of, Tree, End, Leaf, Block}
+use Rattle.proto_tree.proofs.Common.{Move, move_behind, move_header, move_option, move_reference, move_separated, move_setting, move_settings, move_signature, move_statement, move_tree, move_type, dotted, first_of, Tree, End, Leaf, Block}
 use Rattle.proto_names_rules.specs.declared.kind.Kind.{Kind}
 use Rattle.proto_names_rules.specs.declared.kind.Kind.TheVariants as kind
+use Rattle.proto_names_rules.specs.declared.wants.Wants.{Wants}
+use Rattle.proto_names_rules.specs.declared.wants.Wants.TheVariants as wants
 use Rattle.proto_names_rules.proofs.Common.{Source, Token, EntryOf, Given, Used, shifted_source, shifted_used, Items, Members, Placed, all_placed, beside, extend, items_placed, key_word, map_field, package_of, packaged, place, placed, prefixes, value_word, map_append, map_map}
-use Rattle.proto_names_outline.proofs.Common.{add_statement, block_names, block_uses, field_names, file_block, flat_uses, header_uses, item_uses, items_in, member_uses, members_in, method_names, no_names, picked, scope_in, signature_uses, statement_uses, type_uses, used_as, value_names, dotted_moved, imports_moved, package_moved}
+use Rattle.proto_names_outline.proofs.Common.{add_statement, block_names, block_uses, field_names, file_block, flat_uses, header_uses, item_uses, items_in, member_uses, members_in, method_names, no_names, option_uses, picked, scope_in, setting_uses, settings_uses, signature_uses, statement_uses, type_uses, used_as, value_names, dotted_moved, imports_moved, package_moved}
 use Rattle.proto_edit_rename_laws.specs.Imports.{without_imports}
 use Rattle.proto_edit_statement_laws.specs.Trees.{ImportsMoveNames, MovesNames, TreesMoveImports, TreesMoveNames, move_placed}
 
--- what an `extend` extends, and the types of its extensions
-abbrev pub extend_uses : List (Source ℕ) → Extending → Tree → List (Used ℕ)
-extend_uses scope e within = header_uses scope (header.Extend e) ++ flat_uses scope within
+-- the references in a block of a file or of a message
+abbrev pub inner_uses : List (Source ℕ) → Header → Tree → List (Used ℕ)
+inner_uses scope h within = block_uses scope h (member_uses scope (scope_in scope h) within) within
 
 module _ (g : Move) where
   abbrev pub path_of : List (Source ℕ) → List (Source ℕ)
@@ -113,76 +117,95 @@ module _ (g : Move) where
   first_moved None w = refl
   first_moved (Some i) w = refl
 
-  used_moved : (scope : List (Source ℕ)) (wants_message : Bool) (r : Reference) → used_as (path_of scope) wants_message (move_reference g r) ≡ shifted_used g (used_as scope wants_message r)
-  used_moved scope wants_message r = λ i. record {
+  used_moved : (scope : List (Source ℕ)) (what : Wants) (r : Reference) → used_as (path_of scope) what (move_reference g r) ≡ shifted_used g (used_as scope what r)
+  used_moved scope what r = λ i. record {
     file = 0;
     scope = path_of scope;
     is_absolute = some_moved r.dot i;
-    wants_message = wants_message;
+    wants = what;
     first = first_moved r.dot r.words i;
     tokens = dotted_moved g r.words i;
   }
 
   type_moved : (scope : List (Source ℕ)) (t : FieldType) → type_uses (path_of scope) (move_type g t) ≡ map (shifted_used g) (type_uses scope t)
   type_moved scope (field_type.Scalar t) = refl
-  type_moved scope (field_type.Reference r) = ap (λ (z : Used ℕ). z ∷ []) (used_moved scope false r)
+  type_moved scope (field_type.Reference r) = ap (λ (z : Used ℕ). z ∷ []) (used_moved scope wants.Type r)
 
   signature_moved : (scope : List (Source ℕ)) (s : Signature) → signature_uses (path_of scope) (move_signature g s) ≡ map (shifted_used g) (signature_uses scope s)
-  signature_moved scope s = ap₂ (λ (y z : Used ℕ). y ∷ z ∷ []) (used_moved scope true s.input.reference) (used_moved scope true s.output.reference)
-
-  pub statement_moved : (scope : List (Source ℕ)) (s : Statement) → statement_uses (path_of scope) (move_statement g s) ≡ map (shifted_used g) (statement_uses scope s)
-  statement_moved scope (statement.Field f) = type_moved scope f.kind
-  statement_moved scope (statement.MapField f) = type_moved scope f.value
-  statement_moved scope (statement.Method s i) = signature_moved scope s
-  statement_moved scope _ = refl
+  signature_moved scope s = ap₂ (λ (y z : Used ℕ). y ∷ z ∷ []) (used_moved scope wants.Message s.input.reference) (used_moved scope wants.Message s.output.reference)
 
   pub both_moved : (a b c d : List (Used ℕ)) → c ≡ map (shifted_used g) a → d ≡ map (shifted_used g) b → c ++ d ≡ map (shifted_used g) (a ++ b)
   both_moved a b c d e f = ap₂ (λ (y z : List (Used ℕ)). y ++ z) e f ∙ sym (map_append (shifted_used g) a b)
 
-  pub header_moved : (scope : List (Source ℕ)) (h : Header) → header_uses (path_of scope) (move_header g h) ≡ map (shifted_used g) (header_uses scope h)
+  setting_moved : (scope : List (Source ℕ)) (s : Setting) → setting_uses (path_of scope) (move_setting g s) ≡ map (shifted_used g) (setting_uses scope s)
+  setting_moved scope (setting.Plain p) = refl
+  setting_moved scope (setting.Custom c) = ap (λ (z : Used ℕ). z ∷ []) (used_moved scope wants.Extension c.name)
+
+  behind_moved : (scope : List (Source ℕ)) (bs : List (Behind Setting)) → flat_map (λ b. setting_uses (path_of scope) b.item) (map (move_behind g (move_setting g)) bs) ≡ map (shifted_used g) (flat_map (λ b. setting_uses scope b.item) bs)
+  behind_moved scope [] = refl
+  behind_moved scope (b ∷ bs) = both_moved (setting_uses scope b.item) (flat_map (λ b. setting_uses scope b.item) bs) _ _ (setting_moved scope b.item) (behind_moved scope bs)
+
+  settings_moved : (scope : List (Source ℕ)) (o : Option Settings) → settings_uses (path_of scope) (move_option (move_settings g) o) ≡ map (shifted_used g) (settings_uses scope o)
+  settings_moved scope None = refl
+  settings_moved scope (Some s) = both_moved (setting_uses scope s.list.first) (flat_map (λ b. setting_uses scope b.item) s.list.rest) _ _ (setting_moved scope s.list.first) (behind_moved scope s.list.rest)
+
+  pub option_moved : (scope : List (Source ℕ)) (s : Statement) → option_uses (path_of scope) (move_statement g s) ≡ map (shifted_used g) (option_uses scope s)
+  option_moved scope (statement.Option o) = setting_moved scope o.setting
+  option_moved scope _ = refl
+
+  pub statement_moved : (around scope : List (Source ℕ)) (s : Statement) → statement_uses (path_of around) (path_of scope) (move_statement g s) ≡ map (shifted_used g) (statement_uses around scope s)
+  statement_moved around scope (statement.Field f) = both_moved (type_uses scope f.kind) (settings_uses scope f.settings) _ _ (type_moved scope f.kind) (settings_moved scope f.settings)
+  statement_moved around scope (statement.MapField f) = both_moved (type_uses scope f.value) (settings_uses scope f.settings) _ _ (type_moved scope f.value) (settings_moved scope f.settings)
+  statement_moved around scope (statement.Value v) = settings_moved scope v.settings
+  statement_moved around scope (statement.Method s i) = signature_moved scope s
+  statement_moved around scope (statement.Option o) = setting_moved around o.setting
+  statement_moved around scope _ = refl
+
+  header_moved : (scope : List (Source ℕ)) (h : Header) → header_uses (path_of scope) (move_header g h) ≡ map (shifted_used g) (header_uses scope h)
   header_moved scope (header.Method s) = signature_moved scope s
-  header_moved scope (header.Extend e) = ap (λ (z : Used ℕ). z ∷ []) (used_moved scope true e.extendee)
+  header_moved scope (header.Extend e) = ap (λ (z : Used ℕ). z ∷ []) (used_moved scope wants.Message e.extendee)
   header_moved scope _ = refl
 
-  pub flat_uses_moved : (scope : List (Source ℕ)) (x : Tree) → flat_uses (path_of scope) (move_tree g x) ≡ map (shifted_used g) (flat_uses scope x)
-  flat_uses_moved scope End = refl
-  flat_uses_moved scope (Leaf s rest) = both_moved (statement_uses scope s) (flat_uses scope rest) _ _ (statement_moved scope s) (flat_uses_moved scope rest)
-  flat_uses_moved scope (Block h i within j rest) = both_moved (header_uses scope h) (flat_uses scope rest) _ _ (header_moved scope h) (flat_uses_moved scope rest)
+  pub flat_uses_moved : (around scope : List (Source ℕ)) (x : Tree) → flat_uses (path_of around) (path_of scope) (move_tree g x) ≡ map (shifted_used g) (flat_uses around scope x)
+  flat_uses_moved around scope End = refl
+  flat_uses_moved around scope (Leaf s rest) = both_moved (statement_uses around scope s) (flat_uses around scope rest) _ _ (statement_moved around scope s) (flat_uses_moved around scope rest)
+  flat_uses_moved around scope (Block h i within j rest) =
+      both_moved (header_uses scope h) (flat_uses scope scope within ++ flat_uses around scope rest) _ _ (header_moved scope h)
+      (both_moved (flat_uses scope scope within) (flat_uses around scope rest) _ _ (flat_uses_moved scope scope within) (flat_uses_moved around scope rest))
 
-  pub extend_moved : (scope : List (Source ℕ)) (e : Extending) (x : Tree) → extend_uses (path_of scope) (move_extending g e) (move_tree g x) ≡ map (shifted_used g) (extend_uses scope e x)
-  extend_moved scope e x = both_moved (header_uses scope (header.Extend e)) (flat_uses scope x) _ _ (header_moved scope (header.Extend e)) (flat_uses_moved scope x)
-
-  pub scope_moved : (scope : List (Source ℕ)) (h : Header) → scope_in (path_of scope) (move_header g h) ≡ path_of (scope_in scope h)
+  scope_moved : (scope : List (Source ℕ)) (h : Header) → scope_in (path_of scope) (move_header g h) ≡ path_of (scope_in scope h)
   scope_moved scope (header.Message h) = sym (path_more scope (Token h.name))
   scope_moved scope _ = refl
 
-  pub block_moved : (scope : List (Source ℕ)) (h : Header) (inner inner' : List (Used ℕ)) (x : Tree) → inner' ≡ map (shifted_used g) inner → block_uses (path_of scope) (move_header g h) inner' (move_tree g x) ≡ map (shifted_used g) (block_uses scope h inner x)
+  block_moved : (scope : List (Source ℕ)) (h : Header) (inner inner' : List (Used ℕ)) (x : Tree) → inner' ≡ map (shifted_used g) inner → block_uses (path_of scope) (move_header g h) inner' (move_tree g x) ≡ map (shifted_used g) (block_uses scope h inner x)
   block_moved scope (header.Message h) inner inner' x e = e
-  block_moved scope (header.Oneof h) inner inner' x e = flat_uses_moved scope x
-  block_moved scope (header.Service h) inner inner' x e = ap (λ p. flat_uses p (move_tree g x)) (sym (path_more scope (Token h.name))) ∙ flat_uses_moved (scope ++ Token h.name ∷ []) x
-  block_moved scope (header.Extend h) inner inner' x e = extend_moved scope h x
-  block_moved scope whole inner inner' x e = refl
+  block_moved scope (header.Oneof h) inner inner' x e = flat_uses_moved scope scope x
+  block_moved scope (header.Enum h) inner inner' x e = flat_uses_moved scope scope x
+  block_moved scope (header.Service h) inner inner' x e = ap (λ p. flat_uses (path_of scope) p (move_tree g x)) (sym (path_more scope (Token h.name))) ∙ flat_uses_moved scope (scope ++ Token h.name ∷ []) x
+  block_moved scope (header.Extend e) inner inner' x same = both_moved (header_uses scope (header.Extend e)) (flat_uses scope scope x) _ _ (header_moved scope (header.Extend e)) (flat_uses_moved scope scope x)
+  block_moved scope (header.Method s) inner inner' x e = refl
 
-  pub member_uses_moved : (scope : List (Source ℕ)) (x : Tree) → member_uses (path_of scope) (move_tree g x) ≡ map (shifted_used g) (member_uses scope x)
-  member_uses_moved scope End = refl
-  member_uses_moved scope (Leaf s rest) = both_moved (statement_uses scope s) (member_uses scope rest) _ _ (statement_moved scope s) (member_uses_moved scope rest)
-  member_uses_moved scope (Block (header.Service h) i within j rest) = member_uses_moved scope rest
-  member_uses_moved scope (Block (header.Message h) i within j rest) =
-      both_moved (member_uses (scope ++ Token h.name ∷ []) within) (member_uses scope rest) _ _ (ap (λ p. member_uses p (move_tree g within)) (sym (path_more scope (Token h.name))) ∙ member_uses_moved (scope ++ Token h.name ∷ []) within) (member_uses_moved scope rest)
-  member_uses_moved scope (Block (header.Oneof h) i within j rest) = both_moved (flat_uses scope within) (member_uses scope rest) _ _ (flat_uses_moved scope within) (member_uses_moved scope rest)
-  member_uses_moved scope (Block (header.Extend e) i within j rest) = both_moved (extend_uses scope e within) (member_uses scope rest) _ _ (extend_moved scope e within) (member_uses_moved scope rest)
-  member_uses_moved scope (Block whole i within j rest) = member_uses_moved scope rest
+  -- in a block, where the references in its members are moved
+  inner_by : (scope : List (Source ℕ)) (h : Header) (x : Tree) → ((around within : List (Source ℕ)) → member_uses (path_of around) (path_of within) (move_tree g x) ≡ map (shifted_used g) (member_uses around within x))
+      → inner_uses (path_of scope) (move_header g h) (move_tree g x) ≡ map (shifted_used g) (inner_uses scope h x)
+  inner_by scope h x members =
+      block_moved scope h (member_uses scope (scope_in scope h) x) (member_uses (path_of scope) (scope_in (path_of scope) (move_header g h)) (move_tree g x)) x
+      (ap (λ p. member_uses (path_of scope) p (move_tree g x)) (scope_moved scope h) ∙ members scope (scope_in scope h))
+
+  pub member_uses_moved : (around scope : List (Source ℕ)) (x : Tree) → member_uses (path_of around) (path_of scope) (move_tree g x) ≡ map (shifted_used g) (member_uses around scope x)
+  member_uses_moved around scope End = refl
+  member_uses_moved around scope (Leaf s rest) = both_moved (statement_uses around scope s) (member_uses around scope rest) _ _ (statement_moved around scope s) (member_uses_moved around scope rest)
+  member_uses_moved around scope (Block (header.Service h) i within j rest) = member_uses_moved around scope rest
+  member_uses_moved around scope (Block h i within j rest) = both_moved (inner_uses scope h within) (member_uses around scope rest) _ _ (inner_by scope h within (λ a b. member_uses_moved a b within)) (member_uses_moved around scope rest)
+
+  pub inner_moved : (scope : List (Source ℕ)) (h : Header) (x : Tree) → inner_uses (path_of scope) (move_header g h) (move_tree g x) ≡ map (shifted_used g) (inner_uses scope h x)
+  inner_moved scope h x = inner_by scope h x (λ a b. member_uses_moved a b x)
 
   pub item_uses_moved : (scope : List (Source ℕ)) (x : Tree) → item_uses (path_of scope) (move_tree g x) ≡ map (shifted_used g) (item_uses scope x)
   item_uses_moved scope End = refl
-  item_uses_moved scope (Leaf s rest) = item_uses_moved scope rest
+  item_uses_moved scope (Leaf s rest) = both_moved (option_uses scope s) (item_uses scope rest) _ _ (option_moved scope s) (item_uses_moved scope rest)
   item_uses_moved scope (Block (header.Oneof h) i within j rest) = item_uses_moved scope rest
-  item_uses_moved scope (Block (header.Message h) i within j rest) =
-      both_moved (member_uses (scope ++ Token h.name ∷ []) within) (item_uses scope rest) _ _ (ap (λ p. member_uses p (move_tree g within)) (sym (path_more scope (Token h.name))) ∙ member_uses_moved (scope ++ Token h.name ∷ []) within) (item_uses_moved scope rest)
-  item_uses_moved scope (Block (header.Service h) i within j rest) =
-      both_moved (flat_uses (scope ++ Token h.name ∷ []) within) (item_uses scope rest) _ _ (ap (λ p. flat_uses p (move_tree g within)) (sym (path_more scope (Token h.name))) ∙ flat_uses_moved (scope ++ Token h.name ∷ []) within) (item_uses_moved scope rest)
-  item_uses_moved scope (Block (header.Extend e) i within j rest) = both_moved (extend_uses scope e within) (item_uses scope rest) _ _ (extend_moved scope e within) (item_uses_moved scope rest)
-  item_uses_moved scope (Block whole i within j rest) = item_uses_moved scope rest
+  item_uses_moved scope (Block h i within j rest) = both_moved (inner_uses scope h within) (item_uses scope rest) _ _ (inner_moved scope h within) (item_uses_moved scope rest)
 
   -- ---- the items of a file
 
@@ -232,12 +255,10 @@ items_without (Block h i within j rest) = ap (file_block h within) (items_withou
 
 uses_without : (scope : List (Source ℕ)) (t : Tree) → item_uses scope (without_imports t) ≡ item_uses scope t
 uses_without scope End = refl
-uses_without scope (Leaf (statement.Package p) rest) = uses_without scope rest
-uses_without scope (Leaf _ rest) = uses_without scope rest
-uses_without scope (Block (header.Message h) i within j rest) = ap (λ (z : List (Used ℕ)). member_uses (scope ++ Token h.name ∷ []) within ++ z) (uses_without scope rest)
-uses_without scope (Block (header.Service h) i within j rest) = ap (λ (z : List (Used ℕ)). flat_uses (scope ++ Token h.name ∷ []) within ++ z) (uses_without scope rest)
-uses_without scope (Block (header.Extend e) i within j rest) = ap (λ (z : List (Used ℕ)). extend_uses scope e within ++ z) (uses_without scope rest)
-uses_without scope (Block _ i within j rest) = uses_without scope rest
+uses_without scope (Leaf (statement.Import i) rest) = uses_without scope rest
+uses_without scope (Leaf s rest) = ap (λ (z : List (Used ℕ)). option_uses scope s ++ z) (uses_without scope rest)
+uses_without scope (Block (header.Oneof h) i within j rest) = uses_without scope rest
+uses_without scope (Block h i within j rest) = ap (λ (z : List (Used ℕ)). inner_uses scope h within ++ z) (uses_without scope rest)
 
 tokens_moved : (g : Move) (ts : List ℕ) → map (λ i. Token i) (map g ts) ≡ path_of g (map (λ i. Token i) ts)
 tokens_moved g ts = map_map g (λ i. Token i) ts ∙ sym (map_map (λ i. Token i) (shifted_source g) ts)

@@ -26,8 +26,8 @@ module _ (w : Workspace) (xs ys : List Import) (sub : (i : Import) → Contains 
   hits_by : (r : Reference) (j : ℕ) → hits_at (with_imports w xs) r j ≡ true → hits_at (with_imports w ys) r j ≡ true
   hits_by r j h =
       let x = take j r.scope ++ take 1 r.words in
-      let s = shown (with_imports w xs) r.file (fits_at_first r.words) x h in
-      any_from (λ s. same_name s.name x && (fits_at_first r.words s.kind && sees (with_imports w ys) r.file s.file)) w.symbols s.0 s.1 (and_from _ _ (same_from_name s.0.name x s.2) (and_from _ _ s.3 (sees_by r.file s.0.file s.4)))
+      let s = shown (with_imports w xs) r.file (fits_at_first r.wants r.words) x h in
+      any_from (λ s. same_name s.name x && (fits_at_first r.wants r.words s.kind && sees (with_imports w ys) r.file s.file)) w.symbols s.0 s.1 (and_from _ _ (same_from_name s.0.name x s.2) (and_from _ _ s.3 (sees_by r.file s.0.file s.4)))
 
   -- what is overtaken with the fewer imports is so with the more
   pub overtaken_by : (r : Reference) → IsOvertaken w (with_imports w xs) r → IsOvertaken w (with_imports w ys) r

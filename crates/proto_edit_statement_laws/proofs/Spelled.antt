@@ -21,7 +21,7 @@ abbrev pub symbol_in : ℕ → (ℕ → List ℕ) → Placed → Symbol
 symbol_in file words p = record { name = name_of words entry_name (p.above ++ p.last ∷ []); kind = p.kind; file = file }
 
 abbrev pub reference_in : ℕ → (ℕ → List ℕ) → Used ℕ → Reference
-reference_in file words u = record { file = file; scope = name_of words entry_name u.scope; is_absolute = u.is_absolute; wants_message = u.wants_message; words = map words u.tokens }
+reference_in file words u = record { file = file; scope = name_of words entry_name u.scope; is_absolute = u.is_absolute; wants = u.wants; words = map words u.tokens }
 
 -- wherever in its file it stands
 abbrev pub unplaced : AskedImport → AskedImport
@@ -49,7 +49,7 @@ module _ (file : ℕ) (words : ℕ → List ℕ) (g : Move) where
   pub references_moved : (us : List (Used ℕ)) → map (reference_in file words) (map (shifted_used g) us) ≡ map (reference_in file (λ i. words (g i))) us
   references_moved us =
       map_map (shifted_used g) (reference_in file words) us
-      ∙ map_agree (λ u. reference_in file words (shifted_used g u)) (reference_in file (λ i. words (g i))) us (λ u c. ap₂ (λ (n ws : List (List ℕ)). let r : Reference = record { file = file; scope = n; is_absolute = u.is_absolute; wants_message = u.wants_message; words = ws } in r)
+      ∙ map_agree (λ u. reference_in file words (shifted_used g u)) (reference_in file (λ i. words (g i))) us (λ u c. ap₂ (λ (n ws : List (List ℕ)). let r : Reference = record { file = file; scope = n; is_absolute = u.is_absolute; wants = u.wants; words = ws } in r)
       (name_by words g u.scope) (map_map g words u.tokens))
 
   pub wanted_moved : (ws : List Wanted) → map (wanted_in file words) (map (move_wanted g) ws) ≡ map (wanted_in file (λ i. words (g i))) ws
@@ -75,7 +75,7 @@ module _ (text : At → List ℕ) where
   references_here : (k : ℕ) (r : ReadOf) → map (reference_of text entry_name) (file_used k (names_in r)) ≡ references_at k r
   references_here k r =
       map_map (used_in k) (reference_of text entry_name) (file_names r.tree).used
-      ∙ map_agree (λ (u : Used ℕ). reference_of text entry_name (used_in k u)) (reference_in k (λ i. text (at k i))) (file_names r.tree).used (λ u c. ap₂ (λ (n ws : List (List ℕ)). let x : Reference = record { file = k; scope = n; is_absolute = u.is_absolute; wants_message = u.wants_message; words = ws } in x)
+      ∙ map_agree (λ (u : Used ℕ). reference_of text entry_name (used_in k u)) (reference_in k (λ i. text (at k i))) (file_names r.tree).used (λ u c. ap₂ (λ (n ws : List (List ℕ)). let x : Reference = record { file = k; scope = n; is_absolute = u.is_absolute; wants = u.wants; words = ws } in x)
       (name_by text (at k) u.scope) (map_map (at k) text u.tokens))
 
   pub symbols_walk : (n : ℕ) (rs : List ReadOf) → map (symbol_of text entry_name) (all_declared n (map names_in rs)) ≡ walk symbols_at n rs

@@ -1,31 +1,24 @@
 -- The first reference that needs an import is the first that means a name of a file that is not marked.
 use Rattle.std.proofs.Common.{◌≡◌, ℕ, zero, suc, ◌+◌, ◌<◌, Bool, true, false, not, List, [], ◌∷◌, ◌++◌, length, get_or, map, take, Option, Some, None, option_map, refl, sym, ap, subst, ◌∙◌, inl, inr, arith, find, slice_index_or, AllPairs, Contains, option_and_then}
-use Rattle.proto_base.proofs.Common.{both_ways, cases_Bool, cond-false, cond-true, get_or_default, none-some, same_Some, contains_cases, contains_head, contains_later, contains_map, from_map}
+use Rattle.proto_base.proofs.Common.{both_ways, false_from_ne_true, cases_Bool, cond-false, cond-true, get_or_default, none-some, same_Some, contains_cases, contains_head, contains_later, contains_map, from_map}
 use Rattle.proto_case.specs.Camel.{entry_name}
 use Rattle.proto_files.proofs.Common.{HasNoFault, ReadOf, AreRead, FileOf}
 use Rattle.proto_names_imports.specs.Links.{LinkFaults, link_skeleton, names_of_files, text_of, uses_of, used_named}
-use Rattle.proto_names_rules.proofs.Common.{IsNeeded, At, at, used_in, ArePlain, joined, IsLinked, is_package, MarksSeen, Reference, Symbol, Workspace, hit, is_type, meaning, meaning_at, sees, shows, typed, Used, reference_of, joined_apart, typed_is, package_from, one_symbol, shown}
-use Rattle.proto_names_rules.specs.declared.kind.Kind.{Kind}
+use Rattle.proto_names_rules.proofs.Common.{IsNeeded, At, at, used_in, ArePlain, joined, IsLinked, is_package, MarksSeen, Reference, Symbol, Workspace, hit, may_resolve_to, meaning, meaning_at, sees, shows, visible_as, Used, reference_of, joined_apart, visible_is, package_from, one_symbol, shown, wanted_no_package}
 use Rattle.proto_names.proofs.Common.{HoldsNames, IsLinkOf, TextMeant, meant_by_link, meant_by_use, LinkOf, NameOf, declaring_file, name_at, own_file, name_text, from_use, use_there}
 use Rattle.proto_names.specs.Linking.{Meant}
 use Rattle.proto_edit_captures.proofs.Common.{StandsBefore, files_are_linked}
 use Rattle.proto_edit_rules.specs.DropImport.{IsNeededIn, with_dropped}
 use Rattle.proto_edit_statements.specs.Steps.{AreSeenIn, IsFirstNeeded, first_hidden, hidden_in, is_hidden}
 
--- ---- what a reference means is a type
+-- ---- what a reference means is what it wants
 
-type_shown : (w : Workspace) (r : Reference) (m : List (List ℕ)) (o : Option ℕ) → meaning_at w r o ≡ Some m → shows w r.file is_type m ≡ true
-type_shown w r m None h = elim (cases_Bool r.is_absolute) [
-  | inl t ↦ (let x = typed_is w r.file r.words m (sym (cond-true r.is_absolute (typed w r.file r.words) None t) ∙ h) in subst (λ z. shows w r.file is_type z ≡ true) x.1 x.0)
-  | inr f ↦ absurd (none-some m (sym (cond-false r.is_absolute (typed w r.file r.words) None f) ∙ h))
+wanted_shown : (w : Workspace) (r : Reference) (m : List (List ℕ)) (o : Option ℕ) → meaning_at w r o ≡ Some m → shows w r.file (may_resolve_to r.wants) m ≡ true
+wanted_shown w r m None h = elim (cases_Bool r.is_absolute) [
+  | inl t ↦ (let x = visible_is w r.file (may_resolve_to r.wants) r.words m (sym (cond-true r.is_absolute (visible_as w r.file (may_resolve_to r.wants) r.words) None t) ∙ h) in subst (λ z. shows w r.file (may_resolve_to r.wants) z ≡ true) x.1 x.0)
+  | inr f ↦ absurd (none-some m (sym (cond-false r.is_absolute (visible_as w r.file (may_resolve_to r.wants) r.words) None f) ∙ h))
 ]
-type_shown w r m (Some k) h = let x = typed_is w r.file (take k r.scope ++ r.words) m h in subst (λ z. shows w r.file is_type z ≡ true) x.1 x.0
-
-no_package : (k : Kind) → is_type k ≡ true → is_package k ≡ false
-no_package k h = elim (cases_Bool (is_package k)) [
-  | inl p ↦ absurd (both_ways (is_type k) (ap is_type (package_from k p)) h)
-  | inr f ↦ f
-]
+wanted_shown w r m (Some k) h = let x = visible_is w r.file (may_resolve_to r.wants) (take k r.scope ++ r.words) m h in subst (λ z. shows w r.file (may_resolve_to r.wants) z ≡ true) x.1 x.0
 
 marked_is : (marks : List Bool) (g : ℕ) → slice_index_or marks g false ≡ get_or marks g false
 marked_is [] g = refl
@@ -106,7 +99,7 @@ module _ (files : List FileOf) (reads : List ReadOf) (are : AreRead files reads)
         let named : n.0.text ≡ joined m = same_Some n.0.text (joined m) (sym (ap (option_map (λ (z : NameOf). z.text)) n.1) ∙ text) in
         let own = names.declared row n.0 n.1 in
         let s = names.only row (get_or n.0.files 0 0) n.0 n.1 (0, own, get_or_default n.0.files 0 (get_or n.0.files 0 0) 0 own) in
-        let t = shown w q.file is_type m (type_shown w q m (hit w q) means) in
+        let t = shown w q.file (may_resolve_to q.wants) m (wanted_shown w q m (hit w q) means) in
         let plain : ArePlain m = subst ArePlain t.2 (names.plain t.0 t.1) in
         let same : s.0.name ≡ m = joined_apart s.0.name m (names.plain s.0 s.1) plain (s.2 ∙ named) in
         (s.0, s.1, means ∙ ap Some (sym same), ap (λ g. sees v file g) (s.4 ∙ n.3) ∙ sym (seen f.0) ∙ sym (marked_is marks f.0) ∙ f.2)
@@ -115,12 +108,12 @@ module _ (files : List FileOf) (reads : List ReadOf) (are : AreRead files reads)
     back u row p text =
         let q = used_named T file u in
         let n = named_at l row (joined p.0.name) text in
-        let t = shown w q.file is_type p.0.name (type_shown w q p.0.name (hit w q) p.2) in
+        let t = shown w q.file (may_resolve_to q.wants) p.0.name (wanted_shown w q p.0.name (hit w q) p.2) in
         let o = names.there t.0 t.1 in
         let one : row ≡ o.0 = names.once row o.0 n.0 o.1 n.1 o.2 (n.2 ∙ sym (o.3 ∙ ap joined t.2)) in
         let both : n.0 ≡ o.1 = same_Some n.0 o.1 (sym n.1 ∙ ap (name_at l) one ∙ o.2) in
-        let typed_kind : is_type n.0.kind ≡ true = ap (λ (z : NameOf). is_type z.kind) both ∙ ap is_type o.4 ∙ t.3 in
-        let free : is_package n.0.kind ≡ false = no_package n.0.kind typed_kind in
+        let wanted : may_resolve_to q.wants n.0.kind ≡ true = ap (λ (z : NameOf). may_resolve_to q.wants z.kind) both ∙ ap (may_resolve_to q.wants) o.4 ∙ t.3 in
+        let free : is_package n.0.kind ≡ false = false_from_ne_true (is_package n.0.kind) (λ h. wanted_no_package q.wants n.0.kind wanted (package_from n.0.kind h)) in
         let own = names.declared row n.0 n.1 in
         let s = names.only row (get_or n.0.files 0 0) n.0 n.1 (0, own, get_or_default n.0.files 0 (get_or n.0.files 0 0) 0 own) in
         let name : s.0.name ≡ p.0.name = joined_apart s.0.name p.0.name (names.plain s.0 s.1) (names.plain p.0 p.1) (s.2 ∙ n.2) in

@@ -1,7 +1,6 @@
 -- What rules find in files as written is what they find in them in the core language.
-use Rattle.std.proofs.Common.{◌≡◌, ℕ, suc, Bool, List, [], ◌∷◌, ◌++◌, map, is_some, option_map, refl}
+use Rattle.std.proofs.Common.{◌≡◌, ℕ, suc, Bool, List, [], ◌∷◌, ◌++◌, map, option_map, refl}
 use Rattle.proto_text.specs.Tokens.{lexeme_at}
-use Rattle.proto_ast.specs.CustomNames.{custom_name_in}
 use Rattle.proto_files.proofs.Common.{FileOf, ReadOf, read_at}
 use Rattle.proto_files.specs.Laws.{as_written}
 use Rattle.proto_names_rules.proofs.Common.{Used, joined, meaning}
@@ -31,7 +30,6 @@ module _ (files : List FileOf) (reads : List ReadOf) where
     tokens = (read_at reads k).tokens;
     lexemes = map (lexeme_at (bytes_same files k i)) (read_at reads k).tokens;
     means = map (λ (u : Used ℕ). meant_same k u i) (uses_of reads k);
-    has_custom = is_some (custom_name_in (read_at reads k).tree);
   }
 
   head_same : (k : ℕ) → head_of_file after reads k ≡ head_of_file files reads k

@@ -88,7 +88,7 @@ first_head f name hs =
 
 pub head_same : (files : List FileOf) (reads : List ReadOf) (file : ℕ) (tokens : List Token) (tree : Tree) (h : Head) → AreRead files reads → file < length files
     → AreTokens (file_at files file).bytes tokens → IsTreeOf (file_at files file) tree
-    → h ≡ head_of (file_at files file).path (record { tokens = tokens; lexemes = map (lexeme_at (file_at files file).bytes) tokens; means = []; has_custom = false }) tree → h ≡ head_of_file files reads file
+    → h ≡ head_of (file_at files file).path (record { tokens = tokens; lexemes = map (lexeme_at (file_at files file).bytes) tokens; means = [] }) tree → h ≡ head_of_file files reads file
 head_same files reads file tokens tree h are within t is e =
     let path : List ℕ = (file_at files file).path in
     let bytes : List ℕ = (file_at files file).bytes in
@@ -97,7 +97,7 @@ head_same files reads file tokens tree h are within t is e =
     e ∙ ap (λ (ts : List Token). head_of path (reading bytes ts) tree) one ∙ ap (head_of path (reading bytes (read_at reads file).tokens)) same
   where
     reading : List ℕ → List Token → LintFile
-    reading bytes ts = record { tokens = ts; lexemes = map (lexeme_at bytes) ts; means = []; has_custom = false }
+    reading bytes ts = record { tokens = ts; lexemes = map (lexeme_at bytes) ts; means = [] }
 
 -- ---- tests of lists
 

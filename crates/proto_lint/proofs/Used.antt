@@ -1,10 +1,9 @@
 -- An import is used where the files that declare what references mean are reached from its file.
 use Rattle.std.proofs.Common.{◌≡◌, ◌≢◌, ◌↔◌, ℕ, suc, ◌+◌, ◌<◌, Bool, true, false, ◌&&◌, if◌then◌else◌, List, [], ◌∷◌, length, get_or, map, option_map, Option, None, Some, refl, sym, ◌∙◌, ap, subst, inl, inr, arith, ◌==◌, Contains, option_and_then, true≢false, eqb-true, eq-eqb}
-use Rattle.proto_base.proofs.Common.{and_parts, and_from, length-map, Contains-append_cases, Contains-get_or, none-some, same_Some, any_from, any_to, contains_map, from_map}
+use Rattle.proto_base.proofs.Common.{false_from_ne_true, and_parts, and_from, length-map, Contains-append_cases, Contains-get_or, none-some, same_Some, any_from, any_to, contains_map, from_map}
 use Rattle.proto_files.proofs.Common.{FileOf, ReadOf, AreRead}
-use Rattle.proto_names_rules.proofs.Common.{place_from, place_of, At, at, FileNames, all_declared, all_used, declared_of, file_declared, used_in, ArePlain, joined, is_package, Symbol, Reference, Workspace, Reaches, is_type, meaning, reaches, same_name, Source, Token, EntryOf, Given, Declared, Used, name_of, reference_of, shifted_declared, shifted_source, symbol_of, Placed, file_placed, name_from_same, same_from_name, joined_apart, meant as meant_type, reaches_all, reaches_only}
-use Rattle.proto_names_rules.specs.declared.kind.Kind.{Kind}
-use Rattle.proto_names_rules.specs.declared.kind.Kind.TheVariants.{Package, Message, Entry, Enum, Service, Field, EntryField, Extension, Oneof, Value, Method}
+use Rattle.proto_names_rules.proofs.Common.{place_from, place_of, At, at, FileNames, all_declared, all_used, declared_of, file_declared, used_in, ArePlain, joined, is_package, Symbol, Reference, Workspace, Reaches, may_resolve_to, meaning, reaches, same_name, Source, Token, EntryOf, Given, Declared, Used, name_of, reference_of, shifted_declared, shifted_source, symbol_of, Placed, file_placed, name_from_same, same_from_name, joined_apart, meant, package_from, reaches_all, reaches_only, wanted_no_package}
+use Rattle.proto_names_rules.specs.declared.kind.Kind.TheVariants.{Package}
 use Rattle.proto_names_imports.proofs.Common.{link_skeleton, names_in, names_of_files, text_of, use_from, use_in, marked_within, used_named, uses_of}
 use Rattle.proto_names.proofs.Common.{IsLinkRead, TextMeant, meant_by_link, meant_by_use, LinkOf, NameOf, declaring_file, name_at, own_file, name_declared_as}
 use Rattle.proto_case.specs.Camel.{entry_name}
@@ -29,23 +28,7 @@ stands_in_file n (f ∷ fs) d c = elim (Contains-append_cases (file_declared n f
   | inr t ↦ stands_in_file (suc n) fs d t
 ]
 
--- ---- types are no packages
-
-no_package : (k : Kind) → is_type k ≡ true → is_package k ≡ false
-no_package Package t = absurd (true≢false (sym t))
-no_package Message t = refl
-no_package Entry t = refl
-no_package Enum t = refl
-no_package Service t = refl
-no_package Field t = refl
-no_package EntryField t = refl
-no_package Extension t = refl
-no_package Oneof t = refl
-no_package Value t = refl
-no_package Method t = refl
-
-type_is_other : (k : Kind) → is_type k ≡ true → k ≢ Package
-type_is_other k t e = true≢false (sym t ∙ ap is_type e)
+-- ---- names in their own files
 
 -- the file of a name that is no package
 own_of : (n : NameOf) (g : ℕ) → own_file n ≡ Some g → get_or n.files 0 0 ≡ g
@@ -95,15 +78,15 @@ module _ (files : List FileOf) (reads : List ReadOf) (l : LinkOf) (are : AreRead
   -- a symbol of the name that a reference means is declared in the name's own file
   symbol_file : (r : Reference) (name : List (List ℕ)) → meaning w r ≡ Some name → (row : ℕ) (n : NameOf) → name_at l row ≡ Some n → n.text ≡ joined name → (s : Symbol) → Contains w.symbols s → s.name ≡ name → declaring_file l row ≡ Some s.file
   symbol_file r name means row n h e s c same =
-      let t = meant_type w r name means in
-      let type : is_type n.kind ≡ true = ap is_type (same_kind row n h t.0 t.1 (e ∙ ap joined (sym t.2))) ∙ t.3 in
+      let t = meant w r name means in
+      let wanted : may_resolve_to r.wants n.kind ≡ true = ap (may_resolve_to r.wants) (same_kind row n h t.0 t.1 (e ∙ ap joined (sym t.2))) ∙ t.3 in
       let d = from_map (symbol_of text entry_name) (link_skeleton files reads).declared s c in
       let spelled : name_of text entry_name d.0.path ≡ name = ap (λ (x : Symbol). x.name) d.2 ∙ same in
       let kind : n.kind ≡ d.0.kind = same_kind row n h s c (e ∙ ap joined (sym same)) ∙ ap (λ (x : Symbol). x.kind) (sym d.2) in
-      let other : d.0.kind ≢ Package = type_is_other d.0.kind (ap is_type (sym kind) ∙ type) in
+      let other : d.0.kind ≢ Package = wanted_no_package r.wants d.0.kind (ap (may_resolve_to r.wants) (sym kind) ∙ wanted) in
       let place = (name_declared_as text (link_skeleton files reads) l link.by d.0 d.1 other row n h (e ∙ ap joined (sym spelled))).1 in
       let file : get_or n.files 0 0 ≡ s.file = ap (λ (a : At). a.file) place ∙ stands_in_file 0 (map names_in reads) d.0 d.1 ∙ ap (λ (x : Symbol). x.file) d.2 in
-      ap (option_and_then own_file) h ∙ own_is n (no_package n.kind type) ∙ ap Some file
+      ap (option_and_then own_file) h ∙ own_is n (false_from_ne_true (is_package n.kind) (λ q. wanted_no_package r.wants n.kind wanted (package_from n.kind q))) ∙ ap Some file
 
   -- a symbol of the name, in its own file
   own_symbol : (row g : ℕ) → declaring_file l row ≡ Some g → (n : NameOf) × (name_at l row ≡ Some n) × ((s : Symbol) × Contains w.symbols s × (joined s.name ≡ n.text) × (s.file ≡ g))
@@ -127,7 +110,7 @@ module _ (files : List FileOf) (reads : List ReadOf) (l : LinkOf) (are : AreRead
         let us = uses_of reads file in
         let u = from_map (meant_by_use files reads file) us (meant_by_link l x.0) (subst (λ (z : List TextMeant). Contains z (meant_by_link l x.0)) (link.means file within).texts (contains_map (meant_by_link l) (get_or l.meant file []) x.0 x.1)) in
         let named = with_meaning (meaning w (used_named text file u.0)) o.0.text (ap (option_map (λ (y : NameOf). y.text)) (sym o.1) ∙ ap (λ (z : TextMeant). z.text) (sym u.2)) in
-        let t = meant_type w (used_named text file u.0) named.0 named.1 in
+        let t = meant w (used_named text file u.0) named.0 named.1 in
         let plain : ArePlain named.0 = subst ArePlain t.2 (link.by.names.plain t.0 t.1) in
         let s = o.2 in
         let same : s.0.name ≡ named.0 = joined_apart s.0.name named.0 (link.by.names.plain s.0 s.1) plain (s.2 ∙ named.2) in

@@ -34,13 +34,12 @@ leads_is_used files reads are file marks used path b h = go (file_with_path (pat
         let u = used.used reads are to (place_within files path to e) in
         same_truth a (is_used (names_of_files files reads) file (Some to)) ((λ t. u.0 (k.0 t)), λ t. k.1 (u.1 t))
 
-pub used_found : (rules : List Bool) (r : LintFile) (w : Workspace) (paths : List (List ℕ)) (file : ℕ) (i : Import) (old new : List Found) (path : List ℕ) (used passes : Bool)
-    → is_chosen rules rule.ImportUsed ≡ true → is_public i.modifier ≡ false → import_path r i ≡ path → used ≡ is_used w file (file_with_path paths path) → passes ≡ (used || r.has_custom)
+pub used_found : (rules : List Bool) (r : LintFile) (w : Workspace) (paths : List (List ℕ)) (file : ℕ) (i : Import) (old new : List Found) (path : List ℕ) (passes : Bool)
+    → is_chosen rules rule.ImportUsed ≡ true → is_public i.modifier ≡ false → import_path r i ≡ path → passes ≡ is_used w file (file_with_path paths path)
     → new ≡ old ++ map (found_at r rule.ImportUsed) (unless passes i.keyword path) → new ≡ old ++ found_by rules r rule.ImportUsed (import_used w paths r file i)
-used_found rules r w paths file i old new path used passes chosen plain is uses passing e =
+used_found rules r w paths file i old new path passes chosen plain is uses e =
     e
-    ∙ ap (λ (b : Bool). old ++ map (found_at r rule.ImportUsed) (unless b i.keyword path)) passing
-    ∙ ap (λ (b : Bool). old ++ map (found_at r rule.ImportUsed) (unless (b || r.has_custom) i.keyword path)) uses
-    ∙ ap (λ (p : List ℕ). old ++ map (found_at r rule.ImportUsed) (unless (is_used w file (file_with_path paths p) || r.has_custom) i.keyword p)) (sym is)
-    ∙ ap (λ (b : Bool). old ++ map (found_at r rule.ImportUsed) (unless (b || (is_used w file (file_with_path paths (import_path r i)) || r.has_custom)) i.keyword (import_path r i))) (sym plain)
+    ∙ ap (λ (b : Bool). old ++ map (found_at r rule.ImportUsed) (unless b i.keyword path)) uses
+    ∙ ap (λ (p : List ℕ). old ++ map (found_at r rule.ImportUsed) (unless (is_used w file (file_with_path paths p)) i.keyword p)) (sym is)
+    ∙ ap (λ (b : Bool). old ++ map (found_at r rule.ImportUsed) (unless (b || is_used w file (file_with_path paths (import_path r i))) i.keyword (import_path r i))) (sym plain)
     ∙ ap (λ (b : Bool). old ++ (if b then map (found_at r rule.ImportUsed) (import_used w paths r file i) else [])) (sym chosen)

@@ -53,11 +53,11 @@ is_used w file (Some to) =
 
 -- IMPORT_USED: an import that is not public, where no reference of the file means a symbol of the
 -- imported file or of one that is reached from it (a public import is for others, and needs no use);
--- a file with a custom option passes, since the names of such options may mean symbols, too
+-- the names of custom options are references, too
 abbrev pub import_used : Workspace → List Path → LintFile → ℕ → Import → List NamedToken
 import_used w paths r file i =
     import_unless r (is_public i.modifier
-    || (is_used w file (file_with_path paths (import_path r i)) || r.has_custom)) i
+    || is_used w file (file_with_path paths (import_path r i))) i
 
 -- ---- what they find
 

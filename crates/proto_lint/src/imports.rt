@@ -199,13 +199,6 @@ fn add_import_no_public(
     Ok(())
 }
 
-// Whether an import passes, by whether it is used. The name of a custom option may use it, too.
-fn passes(reading: &LintFile, is_used: bool) -> bool
-    ensures { result ≡ (is_used || (reading_of reading.now).has_custom) }
-{
-    is_used || reading.has_custom()
-}
-
 fn import(item: &Item) -> Option<&Import>
     ensures { option_to_list (option_map (λ i. i.now) result) ≡ import_statements_in
         (item_tree item.now) }
@@ -316,10 +309,9 @@ impl<'a> FileImports<'a> {
         let rule = Rule::ImportUsed;
         if linter.rules.has(rule) && !import.is_public() {
             let path = string_value(alloc, reading.text(import.path))?;
-            let is_used = linter
+            let passes = linter
                 .imports
                 .leads(alloc, linter.linked.files(), path.as_str(), used)?;
-            let passes = passes(reading, is_used);
             found.add_unless(
                 reading,
                 Verdict { rule, passes },

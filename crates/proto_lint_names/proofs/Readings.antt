@@ -1,5 +1,5 @@
 -- What a reading of the code says is what is read of the file.
-use Rattle.std.proofs.Common.{◌≡◌, ℕ, ◌<◌, Bool, true, false, ◌==◌, List, [], ◌∷◌, length, map, get_or, Option, Some, None, Bor, option_map, is_some, refl, sym, ap, ◌∙◌, find, option_and_then, unwrap_or}
+use Rattle.std.proofs.Common.{◌≡◌, ℕ, ◌<◌, Bool, true, false, ◌==◌, List, [], ◌∷◌, length, map, get_or, Option, Some, None, Bor, option_map, refl, ap, ◌∙◌, find, option_and_then, unwrap_or}
 use Rattle.proto_base.specs.Texts.{or_nothing}
 use Rattle.proto_text.specs.declared.lexer.Token.{Token}
 use Rattle.proto_text.specs.Tokens.{AreTokens, Lexeme, lexeme_at}
@@ -9,9 +9,6 @@ use Rattle.proto_files.proofs.Common.{FileOf, file_at, ReadOf, AreRead, read_at,
 use Rattle.proto_names.specs.Linking.{Meant}
 use Rattle.proto_names.proofs.Common.{IsLinkOf, meant_by_link, LinkOf, row_at, name_text}
 use Rattle.proto_lint_names.specs.Readings.{read_of_file, LintFile}
-use Rattle.proto_tree.proofs.Common.{Tree}
-use Rattle.proto_files.proofs.Common.{IsTreeOf, same_tree}
-use Rattle.proto_ast.specs.CustomNames.{custom_name_in}
 
 -- ---- what a reference means
 
@@ -42,11 +39,9 @@ text_is (Some s) other e = refl
 pub read_is : (files : List FileOf) (reads : List ReadOf) → AreRead files reads → (l : LinkOf) → IsLinkOf files l → (file : ℕ) → file < length files
     → (text : List ℕ) → text ≡ (file_at files file).bytes → (tokens : List Token) → AreTokens (file_at files file).bytes tokens
     → (words : List Lexeme) → words ≡ map (lexeme_at text) tokens
-    → (tree : Tree) → IsTreeOf (file_at files file) tree → (has_custom : Bool) → has_custom ≡ is_some (custom_name_in tree)
-    → (let r : LintFile = record { tokens = tokens; lexemes = words; means = map (meant_by_link l) (get_or l.meant file []); has_custom = has_custom } in r) ≡ read_of_file files reads file
-read_is files reads are l linked file within text same tokens lexed words spelled tree of_file has_custom told =
+    → (let r : LintFile = record { tokens = tokens; lexemes = words; means = map (meant_by_link l) (get_or l.meant file []) } in r) ≡ read_of_file files reads file
+read_is files reads are l linked file within text same tokens lexed words spelled =
     let t = tokens_at files reads are file tokens within lexed in
     let w : words ≡ map (lexeme_at (file_at files file).bytes) (read_at reads file).tokens = spelled ∙ ap (λ (b : List ℕ). map (lexeme_at b) tokens) same ∙ ap (map (lexeme_at (file_at files file).bytes)) t in
     let m = ((linked reads are).means file within).texts in
-    let c : has_custom ≡ is_some (custom_name_in (read_at reads file).tree) = told ∙ ap (λ (u : Tree). is_some (custom_name_in u)) (sym (same_tree files reads file tree are within of_file)) in
-    λ i. record { tokens = t i; lexemes = w i; means = m i; has_custom = c i }
+    λ i. record { tokens = t i; lexemes = w i; means = m i }

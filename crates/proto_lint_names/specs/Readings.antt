@@ -1,12 +1,11 @@
 -- What the rules read of a file.
-use Rattle.std.specs.Prelude.{ℕ, Bool, is_some, ◌==◌, List, [], map, find, get_or}
+use Rattle.std.specs.Prelude.{ℕ, ◌==◌, List, [], map, find, get_or}
 use Rattle.std.specs.Option.{option_and_then}
 use Rattle.proto_base.specs.Texts.{Text, or_nothing}
 use Rattle.proto_text.specs.declared.lexer.Token.{Token}
 use Rattle.proto_text.specs.Texts.{word_at}
 use Rattle.proto_text.specs.Tokens.{Lexeme, lexeme_at}
 use Rattle.proto_tree.specs.Tree.{Tree}
-use Rattle.proto_ast.specs.CustomNames.{custom_name_in}
 use Rattle.proto_files.specs.GivenFiles.{FileOf, file_at}
 use Rattle.proto_names_rules.specs.Tree.{package_of}
 use Rattle.proto_names_outline.specs.FromTree.{items_in}
@@ -15,13 +14,11 @@ use Rattle.proto_names.specs.LinkOfFiles.{TextMeant, meant_by_link, meant_by_use
 use Rattle.proto_names.specs.FileReferences.{uses_of}
 use Rattle.proto_lint_names.specs.declared.reading.LintFile.{LintFile as Read}
 
--- a file as the rules read it: its tokens, these with their texts, what its references mean, and
--- whether a custom option stands in it
+-- a file as the rules read it: its tokens, these with their texts, and what its references mean
 pub record LintFile : Type 0 where
   pub tokens : List Token
   pub lexemes : List Lexeme
   pub means : List TextMeant
-  pub has_custom : Bool
 
 -- the text of a token by its index, and nothing where there is none
 abbrev pub word_in : LintFile → ℕ → Text
@@ -44,7 +41,6 @@ read_of_file files reads file = record {
   tokens = (read_at reads file).tokens;
   lexemes = map (lexeme_at (file_at files file).bytes) (read_at reads file).tokens;
   means = map (meant_by_use files reads file) (uses_of reads file);
-  has_custom = is_some (custom_name_in (read_at reads file).tree);
 }
 
 -- ---- the same in code
@@ -55,5 +51,4 @@ reading_of r = record {
   tokens = r.tokens.now;
   lexemes = r.words;
   means = map (meant_by_link r.link.now) (get_or r.link.now.meant r.file []);
-  has_custom = r.has_custom;
 }

@@ -6,7 +6,6 @@ ghost use Rattle.proto_tree.specs.References.{first_of};
 ghost use Rattle.proto_files.specs.FilesRead.{AreRead, ReadOf};
 ghost use Rattle.proto_lint_names.specs.Readings.{read_of_file, meant_name, reading_of, word_in};
 
-use proto_ast::custom_name;
 use proto_files::{Words, offset_of};
 use proto_names::Link;
 use proto_resolved::Linked;
@@ -20,7 +19,6 @@ pub struct LintFile<'a> {
     tokens: &'a [Token],
     words: Words<'a>,
     link: &'a Link,
-    has_custom: bool,
     pub file: u32,
 }
 
@@ -39,16 +37,8 @@ impl<'a> LintFile<'a> {
             tokens,
             words,
             link: linked.link(),
-            has_custom: custom_name(files.tree(file)).is_some(),
             file,
         }
-    }
-
-    /// Whether a custom option stands in the file.
-    pub fn has_custom(&self) -> bool
-        ensures { result ≡ (reading_of self.now).has_custom }
-    {
-        self.has_custom
     }
 
     /// Where the token with this index begins, in bytes from 0; 0 where there is none.

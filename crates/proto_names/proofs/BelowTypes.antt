@@ -5,7 +5,7 @@ use Rattle.proto_base.proofs.Common.{Vec, get_or-map, length-map}
 use Rattle.proto_files.proofs.Common.{AreRead, FileOf, ReadOf}
 use Rattle.proto_names_imports.proofs.Common.{names_are_plain, names_of_files}
 use Rattle.proto_names_rules.specs.Marked.{IsScopeOf}
-use Rattle.proto_names_affected.specs.OuterRows.{is_below_type, is_row_below_type, is_type_number, is_type_row}
+use Rattle.proto_names_affected.specs.KindRows.{is_below_type, is_row_below_type, is_type_number, is_type_row}
 use Rattle.proto_names_rules.proofs.Common.{ArePlain, Symbol, front, is_type, joined, name_some, names_apart, one_symbol, under, under_apart}
 use Rattle.proto_names.proofs.DeclaredRows.{IsRowOf, row_of_symbol}
 use Rattle.proto_names.proofs.Scopes.{plain_parts}

@@ -3,8 +3,9 @@ use Rattle.std.proofs.Common.{◌≡◌, ◌≢◌, ℕ, zero, suc, ◌+◌, ◌
 use Rattle.proto_base.proofs.Common.{cases_Bool, cases_eq, cond-false, cond-true, false_from_ne_true, length-map, map-map}
 use Rattle.proto_text.proofs.Common.{word_at, Lexeme}
 use Rattle.proto_tree.specs.declared.tree.Behind.{Behind}
-use Rattle.proto_names_rules.proofs.Common.{under, joined, ArePlain, Reference, Workspace, fits_at_first, greatest, hits_at, hit, shows, meaning, meaning_at, typed, MarksSeen, greatest_is}
-use Rattle.proto_names_table.proofs.Common.{IsIndexOf, IsAsked, IsTypeAt, names_of, IsTable, Step, one_step, shows_to, under_all_named, is_empty_list, empty_is, joined_more, plain_take, outermost}
+use Rattle.proto_names_rules.specs.declared.wants.Wants.{Wants}
+use Rattle.proto_names_rules.proofs.Common.{under, joined, ArePlain, Reference, Workspace, fits_at_first, greatest, hits_at, hit, may_resolve_to, shows, meaning, meaning_at, visible_as, MarksSeen, greatest_is}
+use Rattle.proto_names_table.proofs.Common.{IsIndexOf, IsAsked, IsWantedAt, names_of, IsTable, Step, one_step, shows_to, under_all_named, is_empty_list, empty_is, joined_more, plain_take, outermost}
 use Rattle.proto_names.specs.Scopes.{IsScopeFront}
 use Rattle.proto_names_table.specs.declared.table.Table.{Table}
 use Rattle.proto_names.proofs.Scopes.{plain_parts}
@@ -35,10 +36,10 @@ text_behind ls b = record { ref_ptr = (0, 0); now = word_at ls b.item }
 pub empty_behind : (ls : List Lexeme) (bs : List (Behind ℕ)) → (length bs == 0) ≡ is_empty_list (words_by ls bs)
 empty_behind ls bs = ap (λ n. n == 0) (sym (length-map bs (text_behind ls))) ∙ empty_is (map (text_behind ls) bs) ∙ ap is_empty_list (map-map (λ w. w.now) (text_behind ls) bs)
 
--- the row of a type that is seen is one of the table
-pub type_within : (t : Table) (seen : List Bool) (text : List ℕ) (o : Option ℕ) → IsTypeAt t seen text o → IfSome o (λ k. k < length t.rows.items)
-type_within t seen text None h = tt
-type_within t seen text (Some k) h = h.0
+-- the row of what is wanted is one of the table
+pub wanted_within : (t : Table) (seen : List Bool) (what : Wants) (text : List ℕ) (o : Option ℕ) → IsWantedAt t seen what text o → IfSome o (λ k. k < length t.rows.items)
+wanted_within t seen what text None h = tt
+wanted_within t seen what text (Some k) h = h.0
 
 -- ---- the scope's longest front that is a name
 
@@ -67,20 +68,20 @@ take_within (x ∷ xs) (suc j) (suc k) l = ap (λ z. x ∷ z) (take_within xs j 
 
 -- the reference in the front of k words of its scope
 abbrev pub in_front : Reference → ℕ → Reference
-in_front r k = record { file = r.file; scope = take k r.scope; is_absolute = r.is_absolute; wants_message = r.wants_message; words = r.words }
+in_front r k = record { file = r.file; scope = take k r.scope; is_absolute = r.is_absolute; wants = r.wants; words = r.words }
 
 -- an absolute reference means what its words name, whatever its scope
-meaning_absolute : (w : Workspace) (r : Reference) → r.is_absolute ≡ true → meaning w r ≡ typed w r.file r.words
+meaning_absolute : (w : Workspace) (r : Reference) → r.is_absolute ≡ true → meaning w r ≡ visible_as w r.file (may_resolve_to r.wants) r.words
 meaning_absolute w r absolute =
     ap (meaning_at w r) (cond-true r.is_absolute None (greatest (hits_at w r) (length r.scope)) absolute)
-    ∙ cond-true r.is_absolute (typed w r.file r.words) None absolute
+    ∙ cond-true r.is_absolute (visible_as w r.file (may_resolve_to r.wants) r.words) None absolute
 
 module _ (t : Table) (ok : IsTable t) (seen : List Bool) (w : Workspace) (r : Reference) (index : IsIndexOf t w.symbols) (marks : MarksSeen w r.file seen)
     (first : List ℕ) (ws : List (List ℕ)) (pw : ArePlain (first ∷ ws)) (words : r.words ≡ first ∷ ws) (plain : ArePlain r.scope) (number : ℕ) (f : IsScopeFront t r.scope number) where
   -- a longer front is no name, so no name stands below it
   none_below : (j : ℕ) → f.words < j → j ≤ length r.scope → hits_at w r j ≡ false
   none_below j a b = false_from_ne_true (hits_at w r j) (λ q.
-      let s = shows_to t ok seen w r.file index marks (fits_at_first r.words) (take j r.scope ++ take 1 r.words) q in
+      let s = shows_to t ok seen w r.file index marks (fits_at_first r.wants r.words) (take j r.scope ++ take 1 r.words) q in
       let name : get_or (names_of t) s.0 [] ≡ under (joined (take j r.scope)) first =
       s.2 ∙ ap (λ z. joined (take j r.scope ++ take 1 z)) words ∙ joined_more (take j r.scope) first (plain_take r.scope j plain) in
       let some : joined (take j r.scope) ≢ [] = λ e. (let z = outermost r.scope j plain b (sym e) in absurd (omega (arith, a, z))) in
@@ -94,7 +95,7 @@ module _ (t : Table) (ok : IsTable t) (seen : List Bool) (w : Workspace) (r : Re
   same_hit relative =
       cond-false r.is_absolute None (greatest (hits_at w r) (length r.scope)) relative
       ∙ greatest_cut (hits_at w r) (hits_at w (in_front r f.words)) f.words (length r.scope) f.within
-      (λ j l. ap (λ z. shows w r.file (fits_at_first r.words) (z ++ take 1 r.words)) (sym (take_within r.scope j f.words l))) none_below
+      (λ j l. ap (λ z. shows w r.file (fits_at_first r.wants r.words) (z ++ take 1 r.words)) (sym (take_within r.scope j f.words l))) none_below
 
   relative_same : r.is_absolute ≡ false → meaning w r ≡ meaning w (in_front r f.words)
   relative_same relative =
@@ -103,7 +104,7 @@ module _ (t : Table) (ok : IsTable t) (seen : List Bool) (w : Workspace) (r : Re
     where
       go : (o : Option ℕ) → greatest (hits_at w (in_front r f.words)) f.words ≡ o → meaning_at w r o ≡ meaning_at w (in_front r f.words) o
       go None e = refl
-      go (Some k) e = let g = greatest_is (hits_at w (in_front r f.words)) f.words k e in ap (λ z. typed w r.file (z ++ r.words)) (sym (take_within r.scope k f.words g.within))
+      go (Some k) e = let g = greatest_is (hits_at w (in_front r f.words)) f.words k e in ap (λ z. visible_as w r.file (may_resolve_to r.wants) (z ++ r.words)) (sym (take_within r.scope k f.words g.within))
 
   absolute_same : r.is_absolute ≡ true → meaning w r ≡ meaning w (in_front r f.words)
   absolute_same absolute = meaning_absolute w r absolute ∙ sym (meaning_absolute w (in_front r f.words) absolute)

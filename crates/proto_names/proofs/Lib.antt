@@ -7,6 +7,7 @@ mod FileMeanings
 mod FirstTokens
 mod GrownLists
 mod InScope
+mod KindRows
 mod LeastFlaws
 mod LinkErrors
 mod LinkIndex
@@ -22,7 +23,6 @@ mod NameErrors
 mod NamesOfRows
 pub mod NamesThere
 mod NoCycles
-mod OuterRows
 mod PartsBefore
 mod ReferencesByRow
 mod ReferencesStand

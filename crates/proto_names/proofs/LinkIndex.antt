@@ -6,6 +6,7 @@ use Rattle.proto_text.proofs.Common.{one_token_list, word_at, AreTokens, Lexeme,
 use Rattle.proto_text.specs.declared.lexer.Token.{Token}
 use Rattle.proto_tree.specs.declared.tree.Reference.{Reference as ReferenceOfTree}
 use Rattle.proto_tree.specs.References.{dotted}
+use Rattle.proto_names_rules.specs.declared.wants.Wants.TheVariants as wants
 use Rattle.proto_names_rules.proofs.Common.{joined, ArePlain, Reference, Symbol, Workspace, meaning, MarksSeen}
 use Rattle.proto_names.specs.Common.{HoldsNames, IsLinkBy, NameOf, LinkOf, name_of_row}
 use Rattle.proto_names_imports.proofs.Common.{names_in, text_of, link_skeleton, names_of_files, names_are_plain}
@@ -55,13 +56,13 @@ module _ (t : Table) (l : LinkOf) (same : map name_of_row t.rows.items ≡ l.nam
 
   pub meant_in : (marks : List Bool) → marks ≡ get_or l.seen file [] → (bytes : List ℕ) (tokens : List Token) (ls : List Lexeme) → ls ≡ map (lexeme_at bytes) tokens → bytes ≡ (file_at files file).bytes → AreTokens (file_at files file).bytes tokens
       → (scope : List ℕ) (reference : ReferenceOfTree) (o : Option ℕ)
-      → ((w : Workspace) (r : Reference) → IsIndexOf t w.symbols → MarksSeen w r.file marks → ArePlain r.scope → scope ≡ joined r.scope → r.words ≡ map (word_at ls) (dotted reference.words) → r.is_absolute ≡ is_some reference.dot
+      → ((w : Workspace) (r : Reference) → IsIndexOf t w.symbols → MarksSeen w r.file marks → ArePlain r.scope → scope ≡ joined r.scope → r.words ≡ map (word_at ls) (dotted reference.words) → r.is_absolute ≡ is_some reference.dot → r.wants ≡ wants.Type
       → option_map (λ k. get_or (names_of t) k []) o ≡ option_map joined (meaning w r))
       → (path : List (List ℕ)) → ArePlain path → scope ≡ joined path → option_map (λ k. get_or (names_of t) k []) o ≡ option_map joined (meaning (names_of_files files reads) (reference_in files reads file path reference))
   meant_in marks marks_is bytes tokens ls words_are bytes_are tokens_are scope reference o meant path plain e =
       meant (names_of_files files reads) (reference_in files reads file path reference) (link_index t l same (names_of_files files reads) link.names (names_are_plain files reads are))
       (subst (MarksSeen (names_of_files files reads) file) (sym marks_is) (link.seen file in_link)) plain e
-      (ap (λ z. map (word_at z) (dotted reference.words)) (sym same_words)) refl
+      (ap (λ z. map (word_at z) (dotted reference.words)) (sym same_words)) refl refl
     where
       same_words : ls ≡ map (lexeme_at (file_at files file).bytes) (read_at reads file).tokens
       same_words = words_are ∙ ap (λ (z : List ℕ). map (lexeme_at z) tokens) bytes_are

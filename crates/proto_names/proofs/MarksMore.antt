@@ -4,7 +4,7 @@ use Rattle.proto_base.proofs.Common.{All-weaker}
 use Rattle.proto_names_table.specs.declared.ids.RefId.{RefId}
 use Rattle.proto_names_affected.specs.ChangedFiles.{AreChangesMarked, IsChangeMarked, StaysOrIsMarked, WasOrIsMarked}
 use Rattle.proto_names_affected.specs.Marking.{AreReferencesMarked, IsMarked, MarksStay}
-use Rattle.proto_names_affected.specs.declared.outer_rows.KindRow.{KindRow}
+use Rattle.proto_names_affected.specs.declared.kind_rows.KindRow.{KindRow}
 use Rattle.proto_names.specs.Common.{Meant}
 use Rattle.proto_names_table.specs.declared.table.Table.{Table}
 

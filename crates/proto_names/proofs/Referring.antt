@@ -1,15 +1,17 @@
 -- What a reference means by its row, and what is wrong with it.
-use Rattle.std.proofs.Common.{◌≡◌, ◌⊎◌, ℕ, suc, ◌+◌, ◌<◌, ◌≤◌, Bool, true, false, List, [], ◌∷◌, ◌++◌, length, get_or, slice_get, take, drop, map, Option, Some, None, option_map, Result, Ok, Err, Bor, refl, sym, ◌∙◌, ap, subst, inl, inr, arith, ok_or, All, Contains, take-append-drop}
+use Rattle.std.proofs.Common.{◌≡◌, ◌⊎◌, ℕ, suc, ◌+◌, ◌<◌, ◌≤◌, Bool, List, [], ◌∷◌, ◌++◌, length, get_or, slice_get, take, drop, map, Option, Some, None, option_map, Result, Ok, Err, Bor, refl, sym, ◌∙◌, ap, subst, inl, inr, arith, ok_or, All, Contains, take-append-drop}
 use Rattle.std.specs.Slice.{IsItemAt}
 use Rattle.proto_base.proofs.Common.{cases_Bool, cases_lt, cond-true, cond-false, none-some, same_Some, slice_get_cases, slice_get_past, slice_get_read, length-map, map-append, get_or_past, get_or-map, All-append, All-cons, All-nil}
 use Rattle.std.proofs.Math.Seq.{drop-cons}
 use Rattle.proto_names_rules.specs.declared.kind.Kind.{Kind}
 use Rattle.proto_names_rules.specs.declared.kind.Kind.TheVariants.{Entry, Enum}
-use Rattle.proto_names_rules.proofs.Common.{Symbol, Reference, Workspace, is_type, meaning, meaning_at, hit, typed, joined, ArePlain, front, names_apart, name_some, typed_is, shown}
+use Rattle.proto_names_rules.specs.declared.wants.Wants.{Wants}
+use Rattle.proto_names_rules.specs.declared.wants.Wants.TheVariants as wants
+use Rattle.proto_names_rules.proofs.Common.{Symbol, Reference, Workspace, may_resolve_to, meaning, meaning_at, hit, visible_as, joined, ArePlain, front, names_apart, name_some, visible_is, shown}
 use Rattle.proto_names_table.specs.declared.table.Row.{Row}
 use Rattle.proto_names_table.specs.declared.table.Table.{Table}
 use Rattle.proto_names_table.proofs.Common.{names_of, aboves_of, look, IsTable, IsIndexOf, IsAsked}
-use Rattle.proto_names.specs.Common.{reference_by, first_key, first_token_of_use, IsReadBy, IsFlawed, IsFaultless, AreMeant, IsFirstBad, kind_flaw, found_flaw, row_flaw, scope_above, BadReference, Meant, ReferenceFlaw, Unresolved, WrongKind, MapEntry}
+use Rattle.proto_names.specs.Common.{reference_by, first_key, first_token_of_use, IsReadBy, IsFlawed, IsFaultless, AreMeant, IsFirstBad, enum_flaw, kind_flaw, found_flaw, row_flaw, scope_above, BadReference, Meant, ReferenceFlaw, Unresolved, WrongKind, MapEntry}
 use Rattle.proto_names_table.specs.Filling.{number_above}
 use Rattle.proto_names_outline.proofs.Common.{needs}
 use Rattle.proto_names_outline.specs.declared.listing.Above.{Above}
@@ -25,25 +27,26 @@ same_words {rest = rest} {first' = first'} h e e' = h ∙ ap (λ z. z ∷ rest) 
 pub meant_symbol : (w : Workspace) (r : Reference) (m : List (List ℕ)) → meaning w r ≡ Some m → (s : Symbol) × Contains w.symbols s × (s.name ≡ m)
 meant_symbol w r m h = go (hit w r) h
   where
-    of_typed : (x : List (List ℕ)) → typed w r.file x ≡ Some m → (s : Symbol) × Contains w.symbols s × (s.name ≡ m)
-    of_typed x h =
-        let t = typed_is w r.file x m h in
-        let s = shown w r.file is_type x t.0 in
+    of_visible : (x : List (List ℕ)) → visible_as w r.file (may_resolve_to r.wants) x ≡ Some m → (s : Symbol) × Contains w.symbols s × (s.name ≡ m)
+    of_visible x h =
+        let t = visible_is w r.file (may_resolve_to r.wants) x m h in
+        let s = shown w r.file (may_resolve_to r.wants) x t.0 in
         (s.0, s.1, s.2 ∙ t.1)
 
     go : (o : Option ℕ) → meaning_at w r o ≡ Some m → (s : Symbol) × Contains w.symbols s × (s.name ≡ m)
-    go (Some k) h = of_typed (take k r.scope ++ r.words) h
+    go (Some k) h = of_visible (take k r.scope ++ r.words) h
     go None h = elim (cases_Bool r.is_absolute) [
-      | inl abs ↦ of_typed r.words (sym (cond-true r.is_absolute (typed w r.file r.words) None abs) ∙ h)
-      | inr rel ↦ absurd (none-some m (sym (cond-false r.is_absolute (typed w r.file r.words) None rel) ∙ h))
+      | inl abs ↦ of_visible r.words (sym (cond-true r.is_absolute (visible_as w r.file (may_resolve_to r.wants) r.words) None abs) ∙ h)
+      | inr rel ↦ absurd (none-some m (sym (cond-false r.is_absolute (visible_as w r.file (may_resolve_to r.wants) r.words) None rel) ∙ h))
     ]
 
 -- a kind that is wrong
-kind_flawed : (kind : Kind) (wants_message : Bool) (flaw : ReferenceFlaw) → kind_flaw kind wants_message ≡ Some flaw → ((kind ≡ Entry) × (flaw ≡ MapEntry)) ⊎ ((kind ≡ Enum) × (wants_message ≡ true) × (flaw ≡ WrongKind))
-kind_flawed Entry wants_message flaw h = inl (refl, sym (same_Some MapEntry flaw h))
-kind_flawed Enum true flaw h = inr (refl, refl, sym (same_Some WrongKind flaw h))
-kind_flawed Enum false flaw h = absurd (none-some flaw h)
-kind_flawed _ wants_message flaw h = absurd (none-some flaw h)
+kind_flawed : (kind : Kind) (what : Wants) (flaw : ReferenceFlaw) → kind_flaw kind what ≡ Some flaw → ((kind ≡ Entry) × (flaw ≡ MapEntry)) ⊎ ((kind ≡ Enum) × (what ≡ wants.Message) × (flaw ≡ WrongKind))
+kind_flawed Entry what flaw h = inl (refl, sym (same_Some MapEntry flaw h))
+kind_flawed Enum wants.Type flaw h = absurd (none-some flaw h)
+kind_flawed Enum wants.Message flaw h = inr (refl, refl, sym (same_Some WrongKind flaw h))
+kind_flawed Enum wants.Extension flaw h = absurd (none-some flaw h)
+kind_flawed _ what flaw h = absurd (none-some flaw h)
 
 -- the row of what a reference means, where there is one
 module _ (t : Table) (ok : IsTable t) (w : Workspace) (index : IsIndexOf t w.symbols) (r : Reference) where
@@ -76,16 +79,16 @@ module _ (t : Table) (ok : IsTable t) (w : Workspace) (index : IsIndexOf t w.sym
           (s.0, s.1, e ∙ ap Some (sym s.2), same_Some (name_at k) (joined s.0.name) (is ∙ ap (option_map joined) (e ∙ ap Some (sym s.2))))
 
   -- what is wrong with the row is what is wrong with the symbol
-  found_kind : (k : ℕ) (s : Symbol) → Contains w.symbols s → name_at k ≡ joined s.name → found_flaw (slice_get t.rows.items k) r.wants_message ≡ kind_flaw s.kind r.wants_message
+  found_kind : (k : ℕ) (s : Symbol) → Contains w.symbols s → name_at k ≡ joined s.name → found_flaw (slice_get t.rows.items k) r.wants ≡ kind_flaw s.kind r.wants
   found_kind k s c e =
       let i = row_kind k s c e in
       elim (slice_get_cases t.rows.items k).1 [
-        | inl h ↦ ap (λ o. found_flaw o r.wants_message) h.2 ∙ ap (λ z. kind_flaw z r.wants_message) (ap (λ z. z.symbol.kind) (sym h.3) ∙ i.1 h.0)
+        | inl h ↦ ap (λ o. found_flaw o r.wants) h.2 ∙ ap (λ z. kind_flaw z r.wants) (ap (λ z. z.symbol.kind) (sym h.3) ∙ i.1 h.0)
         | inr h ↦ absurd (omega (arith, h.0, i.0))
       ]
 
   -- what is wrong with the row is wrong with the reference
-  pub row_flawed : (o : Option ℕ) (flaw : ReferenceFlaw) → option_map name_at o ≡ option_map joined (meaning w r) → row_flaw t o r.wants_message ≡ Some flaw → IsFlawed w r flaw
+  pub row_flawed : (o : Option ℕ) (flaw : ReferenceFlaw) → option_map name_at o ≡ option_map joined (meaning w r) → row_flaw t o r.wants ≡ Some flaw → IsFlawed w r flaw
   row_flawed None flaw is f = subst (IsFlawed w r) (same_Some Unresolved flaw f) (go (meaning w r) refl)
     where
       go : (o : Option (List (List ℕ))) → meaning w r ≡ o → meaning w r ≡ None
@@ -93,24 +96,24 @@ module _ (t : Table) (ok : IsTable t) (w : Workspace) (index : IsIndexOf t w.sym
       go (Some m) e = absurd (none-some (joined m) (is ∙ ap (option_map joined) e))
   row_flawed (Some k) flaw is f =
       let s = row_symbol k is in
-      elim (kind_flawed s.0.kind r.wants_message flaw (sym (found_kind k s.0 s.1 s.3) ∙ f)) [
+      elim (kind_flawed s.0.kind r.wants flaw (sym (found_kind k s.0 s.1 s.3) ∙ f)) [
         | inl h ↦ subst (IsFlawed w r) (sym h.1) (s.0, s.1, s.2, h.0)
         | inr h ↦ subst (IsFlawed w r) (sym h.2) (s.0, s.1, s.2, h.1, h.0)
       ]
 
   -- nothing is wrong with the row, nor with the reference
-  pub row_faultless : (k : ℕ) → Some (name_at k) ≡ option_map joined (meaning w r) → row_flaw t (Some k) r.wants_message ≡ None → (k < length t.rows.items) × IsFaultless w r
+  pub row_faultless : (k : ℕ) → Some (name_at k) ≡ option_map joined (meaning w r) → row_flaw t (Some k) r.wants ≡ None → (k < length t.rows.items) × IsFaultless w r
   row_faultless k is f =
       let s = row_symbol k is in
       ((row_kind k s.0 s.1 s.3).0, go)
     where
-      none : (s : Symbol) → Contains w.symbols s → meaning w r ≡ Some s.name → kind_flaw s.kind r.wants_message ≡ None
+      none : (s : Symbol) → Contains w.symbols s → meaning w r ≡ Some s.name → kind_flaw s.kind r.wants ≡ None
       none s c e = sym (found_kind k s c (same_Some (name_at k) (joined s.name) (is ∙ ap (option_map joined) e))) ∙ f
 
       go : IsFaultless w r
       go Unresolved h = none-some (name_at k) (sym (is ∙ ap (option_map joined) h))
-      go WrongKind h = none-some WrongKind (sym (none h.0 h.1 h.2) ∙ ap (λ z. kind_flaw z r.wants_message) h.4 ∙ cond-true r.wants_message (Some WrongKind) None h.3)
-      go MapEntry h = none-some MapEntry (sym (none h.0 h.1 h.2) ∙ ap (λ z. kind_flaw z r.wants_message) h.3)
+      go WrongKind h = none-some WrongKind (sym (none h.0 h.1 h.2) ∙ ap (λ z. kind_flaw z r.wants) h.4 ∙ ap enum_flaw h.3)
+      go MapEntry h = none-some MapEntry (sym (none h.0 h.1 h.2) ∙ ap (λ z. kind_flaw z r.wants) h.3)
 
 -- a reference of the file is one that the table can be asked for
 pub asked_in : (t : Table) (seen : List Bool) (rows : List ℕ) (names : List (List (List ℕ))) (file : ℕ) (w : Workspace) → IsReadBy t seen rows names file w → (text : ℕ → List ℕ) (u : Use) → needs u.scope ≤ length rows → (scope : ℕ) → scope ≡ number_above rows u.scope → IsAsked t seen scope w (reference_by file names text u)
@@ -164,11 +167,11 @@ module _ (t : Table) (w : Workspace) (f : Use → Reference) where
   }
 
 -- what is wrong with a reference is what is wrong with the row that `get` answers
-pub row_got : (t : Table) (rows : List Row) → rows ≡ t.rows.items → (k : ℕ) (wants_message : Bool) (row : Option ℕ) → row ≡ Some k → (got : Option (Bor Row)) → IsItemAt rows k got
-    → (found : Option (Bor Row)) → got ≡ found → row_flaw t row wants_message ≡ found_flaw (option_map (λ r. r.now) found) wants_message
-row_got t rows rows_are k wants_message row row_is got item found found_is =
-    ap (λ o. row_flaw t o wants_message) row_is ∙ ap (λ (rs : List Row). found_flaw (slice_get rs k) wants_message) (sym rows_are)
-    ∙ ap (λ o. found_flaw o wants_message) (there got item ∙ ap (option_map (λ r. r.now)) found_is)
+pub row_got : (t : Table) (rows : List Row) → rows ≡ t.rows.items → (k : ℕ) (what : Wants) (row : Option ℕ) → row ≡ Some k → (got : Option (Bor Row)) → IsItemAt rows k got
+    → (found : Option (Bor Row)) → got ≡ found → row_flaw t row what ≡ found_flaw (option_map (λ r. r.now) found) what
+row_got t rows rows_are k what row row_is got item found found_is =
+    ap (λ o. row_flaw t o what) row_is ∙ ap (λ (rs : List Row). found_flaw (slice_get rs k) what) (sym rows_are)
+    ∙ ap (λ o. found_flaw o what) (there got item ∙ ap (option_map (λ r. r.now)) found_is)
   where
     there : (got : Option (Bor Row)) → IsItemAt rows k got → slice_get rows k ≡ option_map (λ r. r.now) got
     there None h = slice_get_past rows k h.3

@@ -1,15 +1,16 @@
 -- The marks of what changed are those of the files that have to be re-resolved.
-use Rattle.std.proofs.Common.{◌≡◌, ℕ, ◌<◌, Bool, true, false, List, [], ◌∷◌, ◌++◌, length, get_or, map, option_map, Option, Some, sym, ◌∙◌, ap, subst, inl, inr, arith, All, Contains, true≢false}
+use Rattle.std.proofs.Common.{◌≡◌, ℕ, ◌<◌, Bool, true, false, List, [], ◌∷◌, ◌++◌, length, get_or, map, option_map, Option, Some, sym, ◌∙◌, ap, subst, inl, inr, arith, All, Contains}
 use Rattle.proto_base.proofs.Common.{All-contains, Vec, any_to, both_ways, contains_filter, contains_map, false_from_ne_true, from_map, same_Some, same_from_word, slice_get-get_or}
 use Rattle.proto_case.specs.Camel.{entry_name}
 use Rattle.proto_files.proofs.Common.{FileOf, ReadOf}
 use Rattle.proto_names_imports.proofs.Common.{link_skeleton, names_are_plain, names_in, names_of_files, text_of, use_from}
-use Rattle.proto_names_rules.proofs.Still.{type_is_outer}
-use Rattle.proto_names_rules.specs.Kept.{Declares}
+use Rattle.proto_names_rules.proofs.Symbols.{wanted_no_package}
+use Rattle.proto_names_rules.specs.Kept.{Declares, may_fit}
+use Rattle.proto_names_rules.specs.declared.kind.Kind.TheVariants.{Package}
 use Rattle.proto_names_rules.specs.Marked.{IsScopeOf, IsUnmarked}
-use Rattle.proto_names_affected.specs.OuterRows.{is_below_type}
-use Rattle.proto_names_affected.specs.Sight.{IsOwnOrApart, is_outer_at, is_outer_row, is_seen_at, is_seen_row}
-use Rattle.proto_names_rules.proofs.Common.{ArePlain, At, Reference, Symbol, Used, Workspace, all_used, is_outer, is_type, joined, joined_apart, meaning, one_symbol, reference_of, sees}
+use Rattle.proto_names_affected.specs.KindRows.{is_below_type}
+use Rattle.proto_names_affected.specs.Sight.{IsOwnOrApart, is_seen_at, is_seen_row}
+use Rattle.proto_names_rules.proofs.Common.{ArePlain, At, Reference, Symbol, Used, Workspace, all_used, joined, joined_apart, may_resolve_to, meaning, one_symbol, reference_of, sees}
 use Rattle.proto_names.proofs.BelowTypes.{declares_alone}
 use Rattle.proto_names.proofs.DeclaredRows.{row_of_symbol, symbol_by_row, symbol_listed, symbol_of_row}
 use Rattle.proto_names.proofs.LinkParts.{one_row}
@@ -18,7 +19,7 @@ use Rattle.proto_names.proofs.ReferencesStand.{file_is_meant}
 use Rattle.proto_names.proofs.RenewedMeanings.{reference_from}
 use Rattle.proto_names.proofs.RenewedSight.{is_newly_seen, is_place, sees_itself, sight_stays}
 use Rattle.proto_names.specs.Common.{AreNamesOf, LinkOf, Meant, RefId, first_key, has_text, reference_id, uses_of, word_key}
-use Rattle.proto_names.specs.Renewed.{AreBeginnersMarked, AreChangesMarked, AreNamesRenewed, AreUsersMarked, AreSightsMarked, DeclaresOuter, EndsIn, IsTableOf}
+use Rattle.proto_names.specs.Renewed.{AreBeginnersMarked, AreChangesMarked, AreNamesRenewed, AreUsersMarked, AreSightsMarked, DeclaresKind, EndsIn, IsTableOf}
 use Rattle.proto_names.specs.Sight.{IsSightOf}
 use Rattle.proto_names_update.proofs.Clean.{names_apart}
 use Rattle.proto_names_update.proofs.Differing.{as_many, edited_files_differ}
@@ -71,11 +72,11 @@ module _ (places : List ℕ) (marks : List Bool) (before : List FileOf) (was : L
         let file : u.0.first.file ≡ r.file = ap (λ (z : Used At). z.first.file) (sym y.2.2) ∙ ap (λ (z : Used At). z.file) y.2.2 ∙ ap (λ (z : Reference). z.file) u.2 in
         subst (λ (m : ℕ). get_or marks m false ≡ true) file (All-contains (λ (z : RefId). get_or marks z.file false ≡ true) (get_or l.references row []) (reference_id u.0) users there)
 
-    still_declared : IsUnmarked marks r.file → Contains places s.file → is_type s.kind ≡ true → Contains v.symbols s
-    still_declared left there ty =
+    still_declared : IsUnmarked marks r.file → Contains places s.file → Contains v.symbols s
+    still_declared left there =
         let x = row_of_symbol before was renewed.edited.were_read old of.table rows names listed within s cs in
         let f = symbol_listed before was renewed.edited.were_read s cs in
-        let own : DeclaresOuter old rows s.file x.0 s.kind = record { listed = x.1.listed; kind_is = x.1.kind_is; outer = type_is_outer s.kind ty } in
+        let own : DeclaresKind old rows s.file x.0 s.kind = record { listed = x.1.listed; kind_is = x.1.kind_is } in
         elim (marked.gone s.file x.0 s.kind there own) [
           | inl stays ↦
               symbol_by_row files reads renewed.edited.are_read t renewed.table now renewed.names renewed.listed renewed.within s (names_are_plain before was renewed.edited.were_read s cs) (omega (arith, f.1, many)) x.0 stays.listed
@@ -99,12 +100,12 @@ module _ (places : List ℕ) (marks : List Bool) (before : List FileOf) (was : L
   begins_so r c key e begin = let m = begin_of r c in begin r.file m.0 m.1 (m.2 ∙ e)
 
   was_declared : (r : Reference) (first : List ℕ) (rest : List (List ℕ)) → Contains w.references r → IsUnmarked marks r.file → r.words ≡ first ∷ rest
-      → (s : Symbol) (front : List (List ℕ)) (last : List ℕ) → Contains v.symbols s → Contains places s.file → is_outer s.kind ≡ true → s.name ≡ front ++ last ∷ [] → word_key last ≡ word_key first → IsScopeOf v r.file front → Contains w.symbols s
-  was_declared r first rest c left words s front last cs there outer name key scope =
+      → (s : Symbol) (front : List (List ℕ)) (last : List ℕ) → Contains v.symbols s → Contains places s.file → may_fit r.wants s.kind ≡ true → s.name ≡ front ++ last ∷ [] → word_key last ≡ word_key first → IsScopeOf v r.file front → Contains w.symbols s
+  was_declared r first rest c left words s front last cs there fits name key scope =
       let x = row_of_symbol files reads renewed.edited.are_read t renewed.table now renewed.names renewed.listed renewed.within s cs in
       let f = symbol_listed files reads renewed.edited.are_read s cs in
       let plain = names_are_plain files reads renewed.edited.are_read s cs in
-      let own : DeclaresOuter t now s.file x.0 s.kind = record { listed = x.1.listed; kind_is = x.1.kind_is; outer = outer } in
+      let own : DeclaresKind t now s.file x.0 s.kind = record { listed = x.1.listed; kind_is = x.1.kind_is } in
       elim (marked.came s.file x.0 s.kind there own) [
         | inl stood ↦
             symbol_by_row before was renewed.edited.were_read old of.table rows names listed within s plain (omega (arith, f.1, many)) x.0 stood.listed
@@ -134,9 +135,9 @@ module _ (places : List ℕ) (marks : List Bool) (before : List FileOf) (was : L
   file_within : (r : Reference) → Contains w.references r → r.file < length files
   file_within r c = let x = reference_from before was r c in omega (arith, x.there, renewed.edited.were_read.same, many)
 
-  -- the type's row is seen by its one file
-  seen_by_row : (file : ℕ) → file < length files → (s : Symbol) → Contains v.symbols s → is_type s.kind ≡ true → (row : ℕ) → row < length t.rows.items → get_or (names_of t) row [] ≡ joined s.name → is_seen_at t (get_or seen file []) row ≡ true → sees v file s.file ≡ true
-  seen_by_row file lf s cs ty row lr named it =
+  -- the row of what is no package is seen by its one file
+  seen_by_row : (file : ℕ) → file < length files → (s : Symbol) → Contains v.symbols s → (s.kind ≡ Package → ⊥) → (row : ℕ) → row < length t.rows.items → get_or (names_of t) row [] ≡ joined s.name → is_seen_at t (get_or seen file []) row ≡ true → sees v file s.file ≡ true
+  seen_by_row file lf s cs no_package row lr named it =
       let d = pick t.rows.items row lr in
       let marked : is_seen (get_or seen file []) (get_or t.rows.items row d) ≡ true = ap (is_seen_row (get_or seen file [])) (sym (slice_get-get_or t.rows.items row d lr)) ∙ it in
       let f = any_to (λ g. get_or (get_or seen file []) g false) (files_of (get_or t.rows.items row d)) marked in
@@ -147,21 +148,21 @@ module _ (places : List ℕ) (marks : List Bool) (before : List FileOf) (was : L
         | inl same ↦
             let here : f.0 ≡ s.file = sym u.4 ∙ ap (λ (z : Symbol). z.file) same in
             ap (sees v file) (sym here) ∙ sym (sight.marks file lf f.0) ∙ f.2
-        | inr both ↦ absurd (true≢false (sym ty ∙ ap is_type both.1))
+        | inr both ↦ absurd (no_package both.1)
       ]
 
-  still_seen : (r : Reference) (s : Symbol) → Contains w.references r → IsUnmarked marks r.file → meaning w r ≡ Some s.name → Contains w.symbols s → is_type s.kind ≡ true → sees w r.file s.file ≡ true → sees v r.file s.file ≡ true
-  still_seen r s c left h cs ty saw = elim (same_marks r.file left) [
+  still_seen : (r : Reference) (s : Symbol) → Contains w.references r → IsUnmarked marks r.file → meaning w r ≡ Some s.name → Contains w.symbols s → may_resolve_to r.wants s.kind ≡ true → sees w r.file s.file ≡ true → sees v r.file s.file ≡ true
+  still_seen r s c left h cs wanted saw = elim (same_marks r.file left) [
     | inl same ↦ sight_stays places before was l old rows files reads t now of renewed seen sight r.file s.file same ∙ saw
     | inr kept ↦
         let m = meant_of r c in
         let named : get_or (names_of t) m.0.row [] ≡ joined s.name = renewed.numbers.names m.0.row m.2 ∙ same_Some (get_or (names_of old) m.0.row []) (joined s.name) (m.3 ∙ ap (option_map joined) h) in
         let it = All-contains (λ (m : Meant). is_seen_at t (get_or seen r.file []) m.row ≡ true) (get_or l.meant r.file []) m.0 kept.none_hidden m.1 in
         let still : Contains v.symbols s = (elim (is_place places s.file) [
-          | inl there ↦ still_declared r s c h cs left there ty
+          | inl there ↦ still_declared r s c h cs left there
           | inr elsewhere ↦ (edited_files_differ places before was files reads renewed.edited).stay s cs elsewhere
         ]) in
-        seen_by_row r.file (file_within r c) s still ty m.0.row (omega (arith, m.2, renewed.numbers.size)) named it
+        seen_by_row r.file (file_within r c) s still (wanted_no_package r.wants s.kind wanted) m.0.row (omega (arith, m.2, renewed.numbers.size)) named it
   ]
 
   -- ---- a file that is newly seen
@@ -179,21 +180,19 @@ module _ (places : List ℕ) (marks : List Bool) (before : List FileOf) (was : L
       (u.0, u.1, name, sym (u.3.kind_is d) ∙ kind_is d, u.2)
 
   declares_too : (r : Reference) (first : List ℕ) (rest : List (List ℕ)) → Contains w.references r → IsUnmarked marks r.file → r.words ≡ first ∷ rest
-      → (s : Symbol) (front : List (List ℕ)) (last : List ℕ) → Contains v.symbols s → sees v r.file s.file ≡ true → sees w r.file s.file ≡ false → is_outer s.kind ≡ true → s.name ≡ front ++ last ∷ [] → word_key last ≡ word_key first → IsScopeOf v r.file front → Declares v r.file s
-  declares_too r first rest c left words s front last cs now_seen unseen outer name key scope = elim (same_marks r.file left) [
+      → (s : Symbol) (front : List (List ℕ)) (last : List ℕ) → Contains v.symbols s → sees v r.file s.file ≡ true → sees w r.file s.file ≡ false → may_fit r.wants s.kind ≡ true → s.name ≡ front ++ last ∷ [] → word_key last ≡ word_key first → IsScopeOf v r.file front → Declares v r.file s
+  declares_too r first rest c left words s front last cs now_seen unseen fits name key scope = elim (same_marks r.file left) [
     | inl same ↦ absurd (both_ways (sees w r.file s.file) unseen (sym (sight_stays places before was l old rows files reads t now of renewed seen sight r.file s.file same) ∙ now_seen))
     | inr kept ↦
         let are = renewed.edited.are_read in
         let x = row_of_symbol files reads are t renewed.table now renewed.names renewed.listed renewed.within s cs in
         let lf = file_within r c in
         let plain = names_are_plain files reads are s cs in
-        let d = pick t.rows.items x.0 x.1.within in
-        let outer_at : is_outer_at t x.0 ≡ true = ap is_outer_row (slice_get-get_or t.rows.items x.0 d x.1.within) ∙ ap is_outer (x.1.kind_is d) ∙ outer in
         let alone = declares_alone files reads are t renewed.table now renewed.names renewed.listed renewed.within renewed.apart s cs x.0 x.1 front last name r.file scope in
         let top : is_below_type t x.0 ≡ false = false_from_ne_true (is_below_type t x.0) (λ below. both_ways (sees w r.file s.file) unseen (sees_itself w of.link.by.between r.file s.file (alone below))) in
         let new = is_newly_seen places before was l old rows files reads t now of renewed seen sight r.file s.file lf now_seen unseen in
         let asked = All-contains (IsOwnOrApart t (own_rows r.file) (get_or l.meant r.file [])) (own_rows s.file) x.0 (kept.none_shown s.file new) x.1.listed in
-        elim (asked outer_at top) [
+        elim (asked x.1.within top) [
           | inl own ↦ declared_by_row r.file x.0 lf own s cs x.1.within x.1.name x.1.kind_is
           | inr none ↦
               let m = begin_of r c in
@@ -208,7 +207,7 @@ module _ (places : List ℕ) (marks : List Bool) (before : List FileOf) (was : L
   changes_have_to_look = record {
     edited = marked.edited;
     none_hidden = still_seen;
-    none_gone = λ r s c left h cs there ty. still_declared r s c h cs left there ty;
+    none_gone = λ r s c left h cs there wanted. still_declared r s c h cs left there;
     none_came = was_declared;
     none_shown = declares_too;
   }

@@ -7,15 +7,15 @@ use Rattle.proto_names_imports.specs.declared.import.FileImport.{FileImport}
 use Rattle.proto_base.proofs.WithValues.{length-with_values}
 use Rattle.proto_base.specs.declared.changes.Change.{Change}
 use Rattle.proto_names_update.specs.NamesOfFiles.{AreNamesOf as AreListedNames}
-use Rattle.proto_names_affected.specs.ChangedFiles.{IsChangeMarked, StaysOrIsMarked, WasOrIsMarked, outer_rows_of}
+use Rattle.proto_names_affected.specs.ChangedFiles.{IsChangeMarked, StaysOrIsMarked, WasOrIsMarked, kind_rows_of}
 use Rattle.proto_names_affected.specs.ChangedFiles.{AreChangesMarked as AreRowsMarked}
-use Rattle.proto_names_affected.specs.OuterRows.{is_below_type}
+use Rattle.proto_names_affected.specs.KindRows.{is_below_type}
 use Rattle.proto_names_affected.specs.Renewed.{AreReferencesOf}
 use Rattle.proto_names_affected.specs.Sight.{IsSightMarked}
-use Rattle.proto_names_affected.specs.declared.outer_rows.KindRow.{KindRow}
+use Rattle.proto_names_affected.specs.declared.kind_rows.KindRow.{KindRow}
 use Rattle.proto_names_rules.specs.Names.{Word}
 use Rattle.proto_names_rules.specs.declared.kind.Kind.{Kind}
-use Rattle.proto_names.proofs.OuterRows.{outer_at_place, outer_from, outer_to}
+use Rattle.proto_names.proofs.KindRows.{kind_at_place, kind_from, kind_to}
 use Rattle.proto_names.proofs.PartsBefore.{before, from_lists, meant_below, of_before, rows_below, rows_count, same_but, was}
 use Rattle.proto_names.proofs.ReferencesByRow.{references_by_row}
 use Rattle.proto_names.proofs.RenewedLink.{renewed_are_clean, renewed_link_of}
@@ -25,7 +25,7 @@ use Rattle.proto_names.proofs.ValuesAtPlaces.{all_with, rows_with_values}
 use Rattle.proto_names.specs.Common.{AreNamesOf, IsFileLinked, LinkOf, Meant, RefId, name_of_row, word_key}
 use Rattle.proto_names.specs.LinkOfFiles.{IsLinkOf}
 use Rattle.proto_names.specs.Renewal.{AreMeantBelow, AreRowsRenewed, link_of_parts}
-use Rattle.proto_names.specs.Renewed.{AreBeginnersMarked, AreChangesMarked, AreMeantAgain, AreNamesRenewed, AreSightsMarked, AreUsersMarked, DeclaresOuter, EndsIn, IsMadeOf, IsTableOf}
+use Rattle.proto_names.specs.Renewed.{AreBeginnersMarked, AreChangesMarked, AreMeantAgain, AreNamesRenewed, AreSightsMarked, AreUsersMarked, DeclaresKind, EndsIn, IsMadeOf, IsTableOf}
 use Rattle.proto_names.specs.Sight.{AreLinkImports, IsSightOf, StayBut}
 use Rattle.proto_names_update.specs.Relinked.{HasToLook, WasLink}
 use Rattle.proto_names_table.proofs.Common.{IsTable, pick}
@@ -100,17 +100,17 @@ module _ (files : List FileOf) (places : List ℕ) (old : Table) (imports : List
   -- ---- the marks are of what changed
 
   module _ (marks : List Bool) (lists : List (Vec RefId)) (same : (row : ℕ) → get_or (map (λ v. v.items) lists) row [] ≡ get_or (map (λ v. v.items) references) row [])
-      (marked : AreRowsMarked t marks places (map (λ v. v.items) lists) (map (λ v. v.items) meant) (map (outer_rows_of old (map (λ v. v.items) rows)) places) (map (outer_rows_of t (map (λ v. v.items) now)) places)) where
+      (marked : AreRowsMarked t marks places (map (λ v. v.items) lists) (map (λ v. v.items) meant) (map (kind_rows_of old (map (λ v. v.items) rows)) places) (map (kind_rows_of t (map (λ v. v.items) now)) places)) where
     abbrev held : List (Vec ℕ) → ℕ → List ℕ
     held all file = get_or (map (λ v. v.items) all) file []
 
     -- what the file at a place declared and declares
-    change : (file : ℕ) → Contains places file → IsChangeMarked t marks (map (λ v. v.items) lists) l.meant (outer_rows_of old (map (λ v. v.items) rows) file) (outer_rows_of t (map (λ v. v.items) now) file)
+    change : (file : ℕ) → Contains places file → IsChangeMarked t marks (map (λ v. v.items) lists) l.meant (kind_rows_of old (map (λ v. v.items) rows) file) (kind_rows_of t (map (λ v. v.items) now) file)
     change file c =
-        let had = outer_at_place old (map (λ v. v.items) rows) places file c in
-        let has = outer_at_place t (map (λ v. v.items) now) places file c in
-        subst (λ (ps : List KindRow). IsChangeMarked t marks (map (λ v. v.items) lists) l.meant ps (outer_rows_of t (map (λ v. v.items) now) file)) had
-        (subst (IsChangeMarked t marks (map (λ v. v.items) lists) l.meant (get_or (map (outer_rows_of old (map (λ v. v.items) rows)) places) c.0 [])) has (marked.each c.0 c.1))
+        let had = kind_at_place old (map (λ v. v.items) rows) places file c in
+        let has = kind_at_place t (map (λ v. v.items) now) places file c in
+        subst (λ (ps : List KindRow). IsChangeMarked t marks (map (λ v. v.items) lists) l.meant ps (kind_rows_of t (map (λ v. v.items) now) file)) had
+        (subst (IsChangeMarked t marks (map (λ v. v.items) lists) l.meant (get_or (map (kind_rows_of old (map (λ v. v.items) rows)) places) c.0 [])) has (marked.each c.0 c.1))
 
     -- a row of a file is one of the table
     row_within : (u : Table) (all : List (Vec ℕ)) → All (λ v. All (λ r. r < length u.rows.items) v.items) all → (file row : ℕ) → Contains (held all file) row → row < length u.rows.items
@@ -124,27 +124,27 @@ module _ (files : List FileOf) (places : List ℕ) (old : Table) (imports : List
           absurd (omega (arith, c.1, ap length none))
     ]
 
-    declares : (u : Table) (all : List (Vec ℕ)) → All (λ v. All (λ r. r < length u.rows.items) v.items) all → (file row : ℕ) (kind : Kind) → DeclaresOuter u all file row kind → Contains (outer_rows_of u (map (λ v. v.items) all) file) (record { row = row; kind = kind })
-    declares u all within file row kind d = outer_to u (held all file) row kind (row_within u all within file row d.listed) d.listed d.kind_is d.outer
+    declares : (u : Table) (all : List (Vec ℕ)) → All (λ v. All (λ r. r < length u.rows.items) v.items) all → (file row : ℕ) (kind : Kind) → DeclaresKind u all file row kind → Contains (kind_rows_of u (map (λ v. v.items) all) file) (record { row = row; kind = kind })
+    declares u all within file row kind d = kind_to u (held all file) row kind (row_within u all within file row d.listed) d.listed d.kind_is
 
-    declared : (u : Table) (all : List (Vec ℕ)) (file row : ℕ) (kind : Kind) → Contains (outer_rows_of u (map (λ v. v.items) all) file) (record { row = row; kind = kind }) → DeclaresOuter u all file row kind
+    declared : (u : Table) (all : List (Vec ℕ)) (file row : ℕ) (kind : Kind) → Contains (kind_rows_of u (map (λ v. v.items) all) file) (record { row = row; kind = kind }) → DeclaresKind u all file row kind
     declared u all file row kind c =
-        let x = outer_from u (held all file) (record { row = row; kind = kind }) c in
-        record { listed = x.listed; kind_is = x.kind_is; outer = x.outer }
+        let x = kind_from u (held all file) (record { row = row; kind = kind }) c in
+        record { listed = x.listed; kind_is = x.kind_is }
 
-    gone : (file row : ℕ) (kind : Kind) → Contains places file → DeclaresOuter old rows file row kind → DeclaresOuter t now file row kind ⊎ AreUsersMarked marks (get_or l.references row [])
+    gone : (file row : ℕ) (kind : Kind) → Contains places file → DeclaresKind old rows file row kind → DeclaresKind t now file row kind ⊎ AreUsersMarked marks (get_or l.references row [])
     gone file row kind c d =
         let p : KindRow = record { row = row; kind = kind } in
         let below = rows_below files places old imports rows seen meant references table_was link_was in
-        elim (All-contains (StaysOrIsMarked marks (map (λ v. v.items) lists) (outer_rows_of t (map (λ v. v.items) now) file)) (outer_rows_of old (map (λ v. v.items) rows) file) p (change file c).gone (declares old rows below file row kind d)) [
+        elim (All-contains (StaysOrIsMarked marks (map (λ v. v.items) lists) (kind_rows_of t (map (λ v. v.items) now) file)) (kind_rows_of old (map (λ v. v.items) rows) file) p (change file c).gone (declares old rows below file row kind d)) [
           | inl stays ↦ inl (declared t now file row kind stays)
           | inr users ↦ inr (subst (AreUsersMarked marks) (same row) users)
         ]
 
-    came : (file row : ℕ) (kind : Kind) → Contains places file → DeclaresOuter t now file row kind → DeclaresOuter old rows file row kind ⊎ (is_below_type t row ≡ false → (last : Word) → EndsIn t row last → AreBeginnersMarked marks l.meant (word_key last))
+    came : (file row : ℕ) (kind : Kind) → Contains places file → DeclaresKind t now file row kind → DeclaresKind old rows file row kind ⊎ (is_below_type t row ≡ false → (last : Word) → EndsIn t row last → AreBeginnersMarked marks l.meant (word_key last))
     came file row kind c d =
         let p : KindRow = record { row = row; kind = kind } in
-        elim (All-contains (WasOrIsMarked t marks l.meant (outer_rows_of old (map (λ v. v.items) rows) file)) (outer_rows_of t (map (λ v. v.items) now) file) p (change file c).came (declares t now now_below file row kind d)) [
+        elim (All-contains (WasOrIsMarked t marks l.meant (kind_rows_of old (map (λ v. v.items) rows) file)) (kind_rows_of t (map (λ v. v.items) now) file) p (change file c).came (declares t now now_below file row kind d)) [
           | inl stood ↦ inl (declared old rows file row kind stood)
           | inr begin ↦ inr (λ top last ends other m there first.
               begin top ends.scope last ends.plain ends.name other m there (subst (λ key. Contains (word_key last ∷ []) key) (sym first) (contains_head (word_key last) [])))

@@ -1,10 +1,12 @@
 -- The references of a file by the words of its tokens: what they mean, and which is faulty.
-use Rattle.std.specs.Prelude.{◌≡◌, ℕ, ◌+◌, ◌<◌, Bool, true, if◌then◌else◌, List, [], ◌∷◌, ◌++◌, length, get_or, slice_get, map, Option, Some, None, option_map, is_some}
+use Rattle.std.specs.Prelude.{◌≡◌, ℕ, ◌+◌, ◌<◌, Bool, List, [], ◌∷◌, ◌++◌, length, get_or, slice_get, map, Option, Some, None, option_map, is_some}
 use Rattle.std.specs.List.{All, Contains}
 use Rattle.proto_base.specs.Texts.{Text}
 pub use Rattle.proto_base.specs.Words.{word_key}
 use Rattle.proto_names_rules.specs.declared.kind.Kind.{Kind}
 use Rattle.proto_names_rules.specs.declared.kind.Kind.TheVariants.{Entry, Enum}
+use Rattle.proto_names_rules.specs.declared.wants.Wants.{Wants}
+use Rattle.proto_names_rules.specs.declared.wants.Wants.TheVariants as wants
 use Rattle.proto_names_rules.specs.Names.{Symbol, Reference, Workspace, meaning}
 use Rattle.proto_names_rules.specs.Joined.{joined, ArePlain}
 use Rattle.proto_names_rules.specs.Forest.{front}
@@ -35,7 +37,7 @@ reference_by file names text u = record {
   file = file;
   scope = scope_above names u.scope;
   is_absolute = is_some u.reference.now.dot;
-  wants_message = u.wants_message;
+  wants = u.wants;
   words = map text (dotted u.reference.now.words);
 }
 
@@ -62,7 +64,7 @@ abbrev pub IsFlawed : Workspace → Reference → ReferenceFlaw → Type 0
 IsFlawed w r Unresolved = meaning w r ≡ None
 IsFlawed w r WrongKind =
     (s : Symbol) × Contains w.symbols s × (meaning w r ≡ Some s.name)
-    × (r.wants_message ≡ true) × (s.kind ≡ Enum)
+    × (r.wants ≡ wants.Message) × (s.kind ≡ Enum)
 IsFlawed w r MapEntry =
     (s : Symbol) × Contains w.symbols s × (meaning w r ≡ Some s.name) × (s.kind ≡ Entry)
 
@@ -99,18 +101,24 @@ abbrev pub IsReferenceError : Workspace
 IsReferenceError w reference file uses (or.Fault bad) = IsFirstBad w reference file uses bad
 IsReferenceError w reference file uses or.NoMemory = Unit {0}
 
+-- what is wrong with a reference that means an enum
+abbrev pub enum_flaw : Wants → Option ReferenceFlaw
+enum_flaw wants.Type = None
+enum_flaw wants.Message = Some WrongKind
+enum_flaw wants.Extension = None
+
 -- what is wrong with a reference that means a name of this kind
-abbrev pub kind_flaw : Kind → Bool → Option ReferenceFlaw
-kind_flaw Entry wants_message = Some MapEntry
-kind_flaw Enum wants_message = if wants_message then Some WrongKind else None
-kind_flaw _ wants_message = None
+abbrev pub kind_flaw : Kind → Wants → Option ReferenceFlaw
+kind_flaw Entry what = Some MapEntry
+kind_flaw Enum what = enum_flaw what
+kind_flaw _ what = None
 
 -- what is wrong with a reference that means the name of this row, or nothing
-abbrev pub found_flaw : Option Row → Bool → Option ReferenceFlaw
-found_flaw None wants_message = Some Unresolved
-found_flaw (Some r) wants_message = kind_flaw r.symbol.kind wants_message
+abbrev pub found_flaw : Option Row → Wants → Option ReferenceFlaw
+found_flaw None what = Some Unresolved
+found_flaw (Some r) what = kind_flaw r.symbol.kind what
 
 -- the same by the number of the row
-abbrev pub row_flaw : Table → Option ℕ → Bool → Option ReferenceFlaw
-row_flaw t None wants_message = Some Unresolved
-row_flaw t (Some k) wants_message = found_flaw (slice_get t.rows.items k) wants_message
+abbrev pub row_flaw : Table → Option ℕ → Wants → Option ReferenceFlaw
+row_flaw t None what = Some Unresolved
+row_flaw t (Some k) what = found_flaw (slice_get t.rows.items k) what

@@ -7,10 +7,10 @@ use Rattle.proto_files.specs.FilesRead.{ReadOf}
 use Rattle.proto_files.specs.GivenFiles.{FileOf}
 use Rattle.proto_names_imports.specs.Links.{LinkFaults}
 use Rattle.proto_names_rules.specs.Marked.{IsUnmarked}
-use Rattle.proto_names_affected.specs.OuterRows.{is_below_type}
+use Rattle.proto_names_affected.specs.KindRows.{is_below_type}
 use Rattle.proto_names_affected.specs.Sight.{IsKeptInSight}
 use Rattle.proto_names_rules.specs.Joined.{ArePlain, joined}
-use Rattle.proto_names_rules.specs.Names.{Name, Word, is_outer}
+use Rattle.proto_names_rules.specs.Names.{Name, Word}
 use Rattle.proto_names_rules.specs.declared.kind.Kind.{Kind}
 use Rattle.proto_names.specs.FileReferences.{AreFileMeant}
 use Rattle.proto_names.specs.LinkOfFiles.{AreNamesOf, IsLinkRead}
@@ -57,12 +57,11 @@ pub record AreNamesRenewed (places : List ℕ) (before : List FileOf) (was : Lis
 -- ---- which files have to be re-resolved
 
 -- among these rows, which are those of each file's declarations, the file has this one, with this
--- kind, which may hold names or be meant
-pub record DeclaresOuter (t : Table) (rows : List (Vec ℕ)) (file row : ℕ) (kind : Kind)
+-- kind
+pub record DeclaresKind (t : Table) (rows : List (Vec ℕ)) (file row : ℕ) (kind : Kind)
     : Type 0 where
   pub listed : Contains (get_or (map (λ v. v.items) rows) file []) row
   pub kind_is : (r : Row) → (get_or t.rows.items row r).symbol.kind ≡ kind
-  pub outer : is_outer kind ≡ true
 
 -- the files of these references are marked
 abbrev pub AreUsersMarked : List Bool → List RefId → Type 0
@@ -88,11 +87,11 @@ pub record AreChangesMarked (places : List ℕ) (marks : List Bool) (old : Table
     (before : List (Vec ℕ)) (l : LinkOf) (t : Table) (now : List (Vec ℕ)) : Type 0 where
   pub edited : (file : ℕ) → Contains places file → get_or marks file false ≡ true
   pub gone : (file row : ℕ) (kind : Kind) → Contains places file
-      → DeclaresOuter old before file row kind
-      → DeclaresOuter t now file row kind ⊎ AreUsersMarked marks (get_or l.references row [])
+      → DeclaresKind old before file row kind
+      → DeclaresKind t now file row kind ⊎ AreUsersMarked marks (get_or l.references row [])
   pub came : (file row : ℕ) (kind : Kind) → Contains places file
-      → DeclaresOuter t now file row kind
-      → DeclaresOuter old before file row kind
+      → DeclaresKind t now file row kind
+      → DeclaresKind old before file row kind
       ⊎ (is_below_type t row ≡ false → (last : Word) → EndsIn t row last
       → AreBeginnersMarked marks l.meant (word_key last))
 

@@ -16,7 +16,7 @@ use proto_file_sets::FileSet;
 use proto_files::Words;
 use proto_names_affected::FileMeanings;
 use proto_names_outline::listing::{Above, Use};
-use proto_names_rules::Kind;
+use proto_names_rules::{Kind, Wants};
 use proto_names_table::Meant;
 use proto_names_table::table::Table;
 use proto_tree::Reference;
@@ -89,11 +89,11 @@ pub(crate) fn meanings(
             Above::Outermost => 0,
             Above::Below(k) => lookup.rows[k] + 1,
         };
-        let row = resolved_row(lookup.table, lookup.seen, words, scope, used.reference);
+        let row = resolved_row(lookup.table, lookup.seen, words, scope, used);
         let token = token_of(used.reference);
         let word = words.get(used.reference.words.first);
         let first = word_key(word);
-        match sound_row(lookup.table, row, used.wants_message) {
+        match sound_row(lookup.table, row, used.wants) {
             Ok(row) => meant.push(Meant { token, first, row })?,
             Err(flaw) => return Err(ReferenceError::Fault(BadReference { file, token, flaw })),
         }
@@ -112,25 +112,25 @@ pub fn token_of(reference: &Reference) -> u32
 }
 
 /// The row that a reference means, else what is wrong with it.
-fn sound_row(table: &Table, row: Option<usize>, wants_message: bool) -> Result<usize, ReferenceFlaw>
-    ensures row { IfOk result (λ k. (row ≡ Some k) × (row_flaw table.now row wants_message ≡ None)) }
-    ensures flaw { IfErr result (λ flaw. row_flaw table.now row wants_message ≡ Some flaw) }
+fn sound_row(table: &Table, row: Option<usize>, wants: Wants) -> Result<usize, ReferenceFlaw>
+    ensures row { IfOk result (λ k. (row ≡ Some k) × (row_flaw table.now row wants ≡ None)) }
+    ensures flaw { IfErr result (λ flaw. row_flaw table.now row wants ≡ Some flaw) }
 {
     let row = row.ok_or(ReferenceFlaw::Unresolved)?;
     let found = table.rows.get(row).ok_or(ReferenceFlaw::Unresolved)?;
-    match flaw_of(found.symbol.kind, wants_message) {
+    match flaw_of(found.symbol.kind, wants) {
         Some(flaw) => Err(flaw),
         None => Ok(row),
     }
 }
 
 /// What is wrong with a reference that means a name of this kind.
-fn flaw_of(kind: Kind, wants_message: bool) -> Option<ReferenceFlaw>
-    ensures { result ≡ kind_flaw kind wants_message }
+fn flaw_of(kind: Kind, wants: Wants) -> Option<ReferenceFlaw>
+    ensures { result ≡ kind_flaw kind wants }
 {
-    match kind {
-        Kind::Entry => Some(ReferenceFlaw::MapEntry),
-        Kind::Enum if wants_message => Some(ReferenceFlaw::WrongKind),
+    match (kind, wants) {
+        (Kind::Entry, _) => Some(ReferenceFlaw::MapEntry),
+        (Kind::Enum, Wants::Message) => Some(ReferenceFlaw::WrongKind),
         _ => None,
     }
 }

@@ -9,7 +9,7 @@ ghost use Rattle.proto_names_imports.specs.Links.{LinkFaults};
 ghost use Rattle.proto_names_imports.specs.declared.import.FileImport.{FileImport as FileImportOf};
 ghost use Rattle.proto_base.specs.Undone.{AreWithin, undone};
 ghost use Rattle.proto_names_update.specs.NamesOfFiles.{WereNames};
-ghost use Rattle.proto_names_affected.specs.ChangedFiles.{AreChangesMarked, outer_rows_of};
+ghost use Rattle.proto_names_affected.specs.ChangedFiles.{AreChangesMarked, kind_rows_of};
 ghost use Rattle.proto_names_affected.specs.FirstWords.{AreFirstsOf, FirstsStay};
 ghost use Rattle.proto_names_affected.specs.Marking.{MarksStay};
 ghost use Rattle.proto_names_affected.specs.Sight.{IsSightMarked};
@@ -32,8 +32,8 @@ use proto_base::{Change, NoMemory, change_all_at, change_at};
 use proto_file_sets::FileSet;
 use proto_files::{Files, are_read};
 use proto_names_affected::FileMeanings;
-use proto_names_affected::changed_files::{Linked, marks_of_changes, outer_rows_at};
-use proto_names_affected::outer_rows::KindRow;
+use proto_names_affected::changed_files::{Linked, kind_rows_at, marks_of_changes};
+use proto_names_affected::kind_rows::KindRow;
 use proto_names_affected::renewed_references::{grow_references, renew_references};
 use proto_names_affected::sight::{Sighted, mark_by_sight};
 use proto_names_outline::file_listing::list_file;
@@ -66,9 +66,9 @@ struct Resolver<'a> {
 
 impl Declarations {
     /// Puts the names of the edited files into the table, in place of those that they had, and
-    /// notes their rows. Answers the outer rows that each edited file declared before; the link
-    /// needs a rebuild where `renew_names` says so. Where it answers no rows, some names may be
-    /// changed, and the log tells which.
+    /// notes their rows. Answers the rows that each edited file declared before, with their kinds;
+    /// the link needs a rebuild where `renew_names` says so. Where it answers no rows, some names
+    /// may be changed, and the log tells which.
     fn update(
         &mut self,
         alloc: Global,
@@ -89,12 +89,12 @@ impl Declarations {
         ensures undone { undone_declarations log.new self.new
             ≡ undone_declarations log.old self.old }
         ensures before { IfOk result (λ before. map (λ v. v.items) before.items
-            ≡ map (outer_rows_of self.old.table (map (λ v. v.items) self.old.rows.items))
+            ≡ map (kind_rows_of self.old.table (map (λ v. v.items) self.old.rows.items))
             places.now) }
         ensures renewed { OnOk result (AreRowsRenewed places.now files.now
             self.old.table self.new.table self.old.rows.items self.new.rows.items) }
     {
-        let before = outer_rows_at(alloc, &self.table, places, &self.rows)?;
+        let before = kind_rows_at(alloc, &self.table, places, &self.rows)?;
         let renewed = renew_names(
             alloc,
             &mut self.table,
@@ -246,9 +246,8 @@ fn mark_others(
     mark_by_sight(alloc, affected, sighted, edited.saw)
 }
 
-/// The files that have to be re-resolved, where the declarations are those of the
-/// edited files, given the outer rows that each of these declared before. Fails only when out of
-/// memory.
+/// The files that have to be re-resolved, where the declarations are those of the edited files,
+/// given the rows and kinds that each of these declared before. Fails only when out of memory.
 fn affected_files(
     alloc: Global,
     edited: Edited,
@@ -272,7 +271,7 @@ fn affected_files(
     ensures changes { IfOk result (λ affected. AreChangesMarked declarations.now.table affected
         edited.entry.places.now (map (λ v. v.items) resolutions.now.references.items)
         (map (λ v. v.items) resolutions.now.meant.items) (map (λ v. v.items) before.now)
-        (map (outer_rows_of declarations.now.table
+        (map (kind_rows_of declarations.now.table
         (map (λ v. v.items) declarations.now.rows.items)) edited.entry.places.now)) }
     ensures sight { IfOk result (λ affected. (saw : List (List Bool))
         → All (λ c. get_or saw c.place [] ≡ c.was) edited.entry.saw.now
@@ -281,7 +280,7 @@ fn affected_files(
         (map (λ v. v.items) resolutions.now.meant.items)
         saw edited.entry.seen.now c.place) edited.entry.saw.now) }
 {
-    let now = outer_rows_at(
+    let now = kind_rows_at(
         alloc,
         &declarations.table,
         edited.places,

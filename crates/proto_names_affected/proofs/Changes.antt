@@ -8,8 +8,8 @@ use Rattle.proto_names_table.specs.declared.ids.Meant.{Meant}
 use Rattle.proto_names_table.specs.declared.ids.RefId.{RefId}
 use Rattle.proto_names_affected.specs.ChangedFiles.{IsChangeMarked, StaysOrIsMarked, WasOrIsMarked}
 use Rattle.proto_names_affected.specs.Marking.{AreBeginnersMarked, AreReferencesMarked, AreUsersMarked, IsMarked, MarksStay}
-use Rattle.proto_names_affected.specs.OuterRows.{AreAmongOr, HasLastWords, is_below_type}
-use Rattle.proto_names_affected.specs.declared.outer_rows.KindRow.{KindRow}
+use Rattle.proto_names_affected.specs.KindRows.{AreAmongOr, HasLastWords, is_below_type}
+use Rattle.proto_names_affected.specs.declared.kind_rows.KindRow.{KindRow}
 use Rattle.proto_names_affected.proofs.Marks.{nothing_there}
 use Rattle.proto_names_table.specs.declared.table.Table.{Table}
 

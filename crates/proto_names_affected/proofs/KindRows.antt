@@ -6,8 +6,8 @@ use Rattle.std.proofs.lemmas.List.{map_push, take_more}
 use Rattle.std.proofs.lemmas.List.Elements.{All-nil, All-push, All-weaker, Contains-append_cases, Contains-append_left, Contains-push}
 use Rattle.indexmap.specs.IndexSet.{insert_key}
 use Rattle.proto_base.proofs.Common.{contains_cases}
-use Rattle.proto_names_affected.specs.OuterRows.{AreAmongOr}
-use Rattle.proto_names_affected.specs.declared.outer_rows.KindRow.{KindRow}
+use Rattle.proto_names_affected.specs.KindRows.{AreAmongOr}
+use Rattle.proto_names_affected.specs.declared.kind_rows.KindRow.{KindRow}
 use Rattle.proto_names_rules.specs.declared.kind.Kind.{Kind}
 
 -- ---- the first elements of a list, and the next

@@ -5,16 +5,16 @@ use Rattle.proto_base.specs.Words.{word_key}
 use Rattle.proto_names_table.specs.declared.ids.Meant.{Meant}
 use Rattle.proto_names_table.specs.declared.ids.RefId.{RefId}
 use Rattle.proto_names_affected.specs.Marking.{AreBeginnersMarked, ArePlacesMarked, AreReferencesMarked}
-use Rattle.proto_names_affected.specs.OuterRows.{is_below_type, outer_row}
-use Rattle.proto_names_affected.specs.declared.outer_rows.KindRow.{KindRow}
+use Rattle.proto_names_affected.specs.KindRows.{is_below_type, kind_row}
+use Rattle.proto_names_affected.specs.declared.kind_rows.KindRow.{KindRow}
 use Rattle.proto_names_rules.specs.Joined.{joined, ArePlain}
 use Rattle.proto_names_rules.specs.Names.{Name, Word}
 use Rattle.proto_names_table.specs.Tables.{names_of}
 use Rattle.proto_names_table.specs.declared.table.Table.{Table}
 
--- the rows with their kinds, of those of a file whose names may hold others or be meant
-abbrev pub outer_rows_of : Table → List (List ℕ) → ℕ → List KindRow
-outer_rows_of t rows file = filter_map (outer_row t) (get_or rows file [])
+-- the rows of a file's names with their kinds
+abbrev pub kind_rows_of : Table → List (List ℕ) → ℕ → List KindRow
+kind_rows_of t rows file = filter_map (kind_row t) (get_or rows file [])
 
 -- the pair is one of these still, or the files with references to the row's name are marked
 abbrev pub StaysOrIsMarked : List Bool → List (List RefId) → List KindRow → KindRow → Type 0

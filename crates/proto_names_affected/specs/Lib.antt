@@ -4,7 +4,7 @@ pub mod FirstWords
 pub mod Gathering
 pub mod Marking
 pub mod Merged
-pub mod OuterRows
+pub mod KindRows
 pub mod Referred
 pub mod Renewed
 pub mod Sight

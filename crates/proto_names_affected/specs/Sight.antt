@@ -4,10 +4,10 @@ use Rattle.std.specs.List.{All, Contains}
 use Rattle.proto_base.specs.Words.{word_key}
 use Rattle.proto_names_table.specs.declared.ids.Meant.{Meant}
 use Rattle.proto_names_affected.specs.Marking.{IsMarked}
-use Rattle.proto_names_affected.specs.OuterRows.{is_below_type}
+use Rattle.proto_names_affected.specs.KindRows.{is_below_type}
 use Rattle.proto_names_rules.specs.Joined.{joined, ArePlain}
 use Rattle.proto_names_rules.specs.Linked.{is_package}
-use Rattle.proto_names_rules.specs.Names.{Name, Word, is_outer}
+use Rattle.proto_names_rules.specs.Names.{Name, Word}
 use Rattle.proto_names_table.specs.Search.{is_seen}
 use Rattle.proto_names_table.specs.Tables.{names_of}
 use Rattle.proto_names_table.specs.declared.table.Row.{Row}
@@ -16,15 +16,6 @@ use Rattle.proto_names_table.specs.declared.table.Table.{Table}
 -- by the marks before a file was not seen, and by those now it is
 abbrev pub IsNewlySeen : List Bool → List Bool → ℕ → Type 0
 IsNewlySeen before now file = (get_or before file false ≡ false) × (get_or now file false ≡ true)
-
--- the name of a row may hold others or be meant
-abbrev pub is_outer_row : Option Row → Bool
-is_outer_row None = false
-is_outer_row (Some r) = is_outer r.symbol.kind
-
--- so may the name of the row with this index
-abbrev pub is_outer_at : Table → ℕ → Bool
-is_outer_at t row = is_outer_row (slice_get t.rows.items row)
 
 -- the name of a row is a package's
 abbrev pub is_package_row : Option Row → Bool
@@ -50,11 +41,11 @@ HasLastWord t keys row =
     (front : Name) (word : Word) → ArePlain (front ++ word ∷ [])
     → get_or (names_of t) row [] ≡ joined (front ++ word ∷ []) → Contains keys (word_key word)
 
--- the row's name, if it may hold others or be meant and does not stand right below a type's, is
--- among these packages, or the key of its last word among these keys
+-- the name of a row of the table, if it does not stand right below a type's, is among these
+-- packages, or the key of its last word among these keys
 abbrev pub IsGathered : Table → List ℕ → List ℕ → ℕ → Type 0
 IsGathered t packages keys row =
-    is_outer_at t row ≡ true → is_below_type t row ≡ false
+    row < length t.rows.items → is_below_type t row ≡ false
     → Contains packages row ⊎ HasLastWord t keys row
 
 -- there are the packages and the keys that there were, and all packages are rows of the table
@@ -71,11 +62,11 @@ NoneBegins t ms row =
     → get_or (names_of t) row [] ≡ joined (front ++ word ∷ [])
     → (m : Meant) → Contains ms m → m.first ≢ word_key word
 
--- the row's name, if it may hold others or be meant and does not stand right below a type's, is one
--- of a file's own, or none of its references begins with a word of the key of its last word
+-- the name of a row of the table, if it does not stand right below a type's, is one of a file's
+-- own, or none of its references begins with a word of the key of its last word
 abbrev pub IsOwnOrApart : Table → List ℕ → List Meant → ℕ → Type 0
 IsOwnOrApart t own ms row =
-    is_outer_at t row ≡ true → is_below_type t row ≡ false
+    row < length t.rows.items → is_below_type t row ≡ false
     → Contains own row ⊎ NoneBegins t ms row
 
 -- a file with these rows and these references, which sees others than before by these marks, still

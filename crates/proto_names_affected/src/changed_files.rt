@@ -2,24 +2,24 @@
 
 ghost use Rattle.std.specs.Prelude.{◌≡◌, ◌<◌, length, map, IfOk, OnOk};
 ghost use Rattle.std.specs.List.{All};
-ghost use Rattle.proto_names_affected.specs.ChangedFiles.{AreChangesMarked, IsChangeMarked, outer_rows_of};
+ghost use Rattle.proto_names_affected.specs.ChangedFiles.{AreChangesMarked, IsChangeMarked, kind_rows_of};
 ghost use Rattle.proto_names_affected.specs.FirstWords.{AreFirstsOf};
 ghost use Rattle.proto_names_affected.specs.Marking.{MarksStay};
 ghost use Rattle.proto_names_table.specs.Tables.{IsTable};
 
 use crate::file_meanings::FileMeanings;
 use crate::first_words::FirstWords;
+use crate::kind_rows::{KindRow, kind_rows, last_word_keys, rows_below_no_type, rows_not_among};
 use crate::marking::{mark_beginners, mark_places, mark_users};
-use crate::outer_rows::{KindRow, last_word_keys, outer_rows, rows_below_no_type, rows_not_among};
 use proto_base::NoMemory;
 use proto_file_sets::FileSet;
 use proto_names_table::RefId;
 use proto_names_table::table::Table;
 use std::alloc::Global;
 
-/// For each of the files at these places the rows of its declarations whose names may hold others
-/// or be meant, with their kinds. Fails only when out of memory.
-pub fn outer_rows_at(
+/// For each of the files at these places the rows of its declarations, with their kinds. Fails only
+/// when out of memory.
+pub fn kind_rows_at(
     alloc: Global,
     table: &Table,
     places: &[u32],
@@ -27,11 +27,11 @@ pub fn outer_rows_at(
 ) -> Result<Vec<Vec<KindRow>>, NoMemory>
     requires { All (λ place. place < length rows.now) places.now }
     ensures { IfOk result (λ found. map (λ v. v.items) found.items
-        ≡ map (outer_rows_of table.now (map (λ v. v.items) rows.now)) places.now) }
+        ≡ map (kind_rows_of table.now (map (λ v. v.items) rows.now)) places.now) }
 {
     let mut found = Vec::with_capacity(alloc, places.len())?;
     for place in places {
-        found.push(outer_rows(alloc, table, &rows[*place as usize])?)?;
+        found.push(kind_rows(alloc, table, &rows[*place as usize])?)?;
     }
     Ok(found)
 }

@@ -4,17 +4,17 @@
 ghost use Rattle.std.specs.Prelude.{◌≡◌, ◌⊎◌, ℕ, ◌<◌, ◌++◌, [], ◌∷◌, true, false, length, get_or, map, IfOk, OnOk};
 ghost use Rattle.std.specs.List.{All, Contains};
 ghost use Rattle.proto_names_affected.specs.Marking.{IsMarked};
-ghost use Rattle.proto_names_affected.specs.Sight.{AreMoreGathered, HasLastWord, IsGathered, is_outer_at, is_package_at};
+ghost use Rattle.proto_names_affected.specs.Sight.{AreMoreGathered, HasLastWord, IsGathered, is_package_at};
 ghost use Rattle.proto_names_table.specs.Tables.{IsTable};
 
-use crate::outer_rows::{is_below_type, last_word, last_word_keys};
+use crate::kind_rows::{is_below_type, last_word, last_word_keys};
 use indexmap::IndexSet;
 use proto_base::{NoMemory, word_key};
 use proto_file_sets::FileSet;
 use proto_names_table::table::Table;
 use std::alloc::Global;
 
-/// The names of some files that may hold others or be meant, but for those right below a type's.
+/// The names of some files, but for those right below a type's.
 #[derive(Drop)]
 pub(crate) struct ShownNames {
     /// The rows of the packages, each once.
@@ -37,7 +37,7 @@ impl ShownNames {
             self.packages.insert(row)?;
             return Ok(());
         }
-        if is_outer_at(table, row) && !is_below_type(table, row) {
+        if has_row(table, row) && !is_below_type(table, row) {
             self.keys.insert(word_key(last_word(table, row)))?;
             return Ok(());
         }
@@ -140,15 +140,12 @@ fn is_package_at(table: &Table, row: usize) -> bool
     }
 }
 
-/// Whether the name of a row may hold others or be meant.
-fn is_outer_at(table: &Table, row: usize) -> bool
-    ensures is { result ≡ is_outer_at table.now row }
+/// Whether the table has a row.
+fn has_row(table: &Table, row: usize) -> bool
     ensures within { result ≡ true → row < length table.now.rows.items }
+    ensures all { row < length table.now.rows.items → result ≡ true }
 {
-    match table.rows.get(row) {
-        Some(own) => own.symbol.kind.is_outer(),
-        None => false,
-    }
+    row < table.rows.len()
 }
 
 /// The rows of packages at the head of these.

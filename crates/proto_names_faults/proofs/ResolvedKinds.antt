@@ -1,7 +1,7 @@
 -- The kind of what a reference resolves to, by the row of its name.
 use Rattle.std.proofs.Common.{◌≡◌, ℕ, ◌<◌, ◌≤◌, Bool, List, [], ◌∷◌, ◌++◌, length, get_or, take, Option, Some, None, option_and_then, option_map, refl, sym, ◌∙◌, ap, subst, inl, inr, arith, Contains}
 use Rattle.proto_base.proofs.Common.{cases_Bool, cases_lt, cond-true, cond-false, none-some, same_Some, slice_get_cases, get_or_past, length-map}
-use Rattle.proto_names_rules.proofs.Common.{ArePlain, Reference, Symbol, Workspace, front, hit, is_type, joined, meaning, meaning_at, name_some, names_apart, shown, typed, typed_is}
+use Rattle.proto_names_rules.proofs.Common.{ArePlain, Reference, Symbol, Workspace, front, hit, joined, may_resolve_to, meaning, meaning_at, name_some, names_apart, shown, visible_as, visible_is}
 use Rattle.proto_names_outline.proofs.Common.{needs}
 use Rattle.proto_names_outline.specs.declared.listing.Above.{Above}
 use Rattle.proto_names_outline.specs.declared.listing.Above.TheVariants.{Below, Outermost}
@@ -21,17 +21,17 @@ same_words {rest = rest} {first' = first'} h e e' = h ∙ ap (λ z. z ∷ rest) 
 meant_symbol : (w : Workspace) (r : Reference) (m : List (List ℕ)) → meaning w r ≡ Some m → (s : Symbol) × Contains w.symbols s × (s.name ≡ m)
 meant_symbol w r m h = go (hit w r) h
   where
-    of_typed : (x : List (List ℕ)) → typed w r.file x ≡ Some m → (s : Symbol) × Contains w.symbols s × (s.name ≡ m)
-    of_typed x h =
-        let t = typed_is w r.file x m h in
-        let s = shown w r.file is_type x t.0 in
+    of_visible : (x : List (List ℕ)) → visible_as w r.file (may_resolve_to r.wants) x ≡ Some m → (s : Symbol) × Contains w.symbols s × (s.name ≡ m)
+    of_visible x h =
+        let t = visible_is w r.file (may_resolve_to r.wants) x m h in
+        let s = shown w r.file (may_resolve_to r.wants) x t.0 in
         (s.0, s.1, s.2 ∙ t.1)
 
     go : (o : Option ℕ) → meaning_at w r o ≡ Some m → (s : Symbol) × Contains w.symbols s × (s.name ≡ m)
-    go (Some k) h = of_typed (take k r.scope ++ r.words) h
+    go (Some k) h = of_visible (take k r.scope ++ r.words) h
     go None h = elim (cases_Bool r.is_absolute) [
-      | inl abs ↦ of_typed r.words (sym (cond-true r.is_absolute (typed w r.file r.words) None abs) ∙ h)
-      | inr rel ↦ absurd (none-some m (sym (cond-false r.is_absolute (typed w r.file r.words) None rel) ∙ h))
+      | inl abs ↦ of_visible r.words (sym (cond-true r.is_absolute (visible_as w r.file (may_resolve_to r.wants) r.words) None abs) ∙ h)
+      | inr rel ↦ absurd (none-some m (sym (cond-false r.is_absolute (visible_as w r.file (may_resolve_to r.wants) r.words) None rel) ∙ h))
     ]
 
 -- the row of what a reference resolves to, where there is one

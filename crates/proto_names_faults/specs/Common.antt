@@ -5,6 +5,6 @@ pub use Rattle.proto_names_faults.specs.Clashes.{AreOfOneName, IsClash, NameAt, 
 pub use Rattle.proto_names_faults.specs.Flaws.{AddsThere, AreAdded, AreFlawsOf, AreListed, AreLocated, StandsAtFlaw, fault_of_flaw, flaw_if, kind_if}
 pub use Rattle.proto_names_faults.specs.Imports.{IsCycle, IsCycleBefore, IsCycleIn, IsDouble, IsFlawOf, IsImportBefore, IsImportIn, IsUnknown, MarksCycles}
 pub use Rattle.proto_names_faults.specs.NamesOfFiles.{AreFileRows, AreRowsOf}
-pub use Rattle.proto_names_faults.specs.Resolving.{IsFaultBefore, IsFaultIn, IsKindOf, IsListedFault, kind_fault, kind_in, type_fault}
+pub use Rattle.proto_names_faults.specs.Resolving.{IsFaultBefore, IsFaultIn, IsKindOf, IsListedFault, enum_fault, kind_fault, kind_in, type_fault}
 pub use Rattle.proto_names_faults.specs.declared.flaw.Flaw.{Flaw}
 pub use Rattle.proto_names_faults.specs.declared.full_names.NamedText.{NamedText}

@@ -1,5 +1,5 @@
 -- What a reference resolves to, by its kind, and what is wrong with it.
-use Rattle.std.specs.Prelude.{◌≡◌, ℕ, ◌<◌, Bool, if◌then◌else◌, List, slice_get, Option, Some, None, option_map}
+use Rattle.std.specs.Prelude.{◌≡◌, ℕ, ◌<◌, List, slice_get, Option, Some, None, option_map}
 use Rattle.std.specs.List.{Contains}
 use Rattle.proto_base.specs.declared.fault.FaultKind.{FaultKind}
 use Rattle.proto_base.specs.declared.fault.FaultKind.TheVariants.{MapEntryRef, Unresolved, WrongKind}
@@ -7,6 +7,8 @@ use Rattle.proto_files.specs.FilesRead.{ReadOf}
 use Rattle.proto_files.specs.GivenFiles.{FileOf}
 use Rattle.proto_names_rules.specs.Faults.{Fault, fault}
 use Rattle.proto_names_rules.specs.Grown.{at}
+use Rattle.proto_names_rules.specs.declared.wants.Wants.{Wants}
+use Rattle.proto_names_rules.specs.declared.wants.Wants.TheVariants as wants
 use Rattle.proto_names_rules.specs.Names.{Reference, Symbol, Workspace, meaning}
 use Rattle.proto_names_rules.specs.declared.kind.Kind.{Kind}
 use Rattle.proto_names_rules.specs.declared.kind.Kind.TheVariants.{Entry, EntryField, Enum, Extension, Field, Message, Method, Oneof, Package, Service, Value}
@@ -29,25 +31,31 @@ IsKindOf w r (Some kind) =
 abbrev pub kind_in : Table → ℕ → Option Kind
 kind_in t row = option_map (λ r. r.symbol.kind) (slice_get t.rows.items row)
 
+-- what is wrong with a reference that resolves to an enum
+abbrev pub enum_fault : Wants → Option FaultKind
+enum_fault wants.Type = None
+enum_fault wants.Message = Some WrongKind
+enum_fault wants.Extension = None
+
 -- what is wrong with a reference that resolves to a name of this kind: a generated entry, or an
 -- enum where a message is wanted
-abbrev pub type_fault : Kind → Bool → Option FaultKind
-type_fault Package wants_message = None
-type_fault Message wants_message = None
-type_fault Entry wants_message = Some MapEntryRef
-type_fault Enum wants_message = if wants_message then Some WrongKind else None
-type_fault Service wants_message = None
-type_fault Field wants_message = None
-type_fault EntryField wants_message = None
-type_fault Oneof wants_message = None
-type_fault Value wants_message = None
-type_fault Method wants_message = None
-type_fault Extension wants_message = None
+abbrev pub type_fault : Kind → Wants → Option FaultKind
+type_fault Package what = None
+type_fault Message what = None
+type_fault Entry what = Some MapEntryRef
+type_fault Enum what = enum_fault what
+type_fault Service what = None
+type_fault Field what = None
+type_fault EntryField what = None
+type_fault Oneof what = None
+type_fault Value what = None
+type_fault Method what = None
+type_fault Extension what = None
 
 -- the same, or that it resolves to nothing
-abbrev pub kind_fault : Option Kind → Bool → Option FaultKind
-kind_fault None wants_message = Some Unresolved
-kind_fault (Some kind) wants_message = type_fault kind wants_message
+abbrev pub kind_fault : Option Kind → Wants → Option FaultKind
+kind_fault None what = Some Unresolved
+kind_fault (Some kind) what = type_fault kind what
 
 -- a reference of this list is at fault, and the fault stands at its first token
 pub record IsListedFault (w : Workspace) (reference : Use → Reference) (file : ℕ) (uses : List Use)

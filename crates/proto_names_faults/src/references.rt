@@ -158,7 +158,7 @@ fn add_use_flaws(
     for used in uses {
         let kind = resolved_kind(lookup, words, used);
         let token = token_of(used.reference);
-        let fault = kind_fault(kind, used.wants_message);
+        let fault = kind_fault(kind, used.wants);
         add_flaw(found, lookup.file, token, fault)?;
     }
     Ok(())

@@ -15,7 +15,7 @@ use proto_base::FaultKind;
 use proto_files::Words;
 use proto_names::{Lookup, resolved_row};
 use proto_names_outline::listing::{Above, Use};
-use proto_names_rules::Kind;
+use proto_names_rules::{Kind, Wants};
 use proto_names_table::table::Table;
 
 /// The kind of what a reference resolves to; none where it resolves to nothing. Takes no memory.
@@ -34,7 +34,7 @@ pub(crate) fn resolved_kind(lookup: &Lookup, words: &Words, used: &Use) -> Optio
         Above::Outermost => 0,
         Above::Below(k) => lookup.rows[k] + 1,
     };
-    let row = resolved_row(lookup.table, lookup.seen, words, scope, used.reference);
+    let row = resolved_row(lookup.table, lookup.seen, words, scope, used);
     kind_at_row(lookup.table, row)
 }
 
@@ -48,22 +48,22 @@ fn kind_at_row(table: &Table, row: Option<usize>) -> Option<Kind>
 }
 
 /// What is wrong with a reference that resolves to a name of this kind, or to nothing.
-pub(crate) fn kind_fault(kind: Option<Kind>, wants_message: bool) -> Option<FaultKind>
-    ensures { result ≡ kind_fault kind wants_message }
+pub(crate) fn kind_fault(kind: Option<Kind>, wants: Wants) -> Option<FaultKind>
+    ensures { result ≡ kind_fault kind wants }
 {
     match kind {
         None => Some(FaultKind::Unresolved),
-        Some(kind) => type_fault(kind, wants_message),
+        Some(kind) => type_fault(kind, wants),
     }
 }
 
 /// What is wrong with a reference that resolves to a name of this kind.
-fn type_fault(kind: Kind, wants_message: bool) -> Option<FaultKind>
-    ensures { result ≡ type_fault kind wants_message }
+fn type_fault(kind: Kind, wants: Wants) -> Option<FaultKind>
+    ensures { result ≡ type_fault kind wants }
 {
-    match kind {
-        Kind::Entry => Some(FaultKind::MapEntryRef),
-        Kind::Enum if wants_message => Some(FaultKind::WrongKind),
+    match (kind, wants) {
+        (Kind::Entry, _) => Some(FaultKind::MapEntryRef),
+        (Kind::Enum, Wants::Message) => Some(FaultKind::WrongKind),
         _ => None,
     }
 }

@@ -6,7 +6,7 @@ use Rattle.proto_tree.specs.declared.piece.Header.{Header}
 use Rattle.proto_tree.specs.declared.piece.Header.TheVariants as header
 use Rattle.proto_tree.specs.Tree.{Tree, End, Leaf, Block, joined_trees}
 use Rattle.proto_names_rules.proofs.Common.{Source, Used, Member, field, map_field, oneof, message, enum, service, extend, Members, member, Items, item, Placed, placed, all_placed, package_of}
-use Rattle.proto_names_outline.specs.Common.{items_below, field_names, value_names, method_names, no_names, block_names, picked, members_in, statement_imports, imports_in, file_block, items_in, statement_uses, header_uses, flat_uses, block_uses, scope_in, member_uses, item_uses}
+use Rattle.proto_names_outline.specs.Common.{items_below, field_names, value_names, method_names, no_names, block_names, picked, members_in, statement_imports, imports_in, file_block, items_in, option_uses, statement_uses, header_uses, flat_uses, block_uses, scope_in, member_uses, item_uses}
 
 pub imports_joined : (t u : Tree) → imports_in (joined_trees t u) ≡ imports_in t ++ imports_in u
 imports_joined End u = refl
@@ -73,28 +73,33 @@ items_joined path (Block whole i within j rest) u = items_joined path rest u
 front_used : (x y a b : List (Used ℕ)) → y ≡ a ++ b → x ++ y ≡ (x ++ a) ++ b
 front_used x y a b e = ap (λ us. x ++ us) e ∙ sym (append_assoc x a b)
 
-pub flat_joined : (path : List (Source ℕ)) (t u : Tree) → flat_uses path (joined_trees t u) ≡ flat_uses path t ++ flat_uses path u
-flat_joined path End u = refl
-flat_joined path (Leaf s rest) u = front_used (statement_uses path s) (flat_uses path (joined_trees rest u)) (flat_uses path rest) (flat_uses path u) (flat_joined path rest u)
-flat_joined path (Block h i within j rest) u = front_used (header_uses path h) (flat_uses path (joined_trees rest u)) (flat_uses path rest) (flat_uses path u) (flat_joined path rest u)
+pub flat_joined : (around path : List (Source ℕ)) (t u : Tree) → flat_uses around path (joined_trees t u) ≡ flat_uses around path t ++ flat_uses around path u
+flat_joined around path End u = refl
+flat_joined around path (Leaf s rest) u = front_used (statement_uses around path s) (flat_uses around path (joined_trees rest u)) (flat_uses around path rest) (flat_uses around path u) (flat_joined around path rest u)
+flat_joined around path (Block h i within j rest) u =
+    let inner = flat_uses path path within in
+    front_used (header_uses path h) (inner ++ flat_uses around path (joined_trees rest u)) (inner ++ flat_uses around path rest) (flat_uses around path u)
+    (front_used inner (flat_uses around path (joined_trees rest u)) (flat_uses around path rest) (flat_uses around path u) (flat_joined around path rest u))
 
 abbrev of_block : List (Source ℕ) → Header → Tree → List (Used ℕ)
-of_block path h within = block_uses path h (member_uses (scope_in path h) within) within
+of_block path h within = block_uses path h (member_uses path (scope_in path h) within) within
 
-pub member_uses_joined : (path : List (Source ℕ)) (t u : Tree) → member_uses path (joined_trees t u) ≡ member_uses path t ++ member_uses path u
-member_uses_joined path End u = refl
-member_uses_joined path (Leaf s rest) u = front_used (statement_uses path s) (member_uses path (joined_trees rest u)) (member_uses path rest) (member_uses path u) (member_uses_joined path rest u)
-member_uses_joined path (Block (header.Service h) i within j rest) u = member_uses_joined path rest u
-member_uses_joined path (Block (header.Message h) i within j rest) u = front_used (of_block path (header.Message h) within) (member_uses path (joined_trees rest u)) (member_uses path rest) (member_uses path u) (member_uses_joined path rest u)
-member_uses_joined path (Block (header.Oneof h) i within j rest) u = front_used (of_block path (header.Oneof h) within) (member_uses path (joined_trees rest u)) (member_uses path rest) (member_uses path u) (member_uses_joined path rest u)
-member_uses_joined path (Block (header.Extend e) i within j rest) u = front_used (of_block path (header.Extend e) within) (member_uses path (joined_trees rest u)) (member_uses path rest) (member_uses path u) (member_uses_joined path rest u)
-member_uses_joined path (Block whole i within j rest) u = member_uses_joined path rest u
+pub member_uses_joined : (around path : List (Source ℕ)) (t u : Tree) → member_uses around path (joined_trees t u) ≡ member_uses around path t ++ member_uses around path u
+member_uses_joined around path End u = refl
+member_uses_joined around path (Leaf s rest) u = front_used (statement_uses around path s) (member_uses around path (joined_trees rest u)) (member_uses around path rest) (member_uses around path u) (member_uses_joined around path rest u)
+member_uses_joined around path (Block (header.Service h) i within j rest) u = member_uses_joined around path rest u
+member_uses_joined around path (Block (header.Message h) i within j rest) u = front_used (of_block path (header.Message h) within) (member_uses around path (joined_trees rest u)) (member_uses around path rest) (member_uses around path u) (member_uses_joined around path rest u)
+member_uses_joined around path (Block (header.Oneof h) i within j rest) u = front_used (of_block path (header.Oneof h) within) (member_uses around path (joined_trees rest u)) (member_uses around path rest) (member_uses around path u) (member_uses_joined around path rest u)
+member_uses_joined around path (Block (header.Enum h) i within j rest) u = front_used (of_block path (header.Enum h) within) (member_uses around path (joined_trees rest u)) (member_uses around path rest) (member_uses around path u) (member_uses_joined around path rest u)
+member_uses_joined around path (Block (header.Extend e) i within j rest) u = front_used (of_block path (header.Extend e) within) (member_uses around path (joined_trees rest u)) (member_uses around path rest) (member_uses around path u) (member_uses_joined around path rest u)
+member_uses_joined around path (Block whole i within j rest) u = member_uses_joined around path rest u
 
 pub item_uses_joined : (path : List (Source ℕ)) (t u : Tree) → item_uses path (joined_trees t u) ≡ item_uses path t ++ item_uses path u
 item_uses_joined path End u = refl
-item_uses_joined path (Leaf s rest) u = item_uses_joined path rest u
+item_uses_joined path (Leaf s rest) u = front_used (option_uses path s) (item_uses path (joined_trees rest u)) (item_uses path rest) (item_uses path u) (item_uses_joined path rest u)
 item_uses_joined path (Block (header.Oneof h) i within j rest) u = item_uses_joined path rest u
 item_uses_joined path (Block (header.Message h) i within j rest) u = front_used (of_block path (header.Message h) within) (item_uses path (joined_trees rest u)) (item_uses path rest) (item_uses path u) (item_uses_joined path rest u)
+item_uses_joined path (Block (header.Enum h) i within j rest) u = front_used (of_block path (header.Enum h) within) (item_uses path (joined_trees rest u)) (item_uses path rest) (item_uses path u) (item_uses_joined path rest u)
 item_uses_joined path (Block (header.Service h) i within j rest) u = front_used (of_block path (header.Service h) within) (item_uses path (joined_trees rest u)) (item_uses path rest) (item_uses path u) (item_uses_joined path rest u)
 item_uses_joined path (Block (header.Extend e) i within j rest) u = front_used (of_block path (header.Extend e) within) (item_uses path (joined_trees rest u)) (item_uses path rest) (item_uses path u) (item_uses_joined path rest u)
 item_uses_joined path (Block whole i within j rest) u = item_uses_joined path rest u

@@ -1,5 +1,5 @@
 -- The tokens of a tree stand in order, so what it declares is spread over them, and each reference stands in a declaration (for the crates above).
-use Rattle.std.proofs.Common.{◌≡◌, ◌≢◌, ℕ, suc, get_or, ◌+◌, ◌<◌, ◌≤◌, Bool, true, false, List, [], ◌∷◌, ◌++◌, length, refl, sym, ◌∙◌, ap, subst, inl, inr, ◌⊎◌, arith, map, length-append, Contains, All, true≢false}
+use Rattle.std.proofs.Common.{◌≡◌, ◌≢◌, ℕ, suc, get_or, flat_map, Option, Some, None, ◌+◌, ◌<◌, ◌≤◌, true, List, [], ◌∷◌, ◌++◌, length, refl, sym, ◌∙◌, ap, subst, inl, inr, ◌⊎◌, arith, map, length-append, Contains, All, true≢false}
 use Rattle.proto_base.proofs.Common.{Contains-append_left, Contains-append_right, Contains-append_cases, Contains-get_or, contains_head, contains_later, contains_cases}
 use Rattle.proto_tree.specs.declared.class.Class.{Class}
 use Rattle.proto_tree.specs.declared.class.Class.TheVariants as class
@@ -13,6 +13,9 @@ use Rattle.proto_tree.specs.declared.tree.MapField.{MapField}
 use Rattle.proto_tree.specs.declared.tree.Package.{Package}
 use Rattle.proto_tree.specs.declared.tree.Value.{Value}
 use Rattle.proto_tree.specs.declared.tree.Reference.{Reference}
+use Rattle.proto_tree.specs.declared.tree.Setting.{Setting}
+use Rattle.proto_tree.specs.declared.tree.Setting.TheVariants as setting
+use Rattle.proto_tree.specs.declared.tree.Settings.{Settings}
 use Rattle.proto_tree.specs.declared.tree.Signature.{Signature}
 use Rattle.proto_tree.specs.declared.piece.Statement.{Statement}
 use Rattle.proto_tree.specs.declared.piece.Statement.TheVariants as statement
@@ -26,8 +29,10 @@ use Rattle.proto_tree.specs.declared.context.Kind.TheVariants as kind
 use Rattle.proto_text.specs.Tokens.{Lexeme}
 use Rattle.proto_tree.proofs.Common.{Mark, Fit, mark, one, name, only, flat_option, flat_all, flat_behind, flat_type, flat_settings, flat_separated, flat_package, flat_field, flat_map_field, flat_value, flat_signed, flat_method_type, flat_signature, flat_statement, flat_heading, flat_header, Tree, End, Leaf, Block, flat, allows, after, statement_kind, header_kind, IsWellFormed, Spells, dotted, classes_in}
 use Rattle.proto_names_rules.specs.declared.kind.Kind.TheVariants.{Message, Service, Method}
+use Rattle.proto_names_rules.specs.declared.wants.Wants.{Wants}
+use Rattle.proto_names_rules.specs.declared.wants.Wants.TheVariants as wants
 use Rattle.proto_names_rules.proofs.Common.{Source, Token, Used, Member, field, map_field, oneof, message, enum, service, extend, Members, no_members, member, Items, no_items, packaged, item, Placed, place, placed, all_placed, package_of, prefixes, items_placed, file_placed, Spans, AllSpan, Rises, ItemsSpan, IsGrown, prefix_whole, package_within}
-use Rattle.proto_names_outline.specs.FromTree.{field_names, value_names, method_names, no_names, block_names, picked, add_statement, add_block, members_in, file_statement, file_block, items_in, statement_uses, type_uses, used_as, signature_uses, header_uses, flat_uses, block_uses, member_uses, item_uses, file_names}
+use Rattle.proto_names_outline.specs.FromTree.{field_names, value_names, method_names, no_names, block_names, picked, add_statement, add_block, members_in, file_statement, file_block, items_in, option_uses, setting_uses, settings_uses, statement_uses, type_uses, used_as, signature_uses, header_uses, flat_uses, block_uses, member_uses, item_uses, file_names}
 use Rattle.proto_base.specs.declared.profile.Profile.{Profile}
 
 -- the indices of the marks are those from n on, in order
@@ -332,37 +337,78 @@ scoped_more path xs ys u more s = elim s [ inl e ↦ inl e | inr p ↦ inr (p.0,
 no_use : {P : Type 0} (u : Used ℕ) → Contains [] u → P
 no_use u c = absurd (omega (arith, c.1))
 
-one_scope : (wants_message : Bool) (r : Reference) (path : List (Source ℕ)) (u : Used ℕ) → Contains (used_as path wants_message r ∷ []) u → u.scope ≡ path
-one_scope wants_message r path u c = elim (contains_cases (used_as path wants_message r) u [] c) [ inl e ↦ sym (ap (λ (z : Used ℕ). z.scope) e) | inr n ↦ no_use u n ]
+one_scope : (what : Wants) (r : Reference) (path : List (Source ℕ)) (u : Used ℕ) → Contains (used_as path what r ∷ []) u → u.scope ≡ path
+one_scope what r path u c = elim (contains_cases (used_as path what r) u [] c) [ inl e ↦ sym (ap (λ (z : Used ℕ). z.scope) e) | inr n ↦ no_use u n ]
 
 type_scope : (t : FieldType) (path : List (Source ℕ)) (u : Used ℕ) → Contains (type_uses path t) u → u.scope ≡ path
 type_scope (field_type.Scalar i) path u c = no_use u c
-type_scope (field_type.Reference r) path u c = one_scope false r path u c
+type_scope (field_type.Reference r) path u c = one_scope wants.Type r path u c
 
 signature_scope : (s : Signature) (path : List (Source ℕ)) (u : Used ℕ) → Contains (signature_uses path s) u → u.scope ≡ path
-signature_scope s path u c = elim (contains_cases (used_as path true s.input.reference) u (used_as path true s.output.reference ∷ []) c) [
+signature_scope s path u c = elim (contains_cases (used_as path wants.Message s.input.reference) u (used_as path wants.Message s.output.reference ∷ []) c) [
   | inl e ↦ sym (ap (λ (z : Used ℕ). z.scope) e)
-  | inr d ↦ one_scope true s.output.reference path u d
+  | inr d ↦ one_scope wants.Message s.output.reference path u d
 ]
 
-statement_scope : (s : Statement) (path : List (Source ℕ)) (u : Used ℕ) → Contains (statement_uses path s) u → u.scope ≡ path
-statement_scope (statement.Field f) path u c = type_scope f.kind path u c
-statement_scope (statement.MapField f) path u c = type_scope f.value path u c
-statement_scope (statement.Method s end) path u c = signature_scope s path u c
-statement_scope _ path u c = no_use u c
+setting_scope : (s : Setting) (path : List (Source ℕ)) (u : Used ℕ) → Contains (setting_uses path s) u → u.scope ≡ path
+setting_scope (setting.Plain p) path u c = no_use u c
+setting_scope (setting.Custom x) path u c = one_scope wants.Extension x.name path u c
+
+settings_scope : (o : Option Settings) (path : List (Source ℕ)) (u : Used ℕ) → Contains (settings_uses path o) u → u.scope ≡ path
+settings_scope None path u c = no_use u c
+settings_scope (Some s) path u c = elim (Contains-append_cases (setting_uses path s.list.first) (flat_map (λ b. setting_uses path b.item) s.list.rest) u c) [
+  | inl a ↦ setting_scope s.list.first path u a
+  | inr b ↦ behind s.list.rest b
+]
+  where
+    behind : (bs : List (Behind Setting)) → Contains (flat_map (λ b. setting_uses path b.item) bs) u → u.scope ≡ path
+    behind [] d = no_use u d
+    behind (b ∷ bs) d = elim (Contains-append_cases (setting_uses path b.item) (flat_map (λ b. setting_uses path b.item) bs) u d) [ inl e ↦ setting_scope b.item path u e | inr f ↦ behind bs f ]
+
+-- a type, and the settings behind it
+typed_scope : (t : FieldType) (o : Option Settings) (path : List (Source ℕ)) (u : Used ℕ) → Contains (type_uses path t ++ settings_uses path o) u → u.scope ≡ path
+typed_scope t o path u c = elim (Contains-append_cases (type_uses path t) (settings_uses path o) u c) [ inl a ↦ type_scope t path u a | inr b ↦ settings_scope o path u b ]
+
+option_scope : (s : Statement) (path : List (Source ℕ)) (u : Used ℕ) → Contains (option_uses path s) u → u.scope ≡ path
+option_scope (statement.Option o) path u c = setting_scope o.setting path u c
+option_scope _ path u c = no_use u c
+
+-- the scope is the one around, or the one within
+abbrev IsIn : List (Source ℕ) → List (Source ℕ) → Used ℕ → Type 0
+IsIn around path u = (u.scope ≡ around) ⊎ (u.scope ≡ path)
+
+statement_scope : (s : Statement) (around path : List (Source ℕ)) (u : Used ℕ) → Contains (statement_uses around path s) u → IsIn around path u
+statement_scope (statement.Field f) around path u c = inr (typed_scope f.kind f.settings path u c)
+statement_scope (statement.MapField f) around path u c = inr (typed_scope f.value f.settings path u c)
+statement_scope (statement.Value v) around path u c = inr (settings_scope v.settings path u c)
+statement_scope (statement.Method s end) around path u c = inr (signature_scope s path u c)
+statement_scope (statement.Option o) around path u c = inl (option_scope (statement.Option o) around u c)
+statement_scope _ around path u c = no_use u c
 
 header_scope : (h : Header) (path : List (Source ℕ)) (u : Used ℕ) → Contains (header_uses path h) u → u.scope ≡ path
 header_scope (header.Method s) path u c = signature_scope s path u c
-header_scope (header.Extend e) path u c = one_scope true e.extendee path u c
+header_scope (header.Extend e) path u c = one_scope wants.Message e.extendee path u c
 header_scope _ path u c = no_use u c
 
-flat_scope : (t : Tree) (path : List (Source ℕ)) (u : Used ℕ) → Contains (flat_uses path t) u → u.scope ≡ path
-flat_scope End path u c = no_use u c
-flat_scope (Leaf s rest) path u c = elim (Contains-append_cases (statement_uses path s) (flat_uses path rest) u c) [ inl a ↦ statement_scope s path u a | inr b ↦ flat_scope rest path u b ]
-flat_scope (Block h i within j rest) path u c = elim (Contains-append_cases (header_uses path h) (flat_uses path rest) u c) [ inl a ↦ header_scope h path u a | inr b ↦ flat_scope rest path u b ]
+same_scope : (path : List (Source ℕ)) (u : Used ℕ) → IsIn path path u → u.scope ≡ path
+same_scope path u s = elim s [ inl e ↦ e | inr e ↦ e ]
+
+flat_scope : (t : Tree) (around path : List (Source ℕ)) (u : Used ℕ) → Contains (flat_uses around path t) u → IsIn around path u
+flat_scope End around path u c = no_use u c
+flat_scope (Leaf s rest) around path u c = elim (Contains-append_cases (statement_uses around path s) (flat_uses around path rest) u c) [ inl a ↦ statement_scope s around path u a | inr b ↦ flat_scope rest around path u b ]
+flat_scope (Block h i within j rest) around path u c = elim (Contains-append_cases (header_uses path h) (flat_uses path path within ++ flat_uses around path rest) u c) [
+  | inl a ↦ inr (header_scope h path u a)
+  | inr b ↦ elim (Contains-append_cases (flat_uses path path within) (flat_uses around path rest) u b) [
+    | inl d ↦ inr (same_scope path u (flat_scope within path path u d))
+    | inr d ↦ flat_scope rest around path u d
+  ]
+]
+
+inner_scope : (t : Tree) (path : List (Source ℕ)) (u : Used ℕ) → Contains (flat_uses path path t) u → u.scope ≡ path
+inner_scope t path u c = same_scope path u (flat_scope t path path u c)
 
 extend_scope : (e : Extending) (within : Tree) (path : List (Source ℕ)) (u : Used ℕ) → Contains (block_uses path (header.Extend e) [] within) u → u.scope ≡ path
-extend_scope e within path u c = elim (Contains-append_cases (header_uses path (header.Extend e)) (flat_uses path within) u c) [ inl a ↦ header_scope (header.Extend e) path u a | inr b ↦ flat_scope within path u b ]
+extend_scope e within path u c = elim (Contains-append_cases (header_uses path (header.Extend e)) (flat_uses path path within) u c) [ inl a ↦ header_scope (header.Extend e) path u a | inr b ↦ inner_scope within path u b ]
 
 -- a statement adds to what is declared
 statement_more : (s : Statement) (path : List (Source ℕ)) (ms : Members) (p : Placed) → Contains (all_placed path ms) p → Contains (all_placed path (add_statement s ms)) p
@@ -377,39 +423,55 @@ block_more (header.Enum h) inner within path ms p c = Contains-append_right (pla
 block_more (header.Extend e) inner within path ms p c = Contains-append_right (placed path (extend (picked field_names no_names within))) (all_placed path ms) p c
 block_more whole inner within path ms p c = c
 
--- what is used in a message, given what is used in what it holds
-message_scoped : (t : ℕ) (inner rest : Members) (path : List (Source ℕ)) (u : Used ℕ) → Scoped (path ++ Token t ∷ []) (all_placed (path ++ Token t ∷ []) inner) u → Scoped path (placed path (message t inner) ++ all_placed path rest) u
-message_scoped t inner rest path u s =
-    let whole = placed path (message t inner) in
-    let head = place path (Token t) Message in
-    elim s [
-      | inl e ↦ inr (head, Contains-append_left (placed path (message t inner)) (all_placed path rest) head (contains_head head (all_placed (path ++ Token t ∷ []) inner)), sym e)
-      | inr p ↦ inr (p.0, Contains-append_left (placed path (message t inner)) (all_placed path rest) p.0 (contains_later head p.0 (all_placed (path ++ Token t ∷ []) inner) p.1), p.2)
-    ]
+-- a reference's scope is the one around, or the path, or a declaration's name
+abbrev Inside : List (Source ℕ) → List (Source ℕ) → List Placed → Used ℕ → Type 0
+Inside around path all u = (u.scope ≡ around) ⊎ Scoped path all u
+
+inside_more : (around path : List (Source ℕ)) (xs ys : List Placed) (u : Used ℕ) → ((p : Placed) → Contains xs p → Contains ys p) → Inside around path xs u → Inside around path ys u
+inside_more around path xs ys u more s = elim s [ inl e ↦ inl e | inr t ↦ inr (scoped_more path xs ys u more t) ]
+
+is_inside : (around path : List (Source ℕ)) (all : List Placed) (u : Used ℕ) → IsIn around path u → Inside around path all u
+is_inside around path all u s = elim s [ inl e ↦ inl e | inr e ↦ inr (inl e) ]
 
 at_path : (path : List (Source ℕ)) (all : List Placed) (u : Used ℕ) → u.scope ≡ path → Scoped path all u
 at_path path all u e = inl e
 
-pub members_scoped : (t : Tree) (path : List (Source ℕ)) (u : Used ℕ) → Contains (member_uses path t) u → Scoped path (all_placed path (members_in t)) u
-members_scoped End path u c = no_use u c
-members_scoped (Leaf s rest) path u c = elim (Contains-append_cases (statement_uses path s) (member_uses path rest) u c) [
-  | inl a ↦ at_path path (all_placed path (members_in (Leaf s rest))) u (statement_scope s path u a)
-  | inr b ↦ scoped_more path (all_placed path (members_in rest)) (all_placed path (members_in (Leaf s rest))) u (statement_more s path (members_in rest)) (members_scoped rest path u b)
+-- what is used in a message, given what is used in what it holds
+message_scoped : (t : ℕ) (inner : Members) (rest : List Placed) (path : List (Source ℕ)) (u : Used ℕ) → Inside path (path ++ Token t ∷ []) (all_placed (path ++ Token t ∷ []) inner) u → Scoped path (placed path (message t inner) ++ rest) u
+message_scoped t inner rest path u s =
+    let whole = placed path (message t inner) in
+    let head = place path (Token t) Message in
+    elim s [
+      | inl e ↦ inl e
+      | inr i ↦ elim i [
+        | inl e ↦ inr (head, Contains-append_left whole rest head (contains_head head (all_placed (path ++ Token t ∷ []) inner)), sym e)
+        | inr p ↦ inr (p.0, Contains-append_left whole rest p.0 (contains_later head p.0 (all_placed (path ++ Token t ∷ []) inner) p.1), p.2)
+      ]
+    ]
+
+pub members_scoped : (t : Tree) (around path : List (Source ℕ)) (u : Used ℕ) → Contains (member_uses around path t) u → Inside around path (all_placed path (members_in t)) u
+members_scoped End around path u c = no_use u c
+members_scoped (Leaf s rest) around path u c = elim (Contains-append_cases (statement_uses around path s) (member_uses around path rest) u c) [
+  | inl a ↦ is_inside around path (all_placed path (members_in (Leaf s rest))) u (statement_scope s around path u a)
+  | inr b ↦ inside_more around path (all_placed path (members_in rest)) (all_placed path (members_in (Leaf s rest))) u (statement_more s path (members_in rest)) (members_scoped rest around path u b)
 ]
-members_scoped (Block (header.Message h) i within j rest) path u c = elim (Contains-append_cases (member_uses (path ++ Token h.name ∷ []) within) (member_uses path rest) u c) [
-  | inl a ↦ message_scoped h.name (members_in within) (members_in rest) path u (members_scoped within (path ++ Token h.name ∷ []) u a)
-  | inr b ↦ scoped_more path (all_placed path (members_in rest)) (all_placed path (members_in (Block (header.Message h) i within j rest))) u (block_more (header.Message h) (members_in within) within path (members_in rest)) (members_scoped rest path u b)
+members_scoped (Block (header.Message h) i within j rest) around path u c = elim (Contains-append_cases (member_uses path (path ++ Token h.name ∷ []) within) (member_uses around path rest) u c) [
+  | inl a ↦ inr (message_scoped h.name (members_in within) (all_placed path (members_in rest)) path u (members_scoped within path (path ++ Token h.name ∷ []) u a))
+  | inr b ↦ inside_more around path (all_placed path (members_in rest)) (all_placed path (members_in (Block (header.Message h) i within j rest))) u (block_more (header.Message h) (members_in within) within path (members_in rest)) (members_scoped rest around path u b)
 ]
-members_scoped (Block (header.Oneof h) i within j rest) path u c = elim (Contains-append_cases (flat_uses path within) (member_uses path rest) u c) [
-  | inl a ↦ at_path path (all_placed path (members_in (Block (header.Oneof h) i within j rest))) u (flat_scope within path u a)
-  | inr b ↦ scoped_more path (all_placed path (members_in rest)) (all_placed path (members_in (Block (header.Oneof h) i within j rest))) u (block_more (header.Oneof h) (members_in within) within path (members_in rest)) (members_scoped rest path u b)
+members_scoped (Block (header.Oneof h) i within j rest) around path u c = elim (Contains-append_cases (flat_uses path path within) (member_uses around path rest) u c) [
+  | inl a ↦ inr (at_path path (all_placed path (members_in (Block (header.Oneof h) i within j rest))) u (inner_scope within path u a))
+  | inr b ↦ inside_more around path (all_placed path (members_in rest)) (all_placed path (members_in (Block (header.Oneof h) i within j rest))) u (block_more (header.Oneof h) (members_in within) within path (members_in rest)) (members_scoped rest around path u b)
 ]
-members_scoped (Block (header.Enum h) i within j rest) path u c = scoped_more path (all_placed path (members_in rest)) (all_placed path (members_in (Block (header.Enum h) i within j rest))) u (block_more (header.Enum h) (members_in within) within path (members_in rest)) (members_scoped rest path u c)
-members_scoped (Block (header.Extend e) i within j rest) path u c = elim (Contains-append_cases (block_uses path (header.Extend e) [] within) (member_uses path rest) u c) [
-  | inl a ↦ at_path path (all_placed path (members_in (Block (header.Extend e) i within j rest))) u (extend_scope e within path u a)
-  | inr b ↦ scoped_more path (all_placed path (members_in rest)) (all_placed path (members_in (Block (header.Extend e) i within j rest))) u (block_more (header.Extend e) (members_in within) within path (members_in rest)) (members_scoped rest path u b)
+members_scoped (Block (header.Enum h) i within j rest) around path u c = elim (Contains-append_cases (flat_uses path path within) (member_uses around path rest) u c) [
+  | inl a ↦ inr (at_path path (all_placed path (members_in (Block (header.Enum h) i within j rest))) u (inner_scope within path u a))
+  | inr b ↦ inside_more around path (all_placed path (members_in rest)) (all_placed path (members_in (Block (header.Enum h) i within j rest))) u (block_more (header.Enum h) (members_in within) within path (members_in rest)) (members_scoped rest around path u b)
 ]
-members_scoped (Block whole i within j rest) path u c = members_scoped rest path u c
+members_scoped (Block (header.Extend e) i within j rest) around path u c = elim (Contains-append_cases (block_uses path (header.Extend e) [] within) (member_uses around path rest) u c) [
+  | inl a ↦ inr (at_path path (all_placed path (members_in (Block (header.Extend e) i within j rest))) u (extend_scope e within path u a))
+  | inr b ↦ inside_more around path (all_placed path (members_in rest)) (all_placed path (members_in (Block (header.Extend e) i within j rest))) u (block_more (header.Extend e) (members_in within) within path (members_in rest)) (members_scoped rest around path u b)
+]
+members_scoped (Block whole i within j rest) around path u c = members_scoped rest around path u c
 
 file_more : (s : Statement) (path : List (Source ℕ)) (is : Items) (p : Placed) → Contains (items_placed path is) p → Contains (items_placed path (file_statement s is)) p
 file_more (statement.Package q) path is p c = Contains-append_right (prefixes [] (dotted q.name)) (items_placed path is) p c
@@ -422,31 +484,32 @@ file_block_more (header.Service h) within path is p c = Contains-append_right (p
 file_block_more (header.Extend e) within path is p c = Contains-append_right (placed path (extend (picked field_names no_names within))) (items_placed path is) p c
 file_block_more whole within path is p c = c
 
-message_item : (t : ℕ) (inner : Members) (rest : Items) (path : List (Source ℕ)) (u : Used ℕ) → Scoped (path ++ Token t ∷ []) (all_placed (path ++ Token t ∷ []) inner) u → Scoped path (placed path (message t inner) ++ items_placed path rest) u
-message_item t inner rest path u s =
-    let head = place path (Token t) Message in
-    elim s [
-      | inl e ↦ inr (head, Contains-append_left (placed path (message t inner)) (items_placed path rest) head (contains_head head (all_placed (path ++ Token t ∷ []) inner)), sym e)
-      | inr p ↦ inr (p.0, Contains-append_left (placed path (message t inner)) (items_placed path rest) p.0 (contains_later head p.0 (all_placed (path ++ Token t ∷ []) inner) p.1), p.2)
-    ]
-
-service_item : (t : ℕ) (ms : List ℕ) (rest : Items) (path : List (Source ℕ)) (u : Used ℕ) → u.scope ≡ path ++ Token t ∷ [] → Scoped path (placed path (service t ms) ++ items_placed path rest) u
-service_item t ms rest path u e =
+service_item : (t : ℕ) (ms : List ℕ) (rest : Items) (path : List (Source ℕ)) (u : Used ℕ) → IsIn path (path ++ Token t ∷ []) u → Scoped path (placed path (service t ms) ++ items_placed path rest) u
+service_item t ms rest path u s =
     let head = place path (Token t) Service in
-    inr (head, Contains-append_left (placed path (service t ms)) (items_placed path rest) head (contains_head head (map (λ i. place (path ++ Token t ∷ []) (Token i) Method) ms)), sym e)
+    elim s [
+      | inl e ↦ inl e
+      | inr e ↦ inr (head, Contains-append_left (placed path (service t ms)) (items_placed path rest) head (contains_head head (map (λ i. place (path ++ Token t ∷ []) (Token i) Method) ms)), sym e)
+    ]
 
 pub items_scoped : (t : Tree) (path : List (Source ℕ)) (u : Used ℕ) → Contains (item_uses path t) u → Scoped path (items_placed path (items_in t)) u
 items_scoped End path u c = no_use u c
-items_scoped (Leaf s rest) path u c = scoped_more path (items_placed path (items_in rest)) (items_placed path (items_in (Leaf s rest))) u (file_more s path (items_in rest)) (items_scoped rest path u c)
-items_scoped (Block (header.Message h) i within j rest) path u c = elim (Contains-append_cases (member_uses (path ++ Token h.name ∷ []) within) (item_uses path rest) u c) [
-  | inl a ↦ message_item h.name (members_in within) (items_in rest) path u (members_scoped within (path ++ Token h.name ∷ []) u a)
+items_scoped (Leaf s rest) path u c = elim (Contains-append_cases (option_uses path s) (item_uses path rest) u c) [
+  | inl a ↦ at_path path (items_placed path (items_in (Leaf s rest))) u (option_scope s path u a)
+  | inr b ↦ scoped_more path (items_placed path (items_in rest)) (items_placed path (items_in (Leaf s rest))) u (file_more s path (items_in rest)) (items_scoped rest path u b)
+]
+items_scoped (Block (header.Message h) i within j rest) path u c = elim (Contains-append_cases (member_uses path (path ++ Token h.name ∷ []) within) (item_uses path rest) u c) [
+  | inl a ↦ message_scoped h.name (members_in within) (items_placed path (items_in rest)) path u (members_scoped within path (path ++ Token h.name ∷ []) u a)
   | inr b ↦ scoped_more path (items_placed path (items_in rest)) (items_placed path (items_in (Block (header.Message h) i within j rest))) u (file_block_more (header.Message h) within path (items_in rest)) (items_scoped rest path u b)
 ]
-items_scoped (Block (header.Service h) i within j rest) path u c = elim (Contains-append_cases (flat_uses (path ++ Token h.name ∷ []) within) (item_uses path rest) u c) [
-  | inl a ↦ service_item h.name (picked method_names block_names within) (items_in rest) path u (flat_scope within (path ++ Token h.name ∷ []) u a)
+items_scoped (Block (header.Service h) i within j rest) path u c = elim (Contains-append_cases (flat_uses path (path ++ Token h.name ∷ []) within) (item_uses path rest) u c) [
+  | inl a ↦ service_item h.name (picked method_names block_names within) (items_in rest) path u (flat_scope within path (path ++ Token h.name ∷ []) u a)
   | inr b ↦ scoped_more path (items_placed path (items_in rest)) (items_placed path (items_in (Block (header.Service h) i within j rest))) u (file_block_more (header.Service h) within path (items_in rest)) (items_scoped rest path u b)
 ]
-items_scoped (Block (header.Enum h) i within j rest) path u c = scoped_more path (items_placed path (items_in rest)) (items_placed path (items_in (Block (header.Enum h) i within j rest))) u (file_block_more (header.Enum h) within path (items_in rest)) (items_scoped rest path u c)
+items_scoped (Block (header.Enum h) i within j rest) path u c = elim (Contains-append_cases (flat_uses path path within) (item_uses path rest) u c) [
+  | inl a ↦ at_path path (items_placed path (items_in (Block (header.Enum h) i within j rest))) u (inner_scope within path u a)
+  | inr b ↦ scoped_more path (items_placed path (items_in rest)) (items_placed path (items_in (Block (header.Enum h) i within j rest))) u (file_block_more (header.Enum h) within path (items_in rest)) (items_scoped rest path u b)
+]
 items_scoped (Block (header.Extend e) i within j rest) path u c = elim (Contains-append_cases (block_uses path (header.Extend e) [] within) (item_uses path rest) u c) [
   | inl a ↦ at_path path (items_placed path (items_in (Block (header.Extend e) i within j rest))) u (extend_scope e within path u a)
   | inr b ↦ scoped_more path (items_placed path (items_in rest)) (items_placed path (items_in (Block (header.Extend e) i within j rest))) u (file_block_more (header.Extend e) within path (items_in rest)) (items_scoped rest path u b)

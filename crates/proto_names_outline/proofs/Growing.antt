@@ -1,5 +1,5 @@
 -- Lists of declarations and references, as they grow (for the crates above).
-use Rattle.std.proofs.Common.{◌≡◌, ℕ, suc, ◌+◌, ◌<◌, ◌≤◌, List, [], ◌∷◌, ◌++◌, length, get_or, map, refl, sym, ◌∙◌, ap, subst, arith, append_assoc, length-append, inl, inr, drop, Option, Some, All, append-nil}
+use Rattle.std.proofs.Common.{◌≡◌, ℕ, suc, ◌+◌, ◌<◌, ◌≤◌, List, [], ◌∷◌, ◌++◌, length, get_or, map, flat_map, refl, sym, ◌∙◌, ap, subst, arith, append_assoc, length-append, inl, inr, drop, Option, Some, All, append-nil}
 use Rattle.proto_base.proofs.Common.{cases_lt, map-append, length-map, get_or_append_left, at_drop_more, at_drop_all}
 use Rattle.std.proofs.Math.Seq.{get_or-append_seam}
 use Rattle.proto_tree.proofs.Common.{Tree, End, joined_trees, trees}
@@ -43,7 +43,7 @@ uses-more : (ds more : List Placed) (us : List Use) → All (λ u. needs u.scope
 uses-more ds more [] a = refl
 uses-more ds more (u ∷ us) a =
     let e : path_at (ds ++ more) u.scope ≡ path_at ds u.scope = path_at-more ds more u.scope (a 0 u (omega arith)) in
-    ap (λ (path : List (Source ℕ)). used_as path u.wants_message u.reference.now ∷ map (used_by (ds ++ more)) us) e
+    ap (λ (path : List (Source ℕ)). used_as path u.wants u.reference.now ∷ map (used_by (ds ++ more)) us) e
     ∙ ap (λ (rest : List (Used ℕ)). used_by ds u ∷ rest) (uses-more ds more us (λ k d l. a (suc k) d (omega arith)))
 
 -- ---- tokens
@@ -101,6 +101,16 @@ adds_as {old = old} {above = above} a p u =
       declared = a.declared ∙ ap (λ (ds : List Placed). read old.declared.items ++ ds) (p path);
       used = λ s. a.used s ∙ ap (λ (us : List (Used ℕ)). uses_in old ++ us) (u path);
     }
+
+-- the same references, in the scope that these have
+pub adds_used : {old new : Listing} {above : Above} {placed : List (Source ℕ) → List Placed} {uses uses' : List (Source ℕ) → List (Used ℕ)}
+    → Adds old new above placed uses → uses (path_at (read old.declared.items) above) ≡ uses' (path_at (read old.declared.items) above) → Adds old new above placed uses'
+adds_used {old = old} a u = record {
+  grown = a.grown;
+  sound = a.sound;
+  declared = a.declared;
+  used = λ s. a.used s ∙ ap (λ (us : List (Used ℕ)). uses_in old ++ us) u;
+}
 
 -- one after the other, below the same
 pub adds_then : {old mid new : Listing} {above : Above} {p q : List (Source ℕ) → List Placed} {u v : List (Source ℕ) → List (Used ℕ)}
@@ -186,7 +196,7 @@ adds_entry {old = old} {new = new} e d u l t =
 
 -- one reference more
 pub adds_use : {old new : Listing} (u : Use) → new.declared.items ≡ old.declared.items → new.used.items ≡ old.used.items ++ u ∷ [] → needs u.scope ≤ length old.declared.items
-    → Adds old new u.scope (λ path. []) (λ path. used_as path u.wants_message u.reference.now ∷ [])
+    → Adds old new u.scope (λ path. []) (λ path. used_as path u.wants u.reference.now ∷ [])
 adds_use {old = old} {new = new} u d e l =
     let len : length new.declared.items ≡ length old.declared.items = ap length d in
     record {
@@ -240,3 +250,16 @@ adds_end view p u parts items i e l above =
     adds_as (adds_none l above)
     (λ path. sym (at_drop_all (λ xs. p path (trees view xs)) items i e ∙ parts.no_placed path))
     (λ path. sym (at_drop_all (λ xs. u path (trees view xs)) items i e ∙ parts.no_used path))
+
+-- a turn of a loop over items that refer and declare nothing
+pub adds_each : {A : Type 0} (f : List (Source ℕ) → A → List (Used ℕ)) {old mid new : Listing} {above : Above} (items : List A) (i : ℕ) (x : A) → i < length items → x ≡ get_or items i x
+    → Adds old mid above (λ path. []) (λ path. f path x) → Adds mid new above (λ path. []) (λ path. flat_map (f path) (drop (i + 1) items)) → needs above ≤ length old.declared.items
+    → Adds old new above (λ path. []) (λ path. flat_map (f path) (drop i items))
+adds_each f items i x l e a b n =
+    adds_as (adds_then a b n) (λ path. refl)
+    (λ path. sym (at_drop_more (flat_map (f path)) items i x l ∙ ap (λ y. f path y ++ flat_map (f path) (drop (i + 1) items)) (sym e)))
+
+-- no such item is left
+pub adds_each_end : {A : Type 0} (f : List (Source ℕ) → A → List (Used ℕ)) (items : List A) (i : ℕ) → length items ≤ i → (l : Listing) (above : Above)
+    → Adds l l above (λ path. []) (λ path. flat_map (f path) (drop i items))
+adds_each_end f items i e l above = adds_as (adds_none l above) (λ path. refl) (λ path. sym (at_drop_all (flat_map (f path)) items i e))

@@ -1,5 +1,6 @@
 mod Behind
 pub mod Common
+mod CoreUses
 pub mod FromTree
 pub mod Growing
 pub mod InTokens

@@ -10,7 +10,7 @@ use Rattle.proto_tree.proofs.Common.{Tree, joined_trees, method_by}
 use Rattle.proto_names_rules.specs.declared.kind.Kind.{Kind}
 use Rattle.proto_names_rules.specs.declared.kind.Kind.TheVariants.{Field, Value, Method, Extension}
 use Rattle.proto_names_rules.proofs.Common.{Source, Token, Used, Placed, place, all_placed, package_of, prefixes}
-use Rattle.proto_names_outline.specs.Common.{field_names, value_names, method_names, no_names, block_names, picked, members_in, items_in, signature_uses, flat_uses, member_uses, item_uses, file_names, Above, Outermost, Listed, Listing, Adds, IsSound, items_below, package_first, path_at, read, used_by, uses_in, last_token, whole}
+use Rattle.proto_names_outline.specs.Common.{field_names, value_names, method_names, no_names, block_names, picked, members_in, items_in, flat_uses, member_uses, item_uses, file_names, Above, Outermost, Listed, Listing, Adds, IsSound, items_below, package_first, path_at, read, used_by, uses_in, last_token, whole}
 use Rattle.proto_names_outline.proofs.Behind.{picked_joined, members_joined, items_joined, flat_joined, member_uses_joined, item_uses_joined}
 use Rattle.proto_names_outline.proofs.Growing.{IsParted}
 
@@ -40,23 +40,31 @@ members_placed path t = all_placed path (members_in t)
 abbrev pub items_placed : List (Source ℕ) → Tree → List Placed
 items_placed path t = items_below path (items_in t)
 
-abbrev pub no_uses : List (Source ℕ) → Tree → List (Used ℕ)
-no_uses path t = []
+-- the references of a block's items, where those of its options stand in the scope of the others
+abbrev pub inner_uses : List (Source ℕ) → Tree → List (Used ℕ)
+inner_uses path t = flat_uses path path t
 
-pub fields_parted : IsParted fields_placed flat_uses
-fields_parted = record { no_placed = λ path. refl; no_used = λ path. refl; placed = names_joined Field field_names no_names; used = flat_joined }
+abbrev pub none_placed : List (Source ℕ) → Tree → List Placed
+none_placed path t = []
 
-pub extensions_parted : IsParted extensions_placed flat_uses
-extensions_parted = record { no_placed = λ path. refl; no_used = λ path. refl; placed = names_joined Extension field_names no_names; used = flat_joined }
+pub fields_parted : IsParted fields_placed inner_uses
+fields_parted = record { no_placed = λ path. refl; no_used = λ path. refl; placed = names_joined Field field_names no_names; used = λ path. flat_joined path path }
 
-pub values_parted : IsParted values_placed no_uses
-values_parted = record { no_placed = λ path. refl; no_used = λ path. refl; placed = names_joined Value value_names no_names; used = λ path s t. refl }
+pub extensions_parted : IsParted extensions_placed inner_uses
+extensions_parted = record { no_placed = λ path. refl; no_used = λ path. refl; placed = names_joined Extension field_names no_names; used = λ path. flat_joined path path }
 
-pub methods_parted : IsParted methods_placed flat_uses
-methods_parted = record { no_placed = λ path. refl; no_used = λ path. refl; placed = names_joined Method method_names block_names; used = flat_joined }
+pub values_parted : IsParted values_placed inner_uses
+values_parted = record { no_placed = λ path. refl; no_used = λ path. refl; placed = names_joined Value value_names no_names; used = λ path. flat_joined path path }
 
-pub members_parted : IsParted members_placed member_uses
-members_parted = record { no_placed = λ path. refl; no_used = λ path. refl; placed = members_joined; used = member_uses_joined }
+pub methods_parted : (around : List (Source ℕ)) → IsParted methods_placed (flat_uses around)
+methods_parted around = record { no_placed = λ path. refl; no_used = λ path. refl; placed = names_joined Method method_names block_names; used = flat_joined around }
+
+-- items that declare nothing
+pub none_parted : IsParted none_placed inner_uses
+none_parted = record { no_placed = λ path. refl; no_used = λ path. refl; placed = λ path s t. refl; used = λ path. flat_joined path path }
+
+pub members_parted : (around : List (Source ℕ)) → IsParted members_placed (member_uses around)
+members_parted around = record { no_placed = λ path. refl; no_used = λ path. refl; placed = members_joined; used = member_uses_joined around }
 
 pub items_parted : IsParted items_placed item_uses
 items_parted = record { no_placed = λ path. refl; no_used = λ path. refl; placed = items_joined; used = item_uses_joined }
@@ -66,9 +74,10 @@ pub method_placed : (s : Signature) (end : MethodEnd) (path : List (Source ℕ))
 method_placed s (method_end.Semicolon i) path = refl
 method_placed s (method_end.Block i items j) path = refl
 
-pub method_used : (s : Signature) (end : MethodEnd) (path : List (Source ℕ)) → flat_uses path (method_by s end) ≡ signature_uses path s
-method_used s (method_end.Semicolon i) path = refl
-method_used s (method_end.Block i items j) path = refl
+-- its references, whatever stands around the service
+pub method_alike : (s : Signature) (end : MethodEnd) (around path : List (Source ℕ)) → flat_uses path path (method_by s end) ≡ flat_uses around path (method_by s end)
+method_alike s (method_end.Semicolon i) around path = refl
+method_alike s (method_end.Block i items j) around path = refl
 
 -- ---- a file
 

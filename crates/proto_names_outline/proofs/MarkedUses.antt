@@ -1,11 +1,15 @@
 -- The references and imports of a tree, by their tokens: these rise, and each is what its place wants.
-use Rattle.std.proofs.Common.{◌≡◌, ℕ, ◌+◌, ◌<◌, ◌≤◌, Bool, true, false, List, [], ◌∷◌, ◌++◌, length, get_or, map, Option, Some, None, is_some, refl, sym, ap, subst, ◌∙◌, inl, inr, arith, length-append, All, AllPairs, Contains}
+use Rattle.std.proofs.Common.{◌≡◌, ℕ, ◌+◌, ◌<◌, ◌≤◌, List, [], ◌∷◌, ◌++◌, length, get_or, map, flat_map, append_assoc, Option, Some, None, is_some, refl, sym, ap, subst, ◌∙◌, inl, inr, arith, length-append, All, AllPairs, Contains}
 use Rattle.proto_base.proofs.Common.{AllByRecursion, All-nil, All-cons, All-weaker, Contains-append_right, AllPairs-cons, contains_cases, contains_head}
 use Rattle.proto_tree.specs.declared.class.Class.TheVariants as class
 use Rattle.proto_tree.specs.declared.class.Expected.TheVariants as want
 use Rattle.proto_tree.specs.declared.tree.Behind.{Behind}
 use Rattle.proto_tree.specs.declared.tree.Separated.{Separated}
 use Rattle.proto_tree.specs.declared.tree.Reference.{Reference}
+use Rattle.proto_tree.specs.declared.tree.Custom.{Custom}
+use Rattle.proto_tree.specs.declared.tree.Setting.{Setting}
+use Rattle.proto_tree.specs.declared.tree.Setting.TheVariants as setting
+use Rattle.proto_tree.specs.declared.tree.Settings.{Settings}
 use Rattle.proto_tree.specs.declared.tree.FieldType.{FieldType}
 use Rattle.proto_tree.specs.declared.tree.FieldType.TheVariants as field_type
 use Rattle.proto_tree.specs.declared.tree.MethodType.{MethodType}
@@ -15,10 +19,13 @@ use Rattle.proto_tree.specs.declared.piece.Statement.TheVariants as statement
 use Rattle.proto_tree.specs.declared.piece.Extending.{Extending}
 use Rattle.proto_tree.specs.declared.piece.Header.{Header}
 use Rattle.proto_tree.specs.declared.piece.Header.TheVariants as header
-use Rattle.proto_tree.proofs.Common.{mark, only, one, word, name, text_mark, flat_all, flat_behind, flat_option, flat_words, flat_reference, flat_type, flat_settings, flat_import, flat_field, flat_map_field, flat_method_type, flat_signature, flat_statement, flat_header, Tree, End, Leaf, Block, flat, dotted, first_of, word_token, flat_modifier}
+use Rattle.proto_tree.specs.Flat.{flat_custom, flat_custom_value, flat_extension_name, flat_option_statement}
+use Rattle.proto_tree.proofs.Common.{mark, only, one, word, name, text_mark, flat_all, flat_behind, flat_option, flat_words, flat_reference, flat_type, flat_setting, flat_settings, flat_dotted, flat_value, flat_signed, flat_import, flat_field, flat_map_field, flat_method_type, flat_signature, flat_statement, flat_header, Tree, End, Leaf, Block, flat, dotted, first_of, word_token, flat_modifier}
+use Rattle.proto_names_rules.specs.declared.wants.Wants.{Wants}
+use Rattle.proto_names_rules.specs.declared.wants.Wants.TheVariants as wants
 use Rattle.proto_names_rules.proofs.Common.{Source, Token, Used, Rising, rising_spreads, Spreads}
 use Rattle.proto_tree.proofs.SpacedWords.{words_stand_apart}
-use Rattle.proto_names_outline.specs.FromTree.{used_as, type_uses, signature_uses, statement_uses, header_uses, flat_uses, block_uses, member_uses, item_uses, Wanted, statement_imports, imports_in}
+use Rattle.proto_names_outline.specs.FromTree.{used_as, type_uses, signature_uses, setting_uses, settings_uses, option_uses, statement_uses, header_uses, flat_uses, block_uses, member_uses, item_uses, Wanted, statement_imports, imports_in}
 use Rattle.proto_names_outline.proofs.MarkedTokens.{Are, are_numbered, are_left, are_right, are_at, leaf_step, block_step}
 
 module _ (W R S : ℕ → Type 0) where
@@ -170,8 +177,8 @@ module _ (W R S : ℕ → Type 0) where
       let hi = n + length (flat_words (Some dot) d) in
       (a.0, (omega (arith, a.2.0), omega (arith, a.2.0), a.2.1, behind_rise d.rest (n + 1 + 1) (d.first + 1) hi a.2.2 (omega (arith, a.2.0)) (omega arith)))
 
-  reference_rises : (scope : List (Source ℕ)) (wants_message : Bool) (r : Reference) (n : ℕ) → Are W R S n (flat_reference r) → Uses n (n + length (flat_reference r)) (used_as scope wants_message r ∷ [])
-  reference_rises scope wants_message r n a =
+  reference_rises : (scope : List (Source ℕ)) (what : Wants) (r : Reference) (n : ℕ) → Are W R S n (flat_reference r) → Uses n (n + length (flat_reference r)) (used_as scope what r ∷ [])
+  reference_rises scope what r n a =
       let at = words_at r.dot r.words n a in
       let hi = n + length (flat_reference r) in
       let apart = words_stand_apart r n (are_numbered W R S n (flat_reference r) a) in (
@@ -186,17 +193,17 @@ module _ (W R S : ℕ → Type 0) where
 
   type_rises : (scope : List (Source ℕ)) (t : FieldType) (n : ℕ) → Are W R S n (flat_type t) → Uses n (n + length (flat_type t)) (type_uses scope t)
   type_rises scope (field_type.Scalar i) n a = omega arith
-  type_rises scope (field_type.Reference r) n a = reference_rises scope false r n a
+  type_rises scope (field_type.Reference r) n a = reference_rises scope wants.Type r n a
 
-  method_type_rises : (scope : List (Source ℕ)) (t : MethodType) (n : ℕ) → Are W R S n (flat_method_type t) → Uses n (n + length (flat_method_type t)) (used_as scope true t.reference ∷ [])
+  method_type_rises : (scope : List (Source ℕ)) (t : MethodType) (n : ℕ) → Are W R S n (flat_method_type t) → Uses n (n + length (flat_method_type t)) (used_as scope wants.Message t.reference ∷ [])
   method_type_rises scope t n a =
       let stream = flat_option (one class.Stream) t.stream in
       let behind = flat_reference t.reference ++ one class.RightParenthesis t.close in
       let k = n + 1 + length stream in
       let l1 = length-append stream behind in
       let l2 = length-append (flat_reference t.reference) (one class.RightParenthesis t.close) in
-      let r = reference_rises scope true t.reference k (are_left W R S k (flat_reference t.reference) (one class.RightParenthesis t.close) (are_right W R S (n + 1) stream behind a.2)) in
-      uses_law.within (used_as scope true t.reference ∷ []) k (k + length (flat_reference t.reference)) n (n + length (flat_method_type t)) (omega arith) (omega (arith, l1, l2)) r
+      let r = reference_rises scope wants.Message t.reference k (are_left W R S k (flat_reference t.reference) (one class.RightParenthesis t.close) (are_right W R S (n + 1) stream behind a.2)) in
+      uses_law.within (used_as scope wants.Message t.reference ∷ []) k (k + length (flat_reference t.reference)) n (n + length (flat_method_type t)) (omega arith) (omega (arith, l1, l2)) r
 
   signature_rises : (scope : List (Source ℕ)) (s : Signature) (n : ℕ) → Are W R S n (flat_signature s) → Uses n (n + length (flat_signature s)) (signature_uses scope s)
   signature_rises scope s n a =
@@ -208,42 +215,132 @@ module _ (W R S : ℕ → Type 0) where
       let rest = are_right W R S k (flat_method_type s.input) behind a.2.2 in
       let output = method_type_rises scope s.output (m + 1) rest.2 in
       uses_law.within (signature_uses scope s) k (m + 1 + length (flat_method_type s.output)) n (n + length (flat_signature s)) (omega arith) (omega (arith, l))
-      (uses_law.append (used_as scope true s.input.reference ∷ []) (used_as scope true s.output.reference ∷ []) k m (m + 1) (m + 1 + length (flat_method_type s.output)) (omega arith) input output)
+      (uses_law.append (used_as scope wants.Message s.input.reference ∷ []) (used_as scope wants.Message s.output.reference ∷ []) k m (m + 1) (m + 1 + length (flat_method_type s.output)) (omega arith) input output)
 
-  statement_rises : (scope : List (Source ℕ)) (s : Statement) (n : ℕ) → Are W R S n (flat_statement s) → Uses n (n + length (flat_statement s)) (statement_uses scope s)
-  statement_rises scope (statement.Field f) n a =
+  -- ---- names of custom options
+
+  -- the name of an extension is a reference whose first word may be a listed one
+  name_at : (dot : Option ℕ) (d : Separated ℕ) (n : ℕ) → Are W R S n (flat_option (one class.Dot) dot ++ flat_dotted d) → Are W R S n (flat_words dot d)
+  name_at None d n a = a
+  name_at (Some dot) d n a = a
+
+  as_long : (dot : Option ℕ) (d : Separated ℕ) → length (flat_words dot d) ≡ length (flat_option (one class.Dot) dot ++ flat_dotted d)
+  as_long None d = refl
+  as_long (Some dot) d = refl
+
+  custom_rises : (scope : List (Source ℕ)) (c : Custom) (n : ℕ) → Are W R S n (flat_custom c) → Uses n (n + length (flat_custom c)) (used_as scope wants.Extension c.name ∷ [])
+  custom_rises scope c n a =
+      let behind = one class.RightParenthesis c.close ++ (flat_all (flat_behind class.Dot (only want.OptionName)) c.path ++ (one class.Equals c.equals ++ flat_custom_value c.value)) in
+      let l1 = length-append (flat_extension_name c.name) behind in
+      let l2 = as_long c.name.dot c.name.words in
+      let r = reference_rises scope wants.Extension c.name (n + 1) (name_at c.name.dot c.name.words (n + 1) (are_left W R S (n + 1) (flat_extension_name c.name) behind a.2)) in
+      uses_law.within (used_as scope wants.Extension c.name ∷ []) (n + 1) (n + 1 + length (flat_reference c.name)) n (n + length (flat_custom c)) (omega arith) (omega (arith, l1, l2)) r
+
+  setting_rises : (scope : List (Source ℕ)) (s : Setting) (n : ℕ) → Are W R S n (flat_setting s) → Uses n (n + length (flat_setting s)) (setting_uses scope s)
+  setting_rises scope (setting.Plain p) n a = omega arith
+  setting_rises scope (setting.Custom c) n a = custom_rises scope c n a
+
+  settings_behind : (scope : List (Source ℕ)) (bs : List (Behind Setting)) (n : ℕ) → Are W R S n (flat_all (flat_behind class.Comma flat_setting) bs) → Uses n (n + length (flat_all (flat_behind class.Comma flat_setting) bs)) (flat_map (λ b. setting_uses scope b.item) bs)
+  settings_behind scope [] n a = omega arith
+  settings_behind scope (b ∷ bs) n a =
+      let first = flat_setting b.item in
+      let more = flat_all (flat_behind class.Comma flat_setting) bs in
+      let used = setting_uses scope b.item in
+      let m = n + 1 + length first in
+      let l = length-append first more in
+      uses_law.within (used ++ flat_map (λ b. setting_uses scope b.item) bs) (n + 1) (m + length more) n (n + length (flat_all (flat_behind class.Comma flat_setting) (b ∷ bs))) (omega arith) (omega (arith, l))
+      (uses_law.append used (flat_map (λ b. setting_uses scope b.item) bs) (n + 1) m m (m + length more) (omega arith)
+      (setting_rises scope b.item (n + 1) (are_left W R S (n + 1) first more a.2)) (settings_behind scope bs m (are_right W R S (n + 1) first more a.2)))
+
+  settings_rise : (scope : List (Source ℕ)) (o : Option Settings) (n : ℕ) → Are W R S n (flat_option flat_settings o) → Uses n (n + length (flat_option flat_settings o)) (settings_uses scope o)
+  settings_rise scope None n a = omega arith
+  settings_rise scope (Some s) n a =
+      let first = flat_setting s.list.first in
+      let more = flat_all (flat_behind class.Comma flat_setting) s.list.rest in
+      let last = one class.RightBracket s.close in
+      let used = setting_uses scope s.list.first in
+      let rest = flat_map (λ b. setting_uses scope b.item) s.list.rest in
+      let m = n + 1 + length first in
+      let l1 = length-append first more in
+      let l2 = length-append (first ++ more) last in
+      let listed = are_left W R S (n + 1) (first ++ more) last a.2 in
+      uses_law.within (used ++ rest) (n + 1) (m + length more) n (n + length (flat_settings s)) (omega arith) (omega (arith, l1, l2))
+      (uses_law.append used rest (n + 1) m m (m + length more) (omega arith)
+      (setting_rises scope s.list.first (n + 1) (are_left W R S (n + 1) first more listed)) (settings_behind scope s.list.rest m (are_right W R S (n + 1) first more listed)))
+
+  -- a part of a stretch, and settings further on
+  with_settings : (scope : List (Source ℕ)) (o : Option Settings) (used : List (Used ℕ)) (lo mid next hi : ℕ) → Uses lo mid used → mid ≤ next → Are W R S next (flat_option flat_settings o) → next + length (flat_option flat_settings o) ≤ hi → Uses lo hi (used ++ settings_uses scope o)
+  with_settings scope o used lo mid next hi u l a le =
+      let end = next + length (flat_option flat_settings o) in
+      uses_law.within (used ++ settings_uses scope o) lo end lo hi (omega arith) le (uses_law.append used (settings_uses scope o) lo mid next end l u (settings_rise scope o next a))
+
+  -- ---- statements
+
+  option_rises : (scope : List (Source ℕ)) (s : Statement) (n : ℕ) → Are W R S n (flat_statement s) → Uses n (n + length (flat_statement s)) (option_uses scope s)
+  option_rises scope (statement.Option o) n a =
+      let last = one class.Semicolon o.semicolon in
+      let l = length-append (flat_setting o.setting) last in
+      uses_law.within (setting_uses scope o.setting) (n + 1) (n + 1 + length (flat_setting o.setting)) n (n + length (flat_option_statement o)) (omega arith) (omega (arith, l))
+      (setting_rises scope o.setting (n + 1) (are_left W R S (n + 1) (flat_setting o.setting) last a.2))
+  option_rises scope _ n a = omega arith
+
+  statement_rises : (around scope : List (Source ℕ)) (s : Statement) (n : ℕ) → Are W R S n (flat_statement s) → Uses n (n + length (flat_statement s)) (statement_uses around scope s)
+  statement_rises around scope (statement.Field f) n a =
       let label = flat_option (only want.Label) f.label in
-      let tail = name f.name ++ (one class.Equals f.equals ++ (one class.Number f.number ++ (flat_option flat_settings f.settings ++ one class.Semicolon f.semicolon))) in
+      let last = one class.Semicolon f.semicolon in
+      let tail = name f.name ++ (one class.Equals f.equals ++ (one class.Number f.number ++ (flat_option flat_settings f.settings ++ last))) in
       let k = n + length label in
+      let m = k + length (flat_type f.kind) in
       let l1 = length-append label (flat_type f.kind ++ tail) in
       let l2 = length-append (flat_type f.kind) tail in
-      uses_law.within (type_uses scope f.kind) k (k + length (flat_type f.kind)) n (n + length (flat_field f)) (omega arith) (omega (arith, l1, l2))
-      (type_rises scope f.kind k (are_left W R S k (flat_type f.kind) tail (are_right W R S n label (flat_type f.kind ++ tail) a)))
-  statement_rises scope (statement.MapField f) n a =
-      let tail = one class.Greater f.close ++ (name f.name ++ (one class.Equals f.equals ++ (one class.Number f.number ++ (flat_option flat_settings f.settings ++ one class.Semicolon f.semicolon)))) in
+      let l3 = length-append (flat_option flat_settings f.settings) last in
+      let typed = are_right W R S n label (flat_type f.kind ++ tail) a in
+      let behind = are_right W R S k (flat_type f.kind) tail typed in
+      uses_law.within (type_uses scope f.kind ++ settings_uses scope f.settings) k (n + length (flat_field f)) n (n + length (flat_field f)) (omega arith) (omega arith)
+      (with_settings scope f.settings (type_uses scope f.kind) k m (m + 1 + 1 + 1) (n + length (flat_field f)) (type_rises scope f.kind k (are_left W R S k (flat_type f.kind) tail typed)) (omega arith)
+      (are_left W R S (m + 1 + 1 + 1) (flat_option flat_settings f.settings) last behind.2.2.2) (omega (arith, l1, l2, l3)))
+  statement_rises around scope (statement.MapField f) n a =
+      let last = one class.Semicolon f.semicolon in
+      let tail = one class.Greater f.close ++ (name f.name ++ (one class.Equals f.equals ++ (one class.Number f.number ++ (flat_option flat_settings f.settings ++ last)))) in
       let k = n + 1 + 1 + 1 + 1 in
-      let l = length-append (flat_type f.value) tail in
-      uses_law.within (type_uses scope f.value) k (k + length (flat_type f.value)) n (n + length (flat_map_field f)) (omega arith) (omega (arith, l))
-      (type_rises scope f.value k (are_left W R S k (flat_type f.value) tail a.2.2.2.2))
-  statement_rises scope (statement.Method s end) n a =
+      let m = k + length (flat_type f.value) in
+      let l1 = length-append (flat_type f.value) tail in
+      let l2 = length-append (flat_option flat_settings f.settings) last in
+      let behind = are_right W R S k (flat_type f.value) tail a.2.2.2.2 in
+      uses_law.within (type_uses scope f.value ++ settings_uses scope f.settings) k (n + length (flat_map_field f)) n (n + length (flat_map_field f)) (omega arith) (omega arith)
+      (with_settings scope f.settings (type_uses scope f.value) k m (m + 1 + 1 + 1 + 1) (n + length (flat_map_field f)) (type_rises scope f.value k (are_left W R S k (flat_type f.value) tail a.2.2.2.2)) (omega arith)
+      (are_left W R S (m + 1 + 1 + 1 + 1) (flat_option flat_settings f.settings) last behind.2.2.2.2) (omega (arith, l1, l2)))
+  statement_rises around scope (statement.Value v) n a =
+      let last = one class.Semicolon v.semicolon in
+      let tail = flat_option flat_settings v.settings ++ last in
+      let k = n + 1 + 1 + length (flat_signed v.number) in
+      let l1 = length-append (flat_signed v.number) tail in
+      let l2 = length-append (flat_option flat_settings v.settings) last in
+      with_settings scope v.settings [] n n k (n + length (flat_value v)) (omega arith) (omega arith)
+      (are_left W R S k (flat_option flat_settings v.settings) last (are_right W R S (n + 1 + 1) (flat_signed v.number) tail a.2.2)) (omega (arith, l1, l2))
+  statement_rises around scope (statement.Method s end) n a =
       let l = length-append (flat_signature s) (one class.Semicolon end) in
       uses_law.within (signature_uses scope s) n (n + length (flat_signature s)) n (n + length (flat_signature s ++ one class.Semicolon end)) (omega arith) (omega (arith, l))
       (signature_rises scope s n (are_left W R S n (flat_signature s) (one class.Semicolon end) a))
-  statement_rises scope _ n a = omega arith
+  statement_rises around scope (statement.Option o) n a = option_rises around (statement.Option o) n a
+  statement_rises around scope _ n a = omega arith
 
   header_rises : (scope : List (Source ℕ)) (h : Header) (n : ℕ) → Are W R S n (flat_header h) → Uses n (n + length (flat_header h)) (header_uses scope h)
   header_rises scope (header.Method s) n a = signature_rises scope s n a
   header_rises scope (header.Extend e) n a =
-      uses_law.within (header_uses scope (header.Extend e)) (n + 1) (n + 1 + length (flat_reference e.extendee)) n (n + length (flat_header (header.Extend e))) (omega arith) (omega arith) (reference_rises scope true e.extendee (n + 1) a.2)
+      uses_law.within (header_uses scope (header.Extend e)) (n + 1) (n + 1 + length (flat_reference e.extendee)) n (n + length (flat_header (header.Extend e))) (omega arith) (omega arith) (reference_rises scope wants.Message e.extendee (n + 1) a.2)
   header_rises scope _ n a = omega arith
 
-  flat_rise : (t : Tree) (scope : List (Source ℕ)) (n hi : ℕ) → Are W R S n (flat t) → hi ≡ n + length (flat t) → Uses n hi (flat_uses scope t)
-  flat_rise End scope n hi a e = omega (arith, e)
-  flat_rise (Leaf s rest) scope n hi a e = leaf_step W R S Uses uses_law s rest n hi (statement_uses scope s) (flat_uses scope rest) a e (statement_rises scope s n) (λ c b f. flat_rise rest scope c hi b f)
-  flat_rise (Block h i within j rest) scope n hi a e =
-      block_step W R S Uses uses_law h i within j rest n hi (header_uses scope h) (flat_uses scope rest) a e
-      (λ x y head le inner f. uses_law.within (header_uses scope h) n (n + length (flat_header h)) n y (omega arith) (omega (arith, le, f)) (header_rises scope h n head))
-      (λ c b f. flat_rise rest scope c hi b f)
+  flat_rise : (t : Tree) (around scope : List (Source ℕ)) (n hi : ℕ) → Are W R S n (flat t) → hi ≡ n + length (flat t) → Uses n hi (flat_uses around scope t)
+  flat_rise End around scope n hi a e = omega (arith, e)
+  flat_rise (Leaf s rest) around scope n hi a e = leaf_step W R S Uses uses_law s rest n hi (statement_uses around scope s) (flat_uses around scope rest) a e (statement_rises around scope s n) (λ c b f. flat_rise rest around scope c hi b f)
+  flat_rise (Block h i within j rest) around scope n hi a e =
+      let head = header_uses scope h in
+      let inner = flat_uses scope scope within in
+      subst (Uses n hi) (append_assoc head inner (flat_uses around scope rest))
+      (block_step W R S Uses uses_law h i within j rest n hi (head ++ inner) (flat_uses around scope rest) a e
+      (λ x y first le within' f. uses_law.append head inner n (n + length (flat_header h)) x y le (header_rises scope h n first) (flat_rise within scope scope x y within' f))
+      (λ c b f. flat_rise rest around scope c hi b f))
 
   -- what is used between the braces alone
   abbrev Inside : Header → Tree → List (Used ℕ) → Type 0
@@ -252,39 +349,43 @@ module _ (W R S : ℕ → Type 0) where
   inside : (h : Header) (within : Tree) (used : List (Used ℕ)) → ((a b : ℕ) → Are W R S a (flat within) → b ≡ a + length (flat within) → Uses a b used) → Inside h within used
   inside h within used r n a b head le inner f = uses_law.within used a b n b (omega (arith, le)) (omega arith) (r a b inner f)
 
+  flat_inside : (h : Header) (within : Tree) (around scope : List (Source ℕ)) → Inside h within (flat_uses around scope within)
+  flat_inside h within around scope = inside h within (flat_uses around scope within) (flat_rise within around scope)
+
   extending : (e : Extending) (within : Tree) (scope : List (Source ℕ)) → Inside (header.Extend e) within (block_uses scope (header.Extend e) [] within)
   extending e within scope n a b head le inner f =
-      uses_law.append (header_uses scope (header.Extend e)) (flat_uses scope within) n (n + length (flat_header (header.Extend e))) a b le (header_rises scope (header.Extend e) n head) (flat_rise within scope a b inner f)
+      uses_law.append (header_uses scope (header.Extend e)) (flat_uses scope scope within) n (n + length (flat_header (header.Extend e))) a b le (header_rises scope (header.Extend e) n head) (flat_rise within scope scope a b inner f)
 
   nothing : (h : Header) (within : Tree) → Inside h within []
   nothing h within n a b head le inner f = omega (arith, le, f)
 
-  members_rise : (t : Tree) (scope : List (Source ℕ)) (n hi : ℕ) → Are W R S n (flat t) → hi ≡ n + length (flat t) → Uses n hi (member_uses scope t)
-  members_rise End scope n hi a e = omega (arith, e)
-  members_rise (Leaf s rest) scope n hi a e = leaf_step W R S Uses uses_law s rest n hi (statement_uses scope s) (member_uses scope rest) a e (statement_rises scope s n) (λ c b f. members_rise rest scope c hi b f)
-  members_rise (Block (header.Message h) i within j rest) scope n hi a e =
-      let used = member_uses (scope ++ Token h.name ∷ []) within in
-      block_step W R S Uses uses_law (header.Message h) i within j rest n hi used (member_uses scope rest) a e
-      (inside (header.Message h) within used (λ x y inner f. members_rise within (scope ++ Token h.name ∷ []) x y inner f) n) (λ c b f. members_rise rest scope c hi b f)
-  members_rise (Block (header.Oneof h) i within j rest) scope n hi a e =
-      block_step W R S Uses uses_law (header.Oneof h) i within j rest n hi (flat_uses scope within) (member_uses scope rest) a e
-      (inside (header.Oneof h) within (flat_uses scope within) (flat_rise within scope) n) (λ c b f. members_rise rest scope c hi b f)
-  members_rise (Block (header.Extend x) i within j rest) scope n hi a e =
-      block_step W R S Uses uses_law (header.Extend x) i within j rest n hi (block_uses scope (header.Extend x) [] within) (member_uses scope rest) a e (extending x within scope n) (λ c b f. members_rise rest scope c hi b f)
-  members_rise (Block whole i within j rest) scope n hi a e =
-      block_step W R S Uses uses_law whole i within j rest n hi [] (member_uses scope rest) a e (nothing whole within n) (λ c b f. members_rise rest scope c hi b f)
+  members_rise : (t : Tree) (around scope : List (Source ℕ)) (n hi : ℕ) → Are W R S n (flat t) → hi ≡ n + length (flat t) → Uses n hi (member_uses around scope t)
+  members_rise End around scope n hi a e = omega (arith, e)
+  members_rise (Leaf s rest) around scope n hi a e = leaf_step W R S Uses uses_law s rest n hi (statement_uses around scope s) (member_uses around scope rest) a e (statement_rises around scope s n) (λ c b f. members_rise rest around scope c hi b f)
+  members_rise (Block (header.Message h) i within j rest) around scope n hi a e =
+      let used = member_uses scope (scope ++ Token h.name ∷ []) within in
+      block_step W R S Uses uses_law (header.Message h) i within j rest n hi used (member_uses around scope rest) a e
+      (inside (header.Message h) within used (members_rise within scope (scope ++ Token h.name ∷ [])) n) (λ c b f. members_rise rest around scope c hi b f)
+  members_rise (Block (header.Oneof h) i within j rest) around scope n hi a e =
+      block_step W R S Uses uses_law (header.Oneof h) i within j rest n hi (flat_uses scope scope within) (member_uses around scope rest) a e (flat_inside (header.Oneof h) within scope scope n) (λ c b f. members_rise rest around scope c hi b f)
+  members_rise (Block (header.Enum h) i within j rest) around scope n hi a e =
+      block_step W R S Uses uses_law (header.Enum h) i within j rest n hi (flat_uses scope scope within) (member_uses around scope rest) a e (flat_inside (header.Enum h) within scope scope n) (λ c b f. members_rise rest around scope c hi b f)
+  members_rise (Block (header.Extend x) i within j rest) around scope n hi a e =
+      block_step W R S Uses uses_law (header.Extend x) i within j rest n hi (block_uses scope (header.Extend x) [] within) (member_uses around scope rest) a e (extending x within scope n) (λ c b f. members_rise rest around scope c hi b f)
+  members_rise (Block whole i within j rest) around scope n hi a e =
+      block_step W R S Uses uses_law whole i within j rest n hi [] (member_uses around scope rest) a e (nothing whole within n) (λ c b f. members_rise rest around scope c hi b f)
 
   pub items_rise : (t : Tree) (scope : List (Source ℕ)) (n hi : ℕ) → Are W R S n (flat t) → hi ≡ n + length (flat t) → Uses n hi (item_uses scope t)
   items_rise End scope n hi a e = omega (arith, e)
-  items_rise (Leaf s rest) scope n hi a e = leaf_step W R S Uses uses_law s rest n hi [] (item_uses scope rest) a e (λ b. omega arith) (λ c b f. items_rise rest scope c hi b f)
+  items_rise (Leaf s rest) scope n hi a e = leaf_step W R S Uses uses_law s rest n hi (option_uses scope s) (item_uses scope rest) a e (option_rises scope s n) (λ c b f. items_rise rest scope c hi b f)
   items_rise (Block (header.Message h) i within j rest) scope n hi a e =
-      let used = member_uses (scope ++ Token h.name ∷ []) within in
+      let used = member_uses scope (scope ++ Token h.name ∷ []) within in
       block_step W R S Uses uses_law (header.Message h) i within j rest n hi used (item_uses scope rest) a e
-      (inside (header.Message h) within used (members_rise within (scope ++ Token h.name ∷ [])) n) (λ c b f. items_rise rest scope c hi b f)
+      (inside (header.Message h) within used (members_rise within scope (scope ++ Token h.name ∷ [])) n) (λ c b f. items_rise rest scope c hi b f)
+  items_rise (Block (header.Enum h) i within j rest) scope n hi a e =
+      block_step W R S Uses uses_law (header.Enum h) i within j rest n hi (flat_uses scope scope within) (item_uses scope rest) a e (flat_inside (header.Enum h) within scope scope n) (λ c b f. items_rise rest scope c hi b f)
   items_rise (Block (header.Service h) i within j rest) scope n hi a e =
-      let used = flat_uses (scope ++ Token h.name ∷ []) within in
-      block_step W R S Uses uses_law (header.Service h) i within j rest n hi used (item_uses scope rest) a e
-      (inside (header.Service h) within used (flat_rise within (scope ++ Token h.name ∷ [])) n) (λ c b f. items_rise rest scope c hi b f)
+      block_step W R S Uses uses_law (header.Service h) i within j rest n hi (flat_uses scope (scope ++ Token h.name ∷ []) within) (item_uses scope rest) a e (flat_inside (header.Service h) within scope (scope ++ Token h.name ∷ []) n) (λ c b f. items_rise rest scope c hi b f)
   items_rise (Block (header.Extend x) i within j rest) scope n hi a e =
       block_step W R S Uses uses_law (header.Extend x) i within j rest n hi (block_uses scope (header.Extend x) [] within) (item_uses scope rest) a e (extending x within scope n) (λ c b f. items_rise rest scope c hi b f)
   items_rise (Block h i within j rest) scope n hi a e =

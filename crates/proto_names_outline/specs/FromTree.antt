@@ -1,9 +1,12 @@
 -- What a file's tree declares and uses: the symbols of the language, and the references with their
 -- scopes.
-use Rattle.std.specs.Prelude.{ℕ, Bool, true, false, List, [], ◌∷◌, ◌++◌, map, is_some}
+use Rattle.std.specs.Prelude.{ℕ, Bool, List, [], ◌∷◌, ◌++◌, map, flat_map, is_some, Option, Some, None}
 use Rattle.proto_tree.specs.declared.tree.Reference.{Reference}
 use Rattle.proto_tree.specs.declared.tree.FieldType.{FieldType}
 use Rattle.proto_tree.specs.declared.tree.FieldType.TheVariants as field_type
+use Rattle.proto_tree.specs.declared.tree.Setting.{Setting}
+use Rattle.proto_tree.specs.declared.tree.Setting.TheVariants as setting
+use Rattle.proto_tree.specs.declared.tree.Settings.{Settings}
 use Rattle.proto_tree.specs.declared.tree.Signature.{Signature}
 use Rattle.proto_tree.specs.declared.piece.Statement.{Statement}
 use Rattle.proto_tree.specs.declared.piece.Statement.TheVariants as statement
@@ -12,6 +15,8 @@ use Rattle.proto_tree.specs.declared.piece.Header.TheVariants as header
 use Rattle.proto_tree.specs.Modifiers.{is_public, is_weak}
 use Rattle.proto_tree.specs.Tree.{Tree, End, Leaf, Block}
 use Rattle.proto_tree.specs.References.{dotted, first_of}
+use Rattle.proto_names_rules.specs.declared.wants.Wants.{Wants}
+use Rattle.proto_names_rules.specs.declared.wants.Wants.TheVariants as wants
 use Rattle.proto_names_rules.specs.Skeleton.{Source, Token, Used}
 use Rattle.proto_names_rules.specs.Tree.{field, map_field, oneof, message, enum, service, extend, Members, no_members, member, Items, no_items, packaged, item, package_of}
 use Rattle.proto_names_rules.specs.Grown.{FileNames}
@@ -99,14 +104,13 @@ items_in (Block h opens within closes rest) = file_block h within (items_in rest
 
 -- ---- references
 
--- a use of a reference, in a scope, where a message is wanted or any type; the file is filled in where
--- it is known
-abbrev pub used_as : List (Source ℕ) → Bool → Reference → Used ℕ
-used_as scope wants_message r = record {
+-- a use of a reference, in a scope, by what is wanted; the file is filled in where it is known
+abbrev pub used_as : List (Source ℕ) → Wants → Reference → Used ℕ
+used_as scope what r = record {
   file = 0;
   scope = scope;
   is_absolute = is_some r.dot;
-  wants_message = wants_message;
+  wants = what;
   first = first_of r.dot r.words;
   tokens = dotted r.words;
 }
@@ -114,64 +118,112 @@ used_as scope wants_message r = record {
 -- the references of a field's type
 abbrev pub type_uses : List (Source ℕ) → FieldType → List (Used ℕ)
 type_uses scope (field_type.Scalar t) = []
-type_uses scope (field_type.Reference r) = used_as scope false r ∷ []
+type_uses scope (field_type.Reference r) = used_as scope wants.Type r ∷ []
 
 -- the references of a method: its input and its output
 abbrev pub signature_uses : List (Source ℕ) → Signature → List (Used ℕ)
 signature_uses scope s =
-    used_as scope true s.input.reference ∷ used_as scope true s.output.reference ∷ []
+    used_as scope wants.Message s.input.reference
+    ∷ used_as scope wants.Message s.output.reference ∷ []
 
--- the references of a statement, in a scope
-abbrev pub statement_uses : List (Source ℕ) → Statement → List (Used ℕ)
-statement_uses scope (statement.Field f) = type_uses scope f.kind
-statement_uses scope (statement.MapField f) = type_uses scope f.value
-statement_uses scope (statement.Method s end) = signature_uses scope s
-statement_uses scope _ = []
+-- the name of an option that is set, if it is a custom one
+abbrev pub setting_uses : List (Source ℕ) → Setting → List (Used ℕ)
+setting_uses scope (setting.Plain p) = []
+setting_uses scope (setting.Custom c) = used_as scope wants.Extension c.name ∷ []
+
+-- the names of the custom options between brackets
+abbrev pub settings_uses : List (Source ℕ) → Option Settings → List (Used ℕ)
+settings_uses scope None = []
+settings_uses scope (Some s) =
+    setting_uses scope s.list.first ++ flat_map (λ b. setting_uses scope b.item) s.list.rest
+
+-- the name of the custom option that a statement is, if it is one, in a scope
+abbrev pub option_uses : List (Source ℕ) → Statement → List (Used ℕ)
+option_uses scope (statement.Option o) = setting_uses scope o.setting
+option_uses scope (statement.Syntax s) = []
+option_uses scope (statement.Import i) = []
+option_uses scope (statement.Package p) = []
+option_uses scope (statement.Field f) = []
+option_uses scope (statement.MapField f) = []
+option_uses scope (statement.Reserved r) = []
+option_uses scope (statement.Extensions e) = []
+option_uses scope (statement.Value v) = []
+option_uses scope (statement.EnumReserved r) = []
+option_uses scope (statement.Method s end) = []
+option_uses scope (statement.Empty i) = []
+
+-- the references of a statement: of an option in the scope around the block that it stands in, of
+-- all else in the scope of what that block declares
+abbrev pub statement_uses : List (Source ℕ) → List (Source ℕ) → Statement → List (Used ℕ)
+statement_uses around scope (statement.Field f) =
+    type_uses scope f.kind ++ settings_uses scope f.settings
+statement_uses around scope (statement.MapField f) =
+    type_uses scope f.value ++ settings_uses scope f.settings
+statement_uses around scope (statement.Value v) = settings_uses scope v.settings
+statement_uses around scope (statement.Method s end) = signature_uses scope s
+statement_uses around scope (statement.Option o) = option_uses around (statement.Option o)
+statement_uses around scope (statement.Syntax s) = []
+statement_uses around scope (statement.Import i) = []
+statement_uses around scope (statement.Package p) = []
+statement_uses around scope (statement.Reserved r) = []
+statement_uses around scope (statement.Extensions e) = []
+statement_uses around scope (statement.EnumReserved r) = []
+statement_uses around scope (statement.Empty i) = []
 
 -- the references of a header: those of a method that has a block, and what an `extend` extends
 abbrev pub header_uses : List (Source ℕ) → Header → List (Used ℕ)
 header_uses scope (header.Method s) = signature_uses scope s
-header_uses scope (header.Extend e) = used_as scope true e.extendee ∷ []
-header_uses scope _ = []
+header_uses scope (header.Extend e) = used_as scope wants.Message e.extendee ∷ []
+header_uses scope (header.Message h) = []
+header_uses scope (header.Oneof h) = []
+header_uses scope (header.Enum h) = []
+header_uses scope (header.Service h) = []
 
--- the references in a oneof, in a service or in an `extend`, where the scope stays
-abbrev pub flat_uses : List (Source ℕ) → Tree → List (Used ℕ)
-flat_uses scope End = []
-flat_uses scope (Leaf s rest) = statement_uses scope s ++ flat_uses scope rest
-flat_uses scope (Block h opens within closes rest) =
-    header_uses scope h ++ flat_uses scope rest
+-- the references in a oneof, an enum, a service, a method or an `extend`, in the scope of what it
+-- declares and in that around it; the options of a method stand in its service
+abbrev pub flat_uses : List (Source ℕ) → List (Source ℕ) → Tree → List (Used ℕ)
+flat_uses around scope End = []
+flat_uses around scope (Leaf s rest) =
+    statement_uses around scope s ++ flat_uses around scope rest
+flat_uses around scope (Block h opens within closes rest) =
+    header_uses scope h ++ (flat_uses scope scope within ++ flat_uses around scope rest)
 
 -- the references in a block, given those in it if it is a message: the scope is the message or
--- service around them; that of an `extend` and of all in it is what stands around the `extend`
+-- service around them; that of an `extend`, of a oneof and of an enum, and of all in these, is what
+-- stands around the block, and so is that of a service's options
 abbrev pub block_uses : List (Source ℕ) → Header → List (Used ℕ) → Tree → List (Used ℕ)
 block_uses scope (header.Message h) inner within = inner
-block_uses scope (header.Oneof h) inner within = flat_uses scope within
-block_uses scope (header.Service h) inner within = flat_uses (scope ++ Token h.name ∷ []) within
-block_uses scope (header.Enum h) inner within = []
+block_uses scope (header.Oneof h) inner within = flat_uses scope scope within
+block_uses scope (header.Service h) inner within =
+    flat_uses scope (scope ++ Token h.name ∷ []) within
+block_uses scope (header.Enum h) inner within = flat_uses scope scope within
 block_uses scope (header.Method s) inner within = []
 block_uses scope (header.Extend e) inner within =
-    header_uses scope (header.Extend e) ++ flat_uses scope within
+    header_uses scope (header.Extend e) ++ flat_uses scope scope within
 
 -- the scope in a block: one level deeper in a message
 abbrev pub scope_in : List (Source ℕ) → Header → List (Source ℕ)
 scope_in scope (header.Message h) = scope ++ Token h.name ∷ []
 scope_in scope _ = scope
 
--- the references in a message
-abbrev pub member_uses : List (Source ℕ) → Tree → List (Used ℕ)
-member_uses scope End = []
-member_uses scope (Leaf s rest) = statement_uses scope s ++ member_uses scope rest
-member_uses scope (Block (header.Service h) opens within closes rest) = member_uses scope rest
-member_uses scope (Block h opens within closes rest) =
-    block_uses scope h (member_uses (scope_in scope h) within) within ++ member_uses scope rest
+-- the references in a message: its options stand in the scope around it
+abbrev pub member_uses : List (Source ℕ) → List (Source ℕ) → Tree → List (Used ℕ)
+member_uses around scope End = []
+member_uses around scope (Leaf s rest) =
+    statement_uses around scope s ++ member_uses around scope rest
+member_uses around scope (Block (header.Service h) opens within closes rest) =
+    member_uses around scope rest
+member_uses around scope (Block h opens within closes rest) =
+    block_uses scope h (member_uses scope (scope_in scope h) within) within
+    ++ member_uses around scope rest
 
--- the references in a file, below its package
+-- the references in a file, below its package, and the names of its options
 abbrev pub item_uses : List (Source ℕ) → Tree → List (Used ℕ)
 item_uses scope End = []
-item_uses scope (Leaf s rest) = item_uses scope rest
+item_uses scope (Leaf s rest) = option_uses scope s ++ item_uses scope rest
 item_uses scope (Block (header.Oneof h) opens within closes rest) = item_uses scope rest
 item_uses scope (Block h opens within closes rest) =
-    block_uses scope h (member_uses (scope_in scope h) within) within ++ item_uses scope rest
+    block_uses scope h (member_uses scope (scope_in scope h) within) within ++ item_uses scope rest
 
 -- what a file declares and uses
 abbrev pub file_names : Tree → FileNames

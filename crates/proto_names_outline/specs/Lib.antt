@@ -1,4 +1,5 @@
 pub mod Common
+pub mod Core
 pub mod FromTree
 pub mod Listing
 pub mod Moved

@@ -91,7 +91,7 @@ package_first items =
 
 -- a use as listed: its scope is the path of what stands right above it
 abbrev pub used_by : List Placed → Use → Used ℕ
-used_by declared u = used_as (path_at declared u.scope) u.wants_message u.reference.now
+used_by declared u = used_as (path_at declared u.scope) u.wants u.reference.now
 
 -- the references of a file as its lists say them
 abbrev pub uses_in : Listing → List (Used ℕ)

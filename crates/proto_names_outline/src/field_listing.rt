@@ -2,15 +2,16 @@
 
 ghost use Rattle.std.specs.Prelude.{◌<◌, ◌≤◌, ◌++◌, length, [], ◌∷◌, map, OnOk};
 ghost use Rattle.proto_tree.specs.File.{oneof_item_tree, trees};
-ghost use Rattle.proto_names_outline.specs.FromTree.{field_names, no_names, picked, type_uses, flat_uses};
+ghost use Rattle.proto_names_outline.specs.FromTree.{field_names, no_names, picked, type_uses, settings_uses, flat_uses};
 ghost use Rattle.proto_names_outline.specs.Listing.{Adds, needs};
 ghost use Rattle.proto_names_outline.specs.declared.listing.Above.TheVariants.{Below};
 ghost use Rattle.proto_names_rules.specs.Skeleton.{Token, EntryOf, Given};
 ghost use Rattle.proto_names_rules.specs.Tree.{place, placed, beside, key_word, value_word, map_field};
 
 use crate::listing::{Above, LastWord, Listed, Listing};
+use crate::option_listing::{list_setting, list_settings};
 use proto_base::NoMemory;
-use proto_names_rules::Kind;
+use proto_names_rules::{Kind, Wants};
 use proto_tree::{Field, FieldType, MapField, Oneof, OneofItem};
 
 /// The reference of a type, if it is one.
@@ -25,7 +26,7 @@ pub(crate) fn list_type<'a>(
 {
     match kind {
         FieldType::Scalar(_) => Ok(()),
-        FieldType::Reference(reference) => listing.refer(scope, false, reference),
+        FieldType::Reference(reference) => listing.refer(scope, Wants::Type, reference),
     }
 }
 
@@ -37,10 +38,11 @@ pub(crate) fn list_field<'a>(
     requires { scope < length listing.old.declared.items }
     ensures { OnOk result (Adds listing.old listing.new (Below scope)
         (λ path. place path (Token field.now.name) Kind.Field ∷ [])
-        (λ path. type_uses path field.now.kind)) }
+        (λ path. type_uses path field.now.kind ++ settings_uses path field.now.settings)) }
 {
     listing.name(Above::Below(scope), field.name, Kind::Field)?;
-    list_type(listing, Above::Below(scope), &field.kind)
+    list_type(listing, Above::Below(scope), &field.kind)?;
+    list_settings(listing, Above::Below(scope), &field.settings)
 }
 
 /// A map field, its entry and the entry's fields.
@@ -51,11 +53,13 @@ pub(crate) fn list_map_field<'a>(
 ) -> Result<(), NoMemory>
     requires { scope < length listing.old.declared.items }
     ensures { OnOk result (Adds listing.old listing.new (Below scope)
-        (λ path. placed path (map_field field.now.name)) (λ path. type_uses path field.now.value)) }
+        (λ path. placed path (map_field field.now.name))
+        (λ path. type_uses path field.now.value ++ settings_uses path field.now.settings)) }
 {
     listing.name(Above::Below(scope), field.name, Kind::Field)?;
     list_entry(listing, scope, field.name)?;
-    list_type(listing, Above::Below(scope), &field.value)
+    list_type(listing, Above::Below(scope), &field.value)?;
+    list_settings(listing, Above::Below(scope), &field.settings)
 }
 
 fn list_entry(listing: &mut Listing, scope: usize, token: u32) -> Result<(), NoMemory>
@@ -96,13 +100,13 @@ pub(crate) fn list_oneof<'a>(
     ensures { OnOk result (Adds listing.old listing.new (Below scope)
         (λ path. beside path oneof.now.name Kind.Oneof Kind.Field
         (picked field_names no_names (trees oneof_item_tree oneof.now.members.items)))
-        (λ path. flat_uses path (trees oneof_item_tree oneof.now.members.items))) }
+        (λ path. flat_uses path path (trees oneof_item_tree oneof.now.members.items))) }
 {
     listing.name(Above::Below(scope), oneof.name, Kind::Oneof)?;
     list_oneof_items(listing, scope, &oneof.members)
 }
 
-/// What stands in a oneof: a field, or an option, which declares nothing.
+/// What stands in a oneof: a field, or an option, whose name stands in the scope of the fields.
 fn list_oneof_item<'a>(
     listing: &mut Listing<'a>,
     scope: usize,
@@ -112,11 +116,11 @@ fn list_oneof_item<'a>(
     ensures { OnOk result (Adds listing.old listing.new (Below scope)
         (λ path. map (λ i. place path (Token i) Kind.Field)
         (picked field_names no_names (oneof_item_tree item.now)))
-        (λ path. flat_uses path (oneof_item_tree item.now))) }
+        (λ path. flat_uses path path (oneof_item_tree item.now))) }
 {
     match item {
         OneofItem::Field(field) => list_field(listing, scope, field),
-        OneofItem::Option(_) => Ok(()),
+        OneofItem::Option(option) => list_setting(listing, Above::Below(scope), &option.setting),
     }
 }
 
@@ -129,7 +133,7 @@ fn list_oneof_items<'a>(
     ensures { OnOk result (Adds listing.old listing.new (Below scope)
         (λ path. map (λ i. place path (Token i) Kind.Field)
         (picked field_names no_names (trees oneof_item_tree items.now)))
-        (λ path. flat_uses path (trees oneof_item_tree items.now))) }
+        (λ path. flat_uses path path (trees oneof_item_tree items.now))) }
 {
     for item in items {
         list_oneof_item(listing, scope, item)?;

@@ -13,6 +13,7 @@ use crate::enum_listing::list_enum;
 use crate::extend_listing::list_extend;
 use crate::listing::{Above, Listing};
 use crate::message_listing::list_message;
+use crate::option_listing::list_setting;
 use crate::service_listing::list_service;
 use crate::wanted::package;
 use proto_base::NoMemory;
@@ -79,6 +80,10 @@ fn list_item<'a>(listing: &mut Listing<'a>, above: Above, item: &'a Item) -> Res
         Item::Enum(names) => list_enum(listing, above, names),
         Item::Service(service) => list_service(listing, above, service),
         Item::Extend(block) => list_extend(listing, above, block),
-        _ => Ok(()),
+        Item::Option(option) => list_setting(listing, above, &option.setting),
+        Item::Syntax(_) => Ok(()),
+        Item::Import(_) => Ok(()),
+        Item::Package(_) => Ok(()),
+        Item::Empty(_) => Ok(()),
     }
 }

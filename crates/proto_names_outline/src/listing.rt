@@ -7,7 +7,7 @@ ghost use Rattle.proto_names_rules.specs.Skeleton.{Token};
 ghost use Rattle.proto_names_rules.specs.Tree.{place};
 
 use proto_base::NoMemory;
-use proto_names_rules::Kind;
+use proto_names_rules::{Kind, Wants};
 use proto_tree::Reference;
 use std::alloc::Global;
 
@@ -44,7 +44,7 @@ pub struct Listed {
 #[derive(Clone, Copy)]
 pub struct Use<'a> {
     pub scope: Above,
-    pub wants_message: bool,
+    pub wants: Wants,
     pub reference: &'a Reference,
 }
 
@@ -103,16 +103,16 @@ impl<'a> Listing<'a> {
     pub(crate) fn refer(
         &mut self,
         scope: Above,
-        wants_message: bool,
+        wants: Wants,
         reference: &'a Reference,
     ) -> Result<(), NoMemory>
         requires { needs scope ≤ length self.old.declared.items }
         ensures { OnOk result (Adds self.old self.new
-            scope (λ path. []) (λ path. used_as path wants_message reference.now ∷ [])) }
+            scope (λ path. []) (λ path. used_as path wants reference.now ∷ [])) }
     {
         self.used.push(Use {
             scope,
-            wants_message,
+            wants,
             reference,
         })?;
         Ok(())

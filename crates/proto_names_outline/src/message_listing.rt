@@ -3,7 +3,7 @@
 ghost use Rattle.std.specs.Prelude.{◌<◌, ◌≤◌, ◌++◌, length, [], ◌∷◌, OnOk};
 ghost use Rattle.proto_tree.specs.File.{trees, member_tree};
 ghost use Rattle.proto_names_outline.specs.FromTree.{members_in, member_uses};
-ghost use Rattle.proto_names_outline.specs.Listing.{Adds, needs};
+ghost use Rattle.proto_names_outline.specs.Listing.{Adds, needs, path_at, read};
 ghost use Rattle.proto_names_outline.specs.declared.listing.Above.TheVariants.{Below};
 ghost use Rattle.proto_names_rules.specs.Skeleton.{Token};
 ghost use Rattle.proto_names_rules.specs.Tree.{placed, all_placed, message as message_of};
@@ -12,6 +12,7 @@ use crate::enum_listing::list_enum;
 use crate::extend_listing::list_extend;
 use crate::field_listing::{list_field, list_map_field, list_oneof};
 use crate::listing::{Above, Listing};
+use crate::option_listing::list_setting;
 use proto_base::NoMemory;
 use proto_names_rules::Kind;
 use proto_tree::{Member, Message};
@@ -27,26 +28,29 @@ pub(crate) fn list_message<'a>(
     ensures { OnOk result (Adds listing.old listing.new above
         (λ path. placed path (message_of message.now.name
         (members_in (trees member_tree message.now.members.items))))
-        (λ path. member_uses (path ++ Token message.now.name ∷ [])
+        (λ path. member_uses path (path ++ Token message.now.name ∷ [])
         (trees member_tree message.now.members.items))) }
 {
     let index = listing.name(above, message.name, Kind::Message)?;
-    list_members(listing, index, &message.members)
+    list_members(listing, above, index, &message.members)
 }
 
 #[cycle(messages)]
 fn list_members<'a>(
     listing: &mut Listing<'a>,
+    around: Above,
     scope: usize,
     members: &'a [Member],
 ) -> Result<(), NoMemory>
-    requires { scope < length listing.old.declared.items }
+    requires around { needs around ≤ length listing.old.declared.items }
+    requires within { scope < length listing.old.declared.items }
     ensures { OnOk result (Adds listing.old listing.new (Below scope)
         (λ path. all_placed path (members_in (trees member_tree members.now)))
-        (λ path. member_uses path (trees member_tree members.now))) }
+        (λ path. member_uses (path_at (read listing.old.declared.items) around) path
+        (trees member_tree members.now))) }
 {
     for member in members {
-        list_member(listing, scope, member)?;
+        list_member(listing, around, scope, member)?;
     }
     Ok(())
 }
@@ -54,13 +58,16 @@ fn list_members<'a>(
 #[cycle(messages)]
 fn list_member<'a>(
     listing: &mut Listing<'a>,
+    around: Above,
     scope: usize,
     member: &'a Member,
 ) -> Result<(), NoMemory>
-    requires { scope < length listing.old.declared.items }
+    requires around { needs around ≤ length listing.old.declared.items }
+    requires within { scope < length listing.old.declared.items }
     ensures { OnOk result (Adds listing.old listing.new (Below scope)
         (λ path. all_placed path (members_in (member_tree member.now)))
-        (λ path. member_uses path (member_tree member.now))) }
+        (λ path. member_uses (path_at (read listing.old.declared.items) around) path
+        (member_tree member.now))) }
 {
     match member {
         Member::Field(field) => list_field(listing, scope, field),
@@ -69,6 +76,9 @@ fn list_member<'a>(
         Member::Message(message) => list_message(listing, Above::Below(scope), message),
         Member::Enum(names) => list_enum(listing, Above::Below(scope), names),
         Member::Extend(block) => list_extend(listing, Above::Below(scope), block),
-        _ => Ok(()),
+        Member::Option(option) => list_setting(listing, around, &option.setting),
+        Member::Reserved(_) => Ok(()),
+        Member::Extensions(_) => Ok(()),
+        Member::Empty(_) => Ok(()),
     }
 }

@@ -4,6 +4,7 @@ use Rattle.std.proofs.lemmas.List.{take-append-drop}
 use Rattle.proto_base.proofs.Common.{and_from, and_parts, any_from, any_to, both_ways, cases_Bool, cond-true, cond-false}
 use Rattle.proto_names_rules.proofs.Common.{Collides, IsLinked, IsRenaming, Reference, Renaming, Symbol, Workspace, fits_at_first, hit, hit_relative, hits_at, last_parts, moves_to, moves, name_from_same, ren, ren_apart, rewritten, same_from_name, same_name, sees, split_last, stays, target, turn_below-length, turn_below-more, turned}
 use Rattle.proto_names_rules.specs.Beginnings.{BeginsSo, CapturesBeginSo, IsDeclaredScope, by_entry, by_new, by_old}
+use Rattle.proto_names_rules.proofs.Imports.{none_fits}
 
 -- a word below a name becomes another only right below the parent
 word_there : (e : Renaming) (y : List (List ℕ)) (q p : List ℕ) → (cond (same_name y e.parent) (turned e q) q) ≡ p → (q ≡ p) ⊎ ((moves e q ≡ true) × (turned e q ≡ p))
@@ -33,13 +34,13 @@ module _ (e : Renaming) (w : Workspace) (ok : IsLinked w) (is : IsRenaming e w) 
 
   module _ (k j : ℕ) (hits : hit w r ≡ Some k) (above : k < j) (below : j ≤ length r.scope) where
     -- where the first word stays, the reference would hit at that front already
-    hits_there : (p : List ℕ) (rest : List (List ℕ)) → (p ∷ rest ≡ r.words) → (s : Symbol) → Contains w.symbols s → s.name ≡ take j r.scope ++ p ∷ [] → fits_at_first (p ∷ rest) s.kind ≡ true → sees w r.file s.file ≡ true → hits_at w r j ≡ true
+    hits_there : (p : List ℕ) (rest : List (List ℕ)) → (p ∷ rest ≡ r.words) → (s : Symbol) → Contains w.symbols s → s.name ≡ take j r.scope ++ p ∷ [] → fits_at_first r.wants (p ∷ rest) s.kind ≡ true → sees w r.file s.file ≡ true → hits_at w r j ≡ true
     hits_there p rest is_words s c n f v =
-        any_from (λ t. same_name t.name (take j r.scope ++ take 1 r.words) && (fits_at_first r.words t.kind && sees w r.file t.file)) w.symbols s c
-        (and_from _ _ (same_from_name s.name (take j r.scope ++ take 1 r.words) (n ∙ ap (λ ws. take j r.scope ++ take 1 ws) is_words)) (and_from _ _ (ap (λ ws. fits_at_first ws s.kind) (sym is_words) ∙ f) v))
+        any_from (λ t. same_name t.name (take j r.scope ++ take 1 r.words) && (fits_at_first r.wants r.words t.kind && sees w r.file t.file)) w.symbols s c
+        (and_from _ _ (same_from_name s.name (take j r.scope ++ take 1 r.words) (n ∙ ap (λ ws. take j r.scope ++ take 1 ws) is_words)) (and_from _ _ (ap (λ ws. fits_at_first r.wants ws s.kind) (sym is_words) ∙ f) v))
 
-    begins : (words : List (List ℕ)) → words ≡ r.words → (s : Symbol) → Contains w.symbols s → ren e s.name ≡ ren e (take j r.scope) ++ take 1 (rewritten e (take k r.scope) words) → fits_at_first words s.kind ≡ true → sees w r.file s.file ≡ true → BeginsSo e w r
-    begins [] is_words s c n f v = absurd (true≢false (sym f))
+    begins : (words : List (List ℕ)) → words ≡ r.words → (s : Symbol) → Contains w.symbols s → ren e s.name ≡ ren e (take j r.scope) ++ take 1 (rewritten e (take k r.scope) words) → fits_at_first r.wants words s.kind ≡ true → sees w r.file s.file ≡ true → BeginsSo e w r
+    begins [] is_words s c n f v = absurd (true≢false (sym f ∙ none_fits r.wants s.kind))
     begins (p ∷ rest) is_words s c n f v = elim (cases_Bool (same_name (take k r.scope ++ p ∷ []) (target e))) [
       | inl it ↦
           let at = name_from_same (take k r.scope ++ p ∷ []) (target e) it in
@@ -65,7 +66,7 @@ module _ (e : Renaming) (w : Workspace) (ok : IsLinked w) (is : IsRenaming e w) 
 pub captures_begin_so : CapturesBeginSo
 captures_begin_so e w ok is free r scope c =
     let x = ren e (take c.1 r.scope) ++ take 1 (rewritten e (take c.0 r.scope) r.words) in
-    let s = any_to (λ s. same_name (ren e s.name) x && (fits_at_first r.words s.kind && sees w r.file s.file)) w.symbols c.5 in
-    let a = and_parts (same_name (ren e s.0.name) x) (fits_at_first r.words s.0.kind && sees w r.file s.0.file) s.2 in
-    let b = and_parts (fits_at_first r.words s.0.kind) (sees w r.file s.0.file) a.1 in
+    let s = any_to (λ s. same_name (ren e s.name) x && (fits_at_first r.wants r.words s.kind && sees w r.file s.file)) w.symbols c.5 in
+    let a = and_parts (same_name (ren e s.0.name) x) (fits_at_first r.wants r.words s.0.kind && sees w r.file s.0.file) s.2 in
+    let b = and_parts (fits_at_first r.wants r.words s.0.kind) (sees w r.file s.0.file) a.1 in
     begins e w ok is free r scope c.0 c.1 c.2 c.3 c.4 r.words refl s.0 s.1 (name_from_same (ren e s.0.name) x a.0) b.0 b.1

@@ -24,16 +24,16 @@ pub captured_is : (e : Renaming) (w : Workspace) (r : Reference) → (is_capture
 captured_is e w r = (there (hit w r) refl, back)
   where
     test : ℕ → ℕ → Bool
-    test k j = shows_mapped e w r.file (fits_at_first r.words) (ren e (take j r.scope) ++ take 1 (rewritten e (take k r.scope) r.words))
+    test k j = shows_mapped e w r.file (fits_at_first r.wants r.words) (ren e (take j r.scope) ++ take 1 (rewritten e (take k r.scope) r.words))
 
     there : (o : Option ℕ) → hit w r ≡ o → captured_from e w r (hit w r) ≡ true → IsCaptured e w r
     there None h q = absurd (true≢false (sym q ∙ ap (captured_from e w r) h))
     there (Some k) h q =
-        let a = any_above_to (λ j. shows_mapped e w r.file (fits_at_first r.words) (ren e (take j r.scope) ++ take 1 (rewritten e (take k r.scope) r.words))) k (length r.scope) (ap (captured_from e w r) (sym h) ∙ q) in
+        let a = any_above_to (λ j. shows_mapped e w r.file (fits_at_first r.wants r.words) (ren e (take j r.scope) ++ take 1 (rewritten e (take k r.scope) r.words))) k (length r.scope) (ap (captured_from e w r) (sym h) ∙ q) in
         (k, a.0, h, a.1, a.2, a.3)
 
     back : IsCaptured e w r → captured_from e w r (hit w r) ≡ true
-    back c = ap (captured_from e w r) c.2 ∙ any_above_from (λ j. shows_mapped e w r.file (fits_at_first r.words) (ren e (take j r.scope) ++ take 1 (rewritten e (take c.0 r.scope) r.words))) c.0 (length r.scope) c.1 c.3 c.4 c.5
+    back c = ap (captured_from e w r) c.2 ∙ any_above_from (λ j. shows_mapped e w r.file (fits_at_first r.wants r.words) (ren e (take j r.scope) ++ take 1 (rewritten e (take c.0 r.scope) r.words))) c.0 (length r.scope) c.1 c.3 c.4 c.5
 
 pub collides_is : (e : Renaming) (w : Workspace) → (collides e w ≡ true) ↔ Collides e w
 collides_is e w = (there, back)

@@ -1,10 +1,10 @@
 -- A field less: nothing that is meant, or stands before it, goes.
 use Rattle.std.proofs.Common.{◌≡◌, ◌≢◌, ℕ, zero, suc, ◌<◌, Bool, true, false, ◌&&◌, not, cond, List, [], ◌∷◌, ◌++◌, length, get_or, take, Some, sym, ◌∙◌, ap, subst, inl, inr, ◌⊎◌, arith, append_assoc, length-append, Contains, AllPairs, filter, bytes_eq, true≢false, append-nil}
 use Rattle.proto_base.proofs.Common.{false_from_ne_true, both_ways, and_parts, and_from, not_from_false, not-true, none-some, Contains-get_or, any_from, contains_filter, from_filter}
-use Rattle.proto_names_rules.specs.Common.{Kind, Package, Entry, Field, Symbol, Reference, Workspace, same_name, is_type, fits_at_first, sees, shows, hits_at, meaning, meaning_at, Renaming, moves, is_below, in_domain, deleted, is_leaf, AreApart, IsLinked, EntryStands, IsDeletion}
+use Rattle.proto_names_rules.specs.Common.{Kind, Package, Entry, Field, Symbol, Reference, Workspace, same_name, Wants, fits_at_first, may_resolve_to, sees, shows, hits_at, meaning, meaning_at, Renaming, moves, is_below, in_domain, deleted, is_leaf, AreApart, IsLinked, EntryStands, IsDeletion}
 use Rattle.proto_names_rules.proofs.Basics.{same_from_name}
-use Rattle.proto_names_rules.proofs.Rename.{hit_relative, typed_is, first_and_rest}
-use Rattle.proto_names_rules.proofs.Symbols.{type_not_leaf, one_symbol, shown, front_or_same, below_split, moves_to}
+use Rattle.proto_names_rules.proofs.Rename.{hit_relative, visible_is, first_and_rest}
+use Rattle.proto_names_rules.proofs.Symbols.{wanted_no_entry_field, wanted_no_field, one_symbol, shown, front_or_same, below_split, moves_to}
 use Rattle.proto_names_rules.proofs.Renamed.{has_meaning, meant}
 use Rattle.proto_names_rules.proofs.Imports.{kept_means}
 
@@ -42,9 +42,9 @@ below_more (p ∷ ps) t (x ∷ xs) y h =
     let q = and_parts (bytes_eq x p) (is_below ps t xs) h in
     and_from _ _ q.0 (below_more ps t xs y q.1)
 
--- no front of a type that is no entry goes
-stays_there : (e : Renaming) (w : Workspace) → IsLinked w → IsDeletion e w → (t : Symbol) → Contains w.symbols t → is_type t.kind ≡ true → t.kind ≢ Entry → (a b : List (List ℕ)) → a ++ b ≡ t.name → in_domain e a ≡ false
-stays_there e w ok del t ct ty ne a b h = false_from_ne_true (in_domain e a) (λ q.
+-- no front of what may be meant and is no entry goes
+stays_there : (what : Wants) (e : Renaming) (w : Workspace) → IsLinked w → IsDeletion e w → (t : Symbol) → Contains w.symbols t → may_resolve_to what t.kind ≡ true → t.kind ≢ Entry → (a b : List (List ℕ)) → a ++ b ≡ t.name → in_domain e a ≡ false
+stays_there what e w ok del t ct ty ne a b h = false_from_ne_true (in_domain e a) (λ q.
     let d = below_split e.parent (moves e) a q in
     let v = d.0 in
     let front = e.parent ++ v ∷ [] in
@@ -55,9 +55,6 @@ stays_there e w ok del t ct ty ne a b h = false_from_ne_true (in_domain e a) (λ
       | inr x ↦ let s = subst (EntryStands w e) x.1 del.entry_is in go s.0 s.1 (s.2 ∙ ap (λ z. e.parent ++ z ∷ []) (sym x.2)) (inr s.3) (d.1 ++ b) long name
     ])
   where
-    field_type : (k : Kind) → is_type k ≡ true → k ≡ Field → ⊥
-    field_type k x y = true≢false (sym x ∙ ap is_type y)
-
     not_package : (k : Kind) → (k ≡ Field) ⊎ (k ≡ Entry) → k ≡ Package → ⊥
     not_package k x y = elim x [ inl z ↦ differ1 (sym z ∙ y) | inr z ↦ differ2 (sym z ∙ y) ]
       where
@@ -70,11 +67,11 @@ stays_there e w ok del t ct ty ne a b h = false_from_ne_true (in_domain e a) (λ
     go : {front : List (List ℕ)} (s : Symbol) → Contains w.symbols s → s.name ≡ front → (s.kind ≡ Field) ⊎ (s.kind ≡ Entry) → (rest : List (List ℕ)) → 0 < length front → t.name ≡ front ++ rest → ⊥
     go {front} s cs n k rest long name = elim (front_or_same w.symbols ok.nested front rest t ct name long) [
       | inl none ↦ elim (one_symbol w.symbols ok.unique s t cs ct (n ∙ sym (name ∙ ap (λ x. front ++ x) none ∙ append-nil front))) [
-        | inl same ↦ elim k [ inl z ↦ field_type t.kind ty (sym (ap (λ y. y.kind) same) ∙ z) | inr z ↦ ne (sym (ap (λ y. y.kind) same) ∙ z) ]
+        | inl same ↦ elim k [ inl z ↦ wanted_no_field what t.kind ty (sym (ap (λ y. y.kind) same) ∙ z) | inr z ↦ ne (sym (ap (λ y. y.kind) same) ∙ z) ]
         | inr both ↦ not_package s.kind k both.0
       ]
       | inr u ↦ elim (one_symbol w.symbols ok.unique s u.it cs u.within (n ∙ sym u.name)) [
-        | inl same ↦ elim k [ inl z ↦ both_ways (is_leaf u.it.kind) u.not_leaf (ap is_leaf (sym (ap (λ y. y.kind) same) ∙ z)) | inr z ↦ both_ways (is_leaf t.kind) (type_not_leaf t.kind ty) (u.entry (sym (ap (λ y. y.kind) same) ∙ z)) ]
+        | inl same ↦ elim k [ inl z ↦ both_ways (is_leaf u.it.kind) u.not_leaf (ap is_leaf (sym (ap (λ y. y.kind) same) ∙ z)) | inr z ↦ wanted_no_entry_field what t.kind ty (u.entry (sym (ap (λ y. y.kind) same) ∙ z)) ]
         | inr both ↦ not_package s.kind k both.0
       ]
     ]
@@ -95,18 +92,18 @@ pub deleted_means : (e : Renaming) (w : Workspace) → IsLinked w → IsDeletion
 deleted_means e w ok del refs r cr m h =
     let t = meant w r m h in
     let ne = ok.no_entry r cr t.0 t.1 (h ∙ ap Some (sym t.2)) in
-    let shown_m : shows w r.file is_type m ≡ true = any_from (λ s. same_name s.name m && (is_type s.kind && sees w r.file s.file)) w.symbols t.0 t.1 (and_from _ _ (same_from_name t.0.name m t.2) (and_from _ _ t.3 t.4)) in
+    let shown_m : shows w r.file (may_resolve_to r.wants) m ≡ true = any_from (λ s. same_name s.name m && (may_resolve_to r.wants s.kind && sees w r.file s.file)) w.symbols t.0 t.1 (and_from _ _ (same_from_name t.0.name m t.2) (and_from _ _ t.3 t.4)) in
     kept_means w (deleted e w refs) r m h
-    (shows_still e w refs r.file is_type m (stays_there e w ok del t.0 t.1 t.3 ne m [] (append-nil m ∙ sym t.2)) shown_m)
+    (shows_still e w refs r.file (may_resolve_to r.wants) m (stays_there r.wants e w ok del t.0 t.1 t.3 ne m [] (append-nil m ∙ sym t.2)) shown_m)
     (λ k q.
     (let a = hit_relative w r k q in
-    let y = typed_is w r.file (take k r.scope ++ r.words) m (ap (meaning_at w r) (sym q) ∙ h) in
+    let y = visible_is w r.file (may_resolve_to r.wants) (take k r.scope ++ r.words) m (ap (meaning_at w r) (sym q) ∙ h) in
     let first = first_and_rest r.words in
     let whole : (take k r.scope ++ take 1 r.words) ++ first.0 ≡ t.0.name = append_assoc (take k r.scope) (take 1 r.words) first.0 ∙ ap (λ l. take k r.scope ++ l) first.1 ∙ y.1 ∙ sym t.2 in
-    shows_still e w refs r.file (fits_at_first r.words) (take k r.scope ++ take 1 r.words) (stays_there e w ok del t.0 t.1 t.3 ne (take k r.scope ++ take 1 r.words) first.0 whole) a.1.passes))
+    shows_still e w refs r.file (fits_at_first r.wants r.words) (take k r.scope ++ take 1 r.words) (stays_there r.wants e w ok del t.0 t.1 t.3 ne (take k r.scope ++ take 1 r.words) first.0 whole) a.1.passes))
     (λ k j q above below z.
     (let a = hit_relative w r k q in
-    both_ways (hits_at w r j) (a.1.last j above below) (shows_less e w refs r.file (fits_at_first r.words) (take j r.scope ++ take 1 r.words) z)))
+    both_ways (hits_at w r j) (a.1.last j above below) (shows_less e w refs r.file (fits_at_first r.wants r.words) (take j r.scope ++ take 1 r.words) z)))
 
 pub deleted_linked : (e : Renaming) (w : Workspace) → IsLinked w → IsDeletion e w → (refs : List Reference) → ((r : Reference) → Contains refs r → Contains w.references r) → IsLinked (deleted e w refs)
 deleted_linked e w ok del refs sub = record {

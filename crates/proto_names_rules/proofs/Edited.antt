@@ -198,7 +198,7 @@ module _ {X : Type 0} (text text_after : X → List ℕ) (entry : List ℕ → L
 
   pub reference_after : (u : Used X) → Contains k.used u → reference_of text_after entry u ≡ renamed_reference e (workspace_of text entry k) (reference_of text entry u)
   reference_after u c =
-      λ i. record { file = u.file; scope = path_after (length u.scope) u.scope refl (woven.scopes u c) i; is_absolute = u.is_absolute; wants_message = u.wants_message; words = spelled.words u c i }
+      λ i. record { file = u.file; scope = path_after (length u.scope) u.scope refl (woven.scopes u c) i; is_absolute = u.is_absolute; wants = u.wants; words = spelled.words u c i }
 
   symbols_after : map (symbol_of text_after entry) k.declared ≡ map (renamed_symbol e) (map (symbol_of text entry) k.declared)
   symbols_after =

@@ -1,12 +1,13 @@
 -- Small workspaces, computed.
 use Rattle.std.proofs.Common.{◌≡◌, ℕ, true, false, List, [], ◌∷◌, Some, None, refl}
 use Rattle.proto_names_rules.specs.Common.{Kind, Package, Message, Entry, Service, Field, EntryField, Symbol, Import, Reference, Workspace, meaning, hit, hits_at, sees, Renaming, renamed, renamed_reference, is_captured, collides, ren, with_imports, import_of}
+use Rattle.proto_names_rules.specs.declared.wants.Wants.TheVariants as wants
 
 abbrev sym_of : List (List ℕ) → Kind → ℕ → Symbol
 sym_of name kind file = record { name = name; kind = kind; file = file }
 
 abbrev rel : ℕ → List (List ℕ) → List (List ℕ) → Reference
-rel file scope words = record { file = file; scope = scope; is_absolute = false; wants_message = false; words = words }
+rel file scope words = record { file = file; scope = scope; is_absolute = false; wants = wants.Type; words = words }
 
 abbrev p : List ℕ
 p = 112 ∷ []

@@ -1,10 +1,11 @@
 -- An import more, an import less.
-use Rattle.std.proofs.Common.{◌⊎◌, ◌≡◌, ◌≢◌, ℕ, zero, suc, ◌<◌, ◌≤◌, Bool, true, ◌&&◌, List, [], ◌∷◌, ◌++◌, length, take, Option, Some, None, refl, sym, ◌∙◌, ap, subst, inl, inr, arith, append_assoc, length-append, ◌==◌, Contains, true≢false, eqb-true, length-take-le}
+use Rattle.std.proofs.Common.{◌⊎◌, ◌≡◌, ◌≢◌, ℕ, zero, suc, ◌<◌, ◌≤◌, Bool, true, false, ◌&&◌, List, [], ◌∷◌, ◌++◌, length, take, Option, Some, None, refl, sym, ◌∙◌, ap, subst, inl, inr, arith, append_assoc, length-append, ◌==◌, Contains, true≢false, eqb-true, length-take-le}
 use Rattle.proto_base.proofs.Common.{list_any, cases_Bool, cond-true, cond-false, false_from_ne_true, both_ways, and_parts, and_from, or_cases, or_left, or_right, true_from_ne_false, none-some, same_Some, any_from, any_to}
-use Rattle.proto_names_rules.specs.Common.{Kind, Symbol, Import, Reference, Workspace, same_name, is_type, is_outer, fits_at_first, reaches, sees, shows, greatest, hit, hits_at, meaning, meaning_at, typed, with_imports, import_of, IsAddition, IsOvertaken, IsNeeded, IsNested, IsLinked}
+use Rattle.proto_names_rules.specs.Common.{Kind, Symbol, Import, Reference, Workspace, same_name, Wants, is_outer, fits_at_first, may_resolve_to, reaches, sees, shows, greatest, hit, hits_at, meaning, meaning_at, visible_as, with_imports, import_of, IsAddition, IsOvertaken, IsNeeded, IsNested, IsLinked}
 use Rattle.proto_names_rules.proofs.Basics.{same_from_name, IsGreatest, greatest_is, greatest_above}
-use Rattle.proto_names_rules.proofs.Rename.{hit_relative, hit_from, typed_is, typed_from}
-use Rattle.proto_names_rules.proofs.Symbols.{one_symbol, shown, fronts}
+use Rattle.proto_names_rules.proofs.Rename.{hit_relative, hit_from, visible_is, visible_from}
+use Rattle.proto_names_rules.proofs.Symbols.{one_symbol, shown, fronts, wanted_no_package}
+use Rattle.proto_names_rules.specs.declared.wants.Wants.TheVariants as wants
 use Rattle.proto_names_rules.proofs.Renamed.{has_meaning, meant}
 
 -- more imports reach more
@@ -66,21 +67,21 @@ grown_means w v same r more m h free = go (hit w r) refl
     go : (o : Option ℕ) → hit w r ≡ o → meaning v r ≡ Some m
     go None e = elim (cases_Bool r.is_absolute) [
       | inl abs ↦
-          let t = typed_is w r.file r.words m (sym (cond-true r.is_absolute (typed w r.file r.words) None abs) ∙ ap (meaning_at w r) (sym e) ∙ h) in
+          let t = visible_is w r.file (may_resolve_to r.wants) r.words m (sym (cond-true r.is_absolute (visible_as w r.file (may_resolve_to r.wants) r.words) None abs) ∙ ap (meaning_at w r) (sym e) ∙ h) in
           ap (meaning_at v r) (cond-true r.is_absolute None (greatest (hits_at v r) (length r.scope)) abs)
-          ∙ cond-true r.is_absolute (typed v r.file r.words) None abs
-          ∙ typed_from v r.file r.words (shows_more w v same r.file more is_type r.words t.0) ∙ ap Some t.1
-      | inr rel ↦ absurd (none-some m (sym (cond-false r.is_absolute (typed w r.file r.words) None rel) ∙ ap (meaning_at w r) (sym e) ∙ h))
+          ∙ cond-true r.is_absolute (visible_as v r.file (may_resolve_to r.wants) r.words) None abs
+          ∙ visible_from v r.file (may_resolve_to r.wants) r.words (shows_more w v same r.file more (may_resolve_to r.wants) r.words t.0) ∙ ap Some t.1
+      | inr rel ↦ absurd (none-some m (sym (cond-false r.is_absolute (visible_as w r.file (may_resolve_to r.wants) r.words) None rel) ∙ ap (meaning_at w r) (sym e) ∙ h))
     ]
     go (Some k) e =
         let a = hit_relative w r k e in
-        let t = typed_is w r.file (take k r.scope ++ r.words) m (ap (meaning_at w r) (sym e) ∙ h) in
+        let t = visible_is w r.file (may_resolve_to r.wants) (take k r.scope ++ r.words) m (ap (meaning_at w r) (sym e) ∙ h) in
         let g : IsGreatest (hits_at v r) (length r.scope) k = record {
           within = a.1.within;
-          passes = shows_more w v same r.file more (fits_at_first r.words) (take k r.scope ++ take 1 r.words) a.1.passes;
+          passes = shows_more w v same r.file more (fits_at_first r.wants r.words) (take k r.scope ++ take 1 r.words) a.1.passes;
           last = λ j above below. false_from_ne_true (hits_at v r j) (λ q. free (k, j, e, above, below, q));
         } in
-        ap (meaning_at v r) (hit_from v r k a.0 g) ∙ typed_from v r.file (take k r.scope ++ r.words) (shows_more w v same r.file more is_type (take k r.scope ++ r.words) t.0) ∙ ap Some t.1
+        ap (meaning_at v r) (hit_from v r k a.0 g) ∙ visible_from v r.file (may_resolve_to r.wants) (take k r.scope ++ r.words) (shows_more w v same r.file more (may_resolve_to r.wants) (take k r.scope ++ r.words) t.0) ∙ ap Some t.1
 
 -- What is overtaken means something else, or nothing.
 pub overtaken_differs : (w v : Workspace) (r : Reference) (m : List (List ℕ)) → meaning w r ≡ Some m → IsOvertaken w v r → meaning v r ≢ Some m
@@ -92,8 +93,8 @@ overtaken_differs w v r m h c new =
     let i = higher.0 in
     let g = greatest_is (hits_at v r) (length r.scope) i higher.1 in
     let hit' : hit v r ≡ Some i = hit_from v r i a.0 g in
-    let t' = typed_is v r.file (take i r.scope ++ r.words) m (ap (meaning_at v r) (sym hit') ∙ new) in
-    let t = typed_is w r.file (take k r.scope ++ r.words) m (ap (meaning_at w r) (sym c.2) ∙ h) in
+    let t' = visible_is v r.file (may_resolve_to r.wants) (take i r.scope ++ r.words) m (ap (meaning_at v r) (sym hit') ∙ new) in
+    let t = visible_is w r.file (may_resolve_to r.wants) (take k r.scope ++ r.words) m (ap (meaning_at w r) (sym c.2) ∙ h) in
     let l1 = ap length t'.1 ∙ sym (ap length t.1) in
     let l2 = length-append (take i r.scope) r.words in
     let l3 = length-append (take k r.scope) r.words in
@@ -105,7 +106,7 @@ overtaken_differs w v r m h c new =
 pub added_elsewhere : (w : Workspace) (b : List Import) (file path : ℕ) → IsAddition w b file path → (r : Reference) → r.file ≢ file → IsOvertaken w (with_imports w b) r → ⊥
 added_elsewhere w b file path add r ne c =
     let a = hit_relative w r c.0 c.2 in
-    both_ways (hits_at w r c.1) (a.1.last c.1 c.3 c.4) (shows_more (with_imports w b) w refl r.file (λ g. sees_same w b file path add.only r.file g ne) (fits_at_first r.words) (take c.1 r.scope ++ take 1 r.words) c.5)
+    both_ways (hits_at w r c.1) (a.1.last c.1 c.3 c.4) (shows_more (with_imports w b) w refl r.file (λ g. sees_same w b file path add.only r.file g ne) (fits_at_first r.wants r.words) (take c.1 r.scope ++ take 1 r.words) c.5)
 
 pub added_means : (w : Workspace) (b : List Import) (file path : ℕ) → IsAddition w b file path → (r : Reference) → (r.file ≡ file → IsOvertaken w (with_imports w b) r → ⊥) → (m : List (List ℕ)) → meaning w r ≡ Some m → meaning (with_imports w b) r ≡ Some m
 added_means w b file path add r free m h =
@@ -113,44 +114,62 @@ added_means w b file path add r free m h =
     (λ c. added_elsewhere w b file path add r (λ q. free q c) c)
 
 -- What a meaning needs in another workspace to stay.
-pub kept_means : (w v : Workspace) (r : Reference) (m : List (List ℕ)) → meaning w r ≡ Some m → shows v r.file is_type m ≡ true
+pub kept_means : (w v : Workspace) (r : Reference) (m : List (List ℕ)) → meaning w r ≡ Some m → shows v r.file (may_resolve_to r.wants) m ≡ true
     → ((k : ℕ) → hit w r ≡ Some k → hits_at v r k ≡ true) → ((k j : ℕ) → hit w r ≡ Some k → k < j → j ≤ length r.scope → hits_at v r j ≡ true → ⊥) → meaning v r ≡ Some m
 kept_means w v r m h seen again free = go (hit w r) refl
   where
     go : (o : Option ℕ) → hit w r ≡ o → meaning v r ≡ Some m
     go None e = elim (cases_Bool r.is_absolute) [
       | inl abs ↦
-          let t = typed_is w r.file r.words m (sym (cond-true r.is_absolute (typed w r.file r.words) None abs) ∙ ap (meaning_at w r) (sym e) ∙ h) in
+          let t = visible_is w r.file (may_resolve_to r.wants) r.words m (sym (cond-true r.is_absolute (visible_as w r.file (may_resolve_to r.wants) r.words) None abs) ∙ ap (meaning_at w r) (sym e) ∙ h) in
           ap (meaning_at v r) (cond-true r.is_absolute None (greatest (hits_at v r) (length r.scope)) abs)
-          ∙ cond-true r.is_absolute (typed v r.file r.words) None abs
-          ∙ ap (typed v r.file) t.1 ∙ typed_from v r.file m seen
-      | inr rel ↦ absurd (none-some m (sym (cond-false r.is_absolute (typed w r.file r.words) None rel) ∙ ap (meaning_at w r) (sym e) ∙ h))
+          ∙ cond-true r.is_absolute (visible_as v r.file (may_resolve_to r.wants) r.words) None abs
+          ∙ ap (visible_as v r.file (may_resolve_to r.wants)) t.1 ∙ visible_from v r.file (may_resolve_to r.wants) m seen
+      | inr rel ↦ absurd (none-some m (sym (cond-false r.is_absolute (visible_as w r.file (may_resolve_to r.wants) r.words) None rel) ∙ ap (meaning_at w r) (sym e) ∙ h))
     ]
     go (Some k) e =
         let a = hit_relative w r k e in
-        let t = typed_is w r.file (take k r.scope ++ r.words) m (ap (meaning_at w r) (sym e) ∙ h) in
+        let t = visible_is w r.file (may_resolve_to r.wants) (take k r.scope ++ r.words) m (ap (meaning_at w r) (sym e) ∙ h) in
         let g : IsGreatest (hits_at v r) (length r.scope) k = record {
           within = a.1.within;
           passes = again k e;
           last = λ j above below. false_from_ne_true (hits_at v r j) (free k j e above below);
         } in
-        ap (meaning_at v r) (hit_from v r k a.0 g) ∙ ap (typed v r.file) t.1 ∙ typed_from v r.file m seen
+        ap (meaning_at v r) (hit_from v r k a.0 g) ∙ ap (visible_as v r.file (may_resolve_to r.wants)) t.1 ∙ visible_from v r.file (may_resolve_to r.wants) m seen
 
--- what holds a seen type is seen
-front_shown : (v : Workspace) → IsNested v.symbols → (f : ℕ) (front words : List (List ℕ)) (t : Symbol) → Contains v.symbols t → t.name ≡ front ++ words → is_type t.kind ≡ true → sees v f t.file ≡ true → 0 < length words → shows v f (fits_at_first words) (front ++ take 1 words) ≡ true
-front_shown v nested f front [] t c n ty se l = absurd (omega (arith, l))
-front_shown v nested f front (p ∷ []) t c n ty se l =
-    any_from (λ s. same_name s.name (front ++ p ∷ []) && (is_type s.kind && sees v f s.file)) v.symbols t c (and_from _ _ (same_from_name t.name (front ++ p ∷ []) n) (and_from _ _ ty se))
-front_shown v nested f front (p ∷ q ∷ rest) t c n ty se l =
+-- what may be meant fits where it is the only word
+pub fits_alone : (what : Wants) (p : List ℕ) (k : Kind) → may_resolve_to what k ≡ true → fits_at_first what (p ∷ []) k ≡ true
+fits_alone wants.Type p k h = h
+fits_alone wants.Message p k h = h
+fits_alone wants.Extension p k h = refl
+
+-- what may hold names fits at the first of more words
+pub fits_above : (what : Wants) (p q : List ℕ) (rest : List (List ℕ)) (k : Kind) → is_outer k ≡ true → fits_at_first what (p ∷ q ∷ rest) k ≡ true
+fits_above wants.Type p q rest k h = h
+fits_above wants.Message p q rest k h = h
+fits_above wants.Extension p q rest k h = h
+
+-- what holds a seen symbol that may be meant is seen
+front_shown : (what : Wants) (v : Workspace) → IsNested v.symbols → (f : ℕ) (front words : List (List ℕ)) (t : Symbol) → Contains v.symbols t → t.name ≡ front ++ words → may_resolve_to what t.kind ≡ true → sees v f t.file ≡ true → 0 < length words → shows v f (fits_at_first what words) (front ++ take 1 words) ≡ true
+front_shown what v nested f front [] t c n ty se l = absurd (omega (arith, l))
+front_shown what v nested f front (p ∷ []) t c n ty se l =
+    any_from (λ s. same_name s.name (front ++ p ∷ []) && (fits_at_first what (p ∷ []) s.kind && sees v f s.file)) v.symbols t c (and_from _ _ (same_from_name t.name (front ++ p ∷ []) n) (and_from _ _ (fits_alone what p t.kind ty) se))
+front_shown what v nested f front (p ∷ q ∷ rest) t c n ty se l =
     let u = fronts v.symbols nested (length rest) (q ∷ rest) refl (front ++ p ∷ []) t c (n ∙ sym (append_assoc front (p ∷ []) (q ∷ rest))) (omega (arith, length-append front (p ∷ []))) in
-    any_from (λ s. same_name s.name (front ++ p ∷ []) && (is_outer s.kind && sees v f s.file)) v.symbols u.it u.within (and_from _ _ (same_from_name u.it.name (front ++ p ∷ []) u.name) (and_from _ _ u.outer (ap (sees v f) u.file ∙ se)))
+    any_from (λ s. same_name s.name (front ++ p ∷ []) && (fits_at_first what (p ∷ q ∷ rest) s.kind && sees v f s.file)) v.symbols u.it u.within (and_from _ _ (same_from_name u.it.name (front ++ p ∷ []) u.name) (and_from _ _ (fits_above what p q rest u.it.kind u.outer) (ap (sees v f) u.file ∙ se)))
+
+-- nothing fits at no word
+pub none_fits : (what : Wants) (k : Kind) → fits_at_first what [] k ≡ false
+none_fits wants.Type k = refl
+none_fits wants.Message k = refl
+none_fits wants.Extension k = refl
 
 -- a hit has a word
 pub hit_word : (w : Workspace) (r : Reference) (k : ℕ) → hits_at w r k ≡ true → 0 < length r.words
-hit_word w r k h = let s = shown w r.file (fits_at_first r.words) (take k r.scope ++ take 1 r.words) h in go r.words s.0.kind s.3
+hit_word w r k h = let s = shown w r.file (fits_at_first r.wants r.words) (take k r.scope ++ take 1 r.words) h in go r.words s.0.kind s.3
   where
-    go : (words : List (List ℕ)) (x : Kind) → fits_at_first words x ≡ true → 0 < length words
-    go [] x q = absurd (true≢false (sym q))
+    go : (words : List (List ℕ)) (x : Kind) → fits_at_first r.wants words x ≡ true → 0 < length words
+    go [] x q = absurd (true≢false (sym q ∙ none_fits r.wants x))
     go (p ∷ words) x q = omega arith
 
 -- Drop: what isn't needed keeps its meaning. The front at which it hits stands in the file of what it means.
@@ -159,15 +178,15 @@ shrunk_means w ok b sub r free m h =
     let t = meant w r m h in
     let se : sees (with_imports w b) r.file t.0.file ≡ true = true_from_ne_false (sees (with_imports w b) r.file t.0.file) (λ q. free (t.0, t.1, h ∙ ap Some (sym t.2), q)) in
     kept_means w (with_imports w b) r m h
-    (any_from (λ s. same_name s.name m && (is_type s.kind && sees (with_imports w b) r.file s.file)) w.symbols t.0 t.1 (and_from _ _ (same_from_name t.0.name m t.2) (and_from _ _ t.3 se)))
+    (any_from (λ s. same_name s.name m && (may_resolve_to r.wants s.kind && sees (with_imports w b) r.file s.file)) w.symbols t.0 t.1 (and_from _ _ (same_from_name t.0.name m t.2) (and_from _ _ t.3 se)))
     (λ k e.
     (let a = hit_relative w r k e in
-    let y = typed_is w r.file (take k r.scope ++ r.words) m (ap (meaning_at w r) (sym e) ∙ h) in
-    front_shown (with_imports w b) ok.nested r.file (take k r.scope) r.words t.0 t.1 (t.2 ∙ sym y.1) t.3 se (hit_word w r k a.1.passes)))
+    let y = visible_is w r.file (may_resolve_to r.wants) (take k r.scope ++ r.words) m (ap (meaning_at w r) (sym e) ∙ h) in
+    front_shown r.wants (with_imports w b) ok.nested r.file (take k r.scope) r.words t.0 t.1 (t.2 ∙ sym y.1) t.3 se (hit_word w r k a.1.passes)))
     (λ k j e above below q.
     (let a = hit_relative w r k e in
     both_ways (hits_at w r j) (a.1.last j above below)
-    (shows_more (with_imports w b) w refl r.file (λ g. sees_more (with_imports w b) w.imports sub r.file g) (fits_at_first r.words) (take j r.scope ++ take 1 r.words) q)))
+    (shows_more (with_imports w b) w refl r.file (λ g. sees_more (with_imports w b) w.imports sub r.file g) (fits_at_first r.wants r.words) (take j r.scope ++ take 1 r.words) q)))
 
 -- What is needed loses its meaning.
 pub needed_differs : (w : Workspace) → IsLinked w → (b : List Import) → (r : Reference) (m : List (List ℕ)) → meaning w r ≡ Some m → IsNeeded w (with_imports w b) r → meaning (with_imports w b) r ≢ Some m
@@ -176,7 +195,7 @@ needed_differs w ok b r m h c new =
     let s = c.0 in
     elim (one_symbol w.symbols ok.unique t.0 s t.1 c.1 (t.2 ∙ same_Some m s.name (sym h ∙ c.2))) [
       | inl same ↦ both_ways (sees (with_imports w b) r.file s.file) c.3 (ap (λ z. sees (with_imports w b) r.file z.file) (sym same) ∙ t.4)
-      | inr both ↦ true≢false (sym t.3 ∙ ap is_type both.0)
+      | inr both ↦ wanted_no_package r.wants t.0.kind t.3 both.0
     ]
 
 -- where every meaning stays, the workspace stays linked

@@ -1,29 +1,29 @@
 -- A free rename keeps a workspace linked (for the crates above).
 use Rattle.std.proofs.Common.{◌≡◌, ◌≢◌, ℕ, ◌<◌, true, List, [], ◌∷◌, ◌++◌, length, get_or, take, Option, Some, None, refl, sym, ◌∙◌, ap, subst, inl, inr, arith, map, if◌then◌else◌, length-append, Contains, AllPairs}
 use Rattle.proto_base.proofs.Common.{cases_Bool, cond-true, cond-false, none-some, same_Some, get_or-map, length-map, Contains-get_or, contains_map, from_map}
-use Rattle.proto_names_rules.specs.Common.{Symbol, Reference, Workspace, same_name, is_type, meaning, meaning_at, typed, hit, sees, Renaming, turned, ren, IsClear, Collides, IsCaptured, renamed, renamed_symbol, renamed_reference, holds, IsNested, AreApart, IsLinked, IsRenaming, IsFree}
+use Rattle.proto_names_rules.specs.Common.{Symbol, Reference, Workspace, same_name, may_resolve_to, meaning, meaning_at, visible_as, hit, sees, Renaming, turned, ren, IsClear, Collides, IsCaptured, renamed, renamed_symbol, renamed_reference, holds, IsNested, AreApart, IsLinked, IsRenaming, IsFree}
 use Rattle.proto_names_rules.proofs.Ren.{last_parts, turn_below-more, turn_below-length}
-use Rattle.proto_names_rules.proofs.Rename.{rename_means, captured_means_else, typed_is}
-use Rattle.proto_names_rules.proofs.Symbols.{split_last, ren_apart, type_clear, shown}
+use Rattle.proto_names_rules.proofs.Rename.{rename_means, captured_means_else, visible_is}
+use Rattle.proto_names_rules.proofs.Symbols.{split_last, ren_apart, wanted_clear, shown}
 
 pub has_meaning : {X : Type 0} (o : Option X) → o ≢ None → (x : X) × (o ≡ Some x)
 has_meaning None h = absurd (h refl)
 has_meaning (Some x) h = (x, refl)
 
 -- what is meant is a symbol that is seen
-pub meant : (w : Workspace) (r : Reference) (m : List (List ℕ)) → meaning w r ≡ Some m → (t : Symbol) × Contains w.symbols t × (t.name ≡ m) × (is_type t.kind ≡ true) × (sees w r.file t.file ≡ true)
+pub meant : (w : Workspace) (r : Reference) (m : List (List ℕ)) → meaning w r ≡ Some m → (t : Symbol) × Contains w.symbols t × (t.name ≡ m) × (may_resolve_to r.wants t.kind ≡ true) × (sees w r.file t.file ≡ true)
 meant w r m h = go (hit w r) refl
   where
-    at : (x : List (List ℕ)) → typed w r.file x ≡ Some m → (t : Symbol) × Contains w.symbols t × (t.name ≡ m) × (is_type t.kind ≡ true) × (sees w r.file t.file ≡ true)
+    at : (x : List (List ℕ)) → visible_as w r.file (may_resolve_to r.wants) x ≡ Some m → (t : Symbol) × Contains w.symbols t × (t.name ≡ m) × (may_resolve_to r.wants t.kind ≡ true) × (sees w r.file t.file ≡ true)
     at x q =
-        let t = typed_is w r.file x m q in
-        let s = shown w r.file is_type x t.0 in
+        let t = visible_is w r.file (may_resolve_to r.wants) x m q in
+        let s = shown w r.file (may_resolve_to r.wants) x t.0 in
         (s.0, s.1, s.2 ∙ t.1, s.3, s.4)
 
-    go : (o : Option ℕ) → hit w r ≡ o → (t : Symbol) × Contains w.symbols t × (t.name ≡ m) × (is_type t.kind ≡ true) × (sees w r.file t.file ≡ true)
+    go : (o : Option ℕ) → hit w r ≡ o → (t : Symbol) × Contains w.symbols t × (t.name ≡ m) × (may_resolve_to r.wants t.kind ≡ true) × (sees w r.file t.file ≡ true)
     go None e = elim (cases_Bool r.is_absolute) [
-      | inl abs ↦ at r.words (sym (cond-true r.is_absolute (typed w r.file r.words) None abs) ∙ ap (meaning_at w r) (sym e) ∙ h)
-      | inr rel ↦ absurd (none-some m (sym (cond-false r.is_absolute (typed w r.file r.words) None rel) ∙ ap (meaning_at w r) (sym e) ∙ h))
+      | inl abs ↦ at r.words (sym (cond-true r.is_absolute (visible_as w r.file (may_resolve_to r.wants) r.words) None abs) ∙ ap (meaning_at w r) (sym e) ∙ h)
+      | inr rel ↦ absurd (none-some m (sym (cond-false r.is_absolute (visible_as w r.file (may_resolve_to r.wants) r.words) None rel) ∙ ap (meaning_at w r) (sym e) ∙ h))
     ]
     go (Some k) e = at (take k r.scope ++ r.words) (ap (meaning_at w r) (sym e) ∙ h)
 
@@ -31,7 +31,7 @@ meant w r m h = go (hit w r) refl
 pub meaning_clear : (e : Renaming) (w : Workspace) → IsLinked w → IsRenaming e w → (r : Reference) → Contains w.references r → (m : List (List ℕ)) → meaning w r ≡ Some m → IsClear e m
 meaning_clear e w ok is r cr m h =
     let t = meant w r m h in
-    subst (IsClear e) t.2 (type_clear e w ok is t.0 t.1 t.3 (ok.no_entry r cr t.0 t.1 (h ∙ ap Some (sym t.2))))
+    subst (IsClear e) t.2 (wanted_clear r.wants e w ok is t.0 t.1 t.3 (ok.no_entry r cr t.0 t.1 (h ∙ ap Some (sym t.2))))
 
 -- each reference then means the mapped name
 pub each_means : (e : Renaming) (w : Workspace) → IsLinked w → IsRenaming e w → IsFree e w → (r : Reference) → Contains w.references r → (m : List (List ℕ)) → meaning w r ≡ Some m → meaning (renamed e w) (renamed_reference e w r) ≡ Some (ren e m)
@@ -70,7 +70,7 @@ unique_renamed e w ok is free i j d below within h =
 
 -- a mapped meaning is the name of a mapped symbol only where that was meant
 back : (e : Renaming) (w : Workspace) → IsLinked w → IsRenaming e w → IsFree e w → (r' : Reference) → Contains (renamed e w).references r' → (s' : Symbol) → Contains (renamed e w).symbols s' → meaning (renamed e w) r' ≡ Some s'.name
-    → (r : Reference) × (s : Symbol) × Contains w.references r × Contains w.symbols s × (meaning w r ≡ Some s.name) × (r.wants_message ≡ r'.wants_message) × (s.kind ≡ s'.kind)
+    → (r : Reference) × (s : Symbol) × Contains w.references r × Contains w.symbols s × (meaning w r ≡ Some s.name) × (r.wants ≡ r'.wants) × (s.kind ≡ s'.kind)
 back e w ok is free r' cr' s' cs' h =
     let ro = from_map (renamed_reference e w) w.references r' cr' in
     let so = from_map (renamed_symbol e) w.symbols s' cs' in
@@ -81,7 +81,7 @@ back e w ok is free r' cr' s' cs' h =
     let new = each_means e w ok is free r ro.1 m.0 m.1 in
     let same : ren e m.0 ≡ ren e s.name = same_Some (ren e m.0) (ren e s.name) (sym new ∙ ap (meaning (renamed e w)) ro.2 ∙ h ∙ ap Some (sym (ap (λ z. z.name) so.2))) in
     let old = ren_apart e w is free.no_collision t.0 s t.1 so.1 (ap (ren e) t.2 ∙ same) in
-    (r, s, ro.1, so.1, m.1 ∙ ap Some (sym t.2 ∙ old), ap (λ z. z.wants_message) ro.2, ap (λ z. z.kind) so.2)
+    (r, s, ro.1, so.1, m.1 ∙ ap Some (sym t.2 ∙ old), ap (λ z. z.wants) ro.2, ap (λ z. z.kind) so.2)
 
 pub renamed_linked : (e : Renaming) (w : Workspace) → IsLinked w → IsRenaming e w → IsFree e w → IsLinked (renamed e w)
 renamed_linked e w ok is free = record {

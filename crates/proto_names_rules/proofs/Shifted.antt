@@ -24,5 +24,5 @@ module _ {X Y : Type 0} (f : X → Y) (text : X → List ℕ) (text_after : Y �
       let references : map (reference_of text_after entry) (map (shifted_used f) k.used) ≡ map (reference_of text entry) k.used =
       map_map (shifted_used f) (reference_of text_after entry) k.used
       ∙ map_agree (λ u. reference_of text_after entry (shifted_used f u)) (reference_of text entry) k.used
-      (λ u c. λ i. record { file = u.file; scope = name_shifted u.scope i; is_absolute = u.is_absolute; wants_message = u.wants_message; words = words_shifted u.tokens i }) in
+      (λ u c. λ i. record { file = u.file; scope = name_shifted u.scope i; is_absolute = u.is_absolute; wants = u.wants; words = words_shifted u.tokens i }) in
       λ i. record { files = k.files; symbols = symbols i; imports = imports; references = references i }

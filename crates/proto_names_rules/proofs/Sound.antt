@@ -51,7 +51,7 @@ module _ (text : At → List ℕ) (k : Skeleton At) where
     unique = λ i j s below lj same. unique i j s below lj same;
     resolved = λ r cr h. let u = from_map (reference_of text entry_name) k.used r cr in references (fault u.0.first 14) (unresolved u.0 u.1 (ap (meaning w) u.2 ∙ h));
     no_entry = λ r cr s cs h e. let u = from_map (reference_of text entry_name) k.used r cr in references (fault u.0.first 16) (of_entry u.0 s u.1 cs (ap (meaning w) u.2 ∙ h) e);
-    right_kind = λ r cr s cs h m e. let u = from_map (reference_of text entry_name) k.used r cr in references (fault u.0.first 15) (wrong_kind u.0 s u.1 cs (ap (meaning w) u.2 ∙ h) (ap (λ z. z.wants_message) u.2 ∙ m) e);
+    right_kind = λ r cr s cs h m e. let u = from_map (reference_of text entry_name) k.used r cr in references (fault u.0.first 15) (wrong_kind u.0 s u.1 cs (ap (meaning w) u.2 ∙ h) (ap (λ z. z.wants) u.2 ∙ m) e);
   }
     where
       unique : (i j : ℕ) (s : Symbol) → i < j → j < length w.symbols → (get_or w.symbols i s).name ≡ (get_or w.symbols j s).name → ((get_or w.symbols i s).kind ≡ Package) × ((get_or w.symbols j s).kind ≡ Package)

@@ -1,7 +1,8 @@
 -- What nesting and unique names give (for the crates above).
 use Rattle.std.proofs.Common.{◌≡◌, ◌≢◌, ℕ, zero, suc, ◌<◌, Bool, true, false, ◌&&◌, List, [], ◌∷◌, ◌++◌, length, get_or, Option, Some, None, refl, sym, ◌∙◌, ap, subst, inl, inr, ◌⊎◌, arith, append_assoc, length-append, Contains, AllPairs, bytes_eq, true≢false, append-nil}
 use Rattle.proto_base.proofs.Common.{cases_Bool, cases_order, cond-true, cond-false, false_from_ne_true, both_ways, and_parts, or_cases, or_parts, same_Some, get_or_default, any_to, word_from_same}
-use Rattle.proto_names_rules.specs.Common.{Kind, Package, Message, Entry, Enum, Service, Field, EntryField, Oneof, Value, Method, Extension, Symbol, Workspace, same_name, is_type, is_outer, shows, sees, Renaming, turned, turned_by, moves, moves_by, ren, is_below, in_domain, is_entry, is_entry_by, IsClear, Collides, is_leaf, holds, IsNested, AreApart, IsLinked, EntryFits, IsRenaming}
+use Rattle.proto_names_rules.specs.Common.{Kind, Package, Message, Entry, Enum, Service, Field, EntryField, Oneof, Value, Method, Extension, Symbol, Workspace, Wants, same_name, is_type, is_extension, is_outer, may_resolve_to, shows, sees, Renaming, turned, turned_by, moves, moves_by, ren, is_below, in_domain, is_entry, is_entry_by, IsClear, Collides, is_entry_field, is_leaf, holds, IsNested, AreApart, IsLinked, EntryFits, IsRenaming}
+use Rattle.proto_names_rules.specs.declared.wants.Wants.TheVariants as wants
 use Rattle.proto_names_rules.proofs.Basics.{name_from_same}
 use Rattle.proto_names_rules.proofs.Ren.{turn_below_outside, turn_below_apart}
 
@@ -61,7 +62,7 @@ pub record HasFront (symbols : List Symbol) (a : List (List ℕ)) (t : Symbol) :
   pub file : it.file ≡ t.file
   pub outer : is_outer it.kind ≡ true
   pub of_package : t.kind ≡ Package → it.kind ≡ Package
-  pub entry : it.kind ≡ Entry → is_leaf t.kind ≡ true
+  pub entry : it.kind ≡ Entry → is_entry_field t.kind ≡ true
   pub not_leaf : is_leaf it.kind ≡ false
 
 pub outer_not_leaf : (k : Kind) → is_outer k ≡ true → is_leaf k ≡ false
@@ -89,6 +90,47 @@ type_not_leaf Oneof h = absurd (true≢false (sym h))
 type_not_leaf Value h = absurd (true≢false (sym h))
 type_not_leaf Method h = absurd (true≢false (sym h))
 type_not_leaf Extension h = absurd (true≢false (sym h))
+
+outer_no_entry_field : (k : Kind) → is_outer k ≡ true → is_entry_field k ≡ false
+outer_no_entry_field Package h = refl
+outer_no_entry_field Message h = refl
+outer_no_entry_field Entry h = refl
+outer_no_entry_field Enum h = refl
+outer_no_entry_field Service h = refl
+outer_no_entry_field Field h = refl
+outer_no_entry_field EntryField h = absurd (true≢false (sym h))
+outer_no_entry_field Oneof h = refl
+outer_no_entry_field Value h = refl
+outer_no_entry_field Method h = refl
+outer_no_entry_field Extension h = refl
+
+-- what may be meant is no field of an entry,
+pub wanted_no_entry_field : (what : Wants) (k : Kind) → may_resolve_to what k ≡ true → is_entry_field k ≡ true → ⊥
+wanted_no_entry_field wants.Type EntryField h e = true≢false (sym h)
+wanted_no_entry_field wants.Message EntryField h e = true≢false (sym h)
+wanted_no_entry_field wants.Extension EntryField h e = true≢false (sym h)
+wanted_no_entry_field what Package h e = true≢false (sym e)
+wanted_no_entry_field what Message h e = true≢false (sym e)
+wanted_no_entry_field what Entry h e = true≢false (sym e)
+wanted_no_entry_field what Enum h e = true≢false (sym e)
+wanted_no_entry_field what Service h e = true≢false (sym e)
+wanted_no_entry_field what Field h e = true≢false (sym e)
+wanted_no_entry_field what Oneof h e = true≢false (sym e)
+wanted_no_entry_field what Value h e = true≢false (sym e)
+wanted_no_entry_field what Method h e = true≢false (sym e)
+wanted_no_entry_field what Extension h e = true≢false (sym e)
+
+-- no package,
+pub wanted_no_package : (what : Wants) (k : Kind) → may_resolve_to what k ≡ true → k ≡ Package → ⊥
+wanted_no_package wants.Type k h e = true≢false (sym h ∙ ap is_type e)
+wanted_no_package wants.Message k h e = true≢false (sym h ∙ ap is_type e)
+wanted_no_package wants.Extension k h e = true≢false (sym h ∙ ap is_extension e)
+
+-- and no field
+pub wanted_no_field : (what : Wants) (k : Kind) → may_resolve_to what k ≡ true → k ≡ Field → ⊥
+wanted_no_field wants.Type k h e = true≢false (sym h ∙ ap is_type e)
+wanted_no_field wants.Message k h e = true≢false (sym h ∙ ap is_type e)
+wanted_no_field wants.Extension k h e = true≢false (sym h ∙ ap is_extension e)
 
 empty_from : (b : List (List ℕ)) → length b ≡ 0 → b ≡ []
 empty_from [] h = refl
@@ -126,7 +168,7 @@ fronts symbols nested (suc n) b l a t c h la =
       file = f.file ∙ r.3;
       outer = f.outer;
       of_package = λ k. f.of_package (holds-package r.0.kind (subst (λ x. holds r.0.kind x ≡ true) k r.4));
-      entry = λ k. absurd (both_ways (is_leaf r.0.kind) (outer_not_leaf r.0.kind outer) (f.entry k));
+      entry = λ k. absurd (both_ways (is_entry_field r.0.kind) (outer_no_entry_field r.0.kind outer) (f.entry k));
       not_leaf = f.not_leaf;
     }
 
@@ -236,9 +278,9 @@ package_out e w ok is t ct pk = false_from_ne_true (in_domain e t.name) (λ h.
 pub package_stays : (e : Renaming) (w : Workspace) → IsLinked w → IsRenaming e w → (t : Symbol) → Contains w.symbols t → t.kind ≡ Package → ren e t.name ≡ t.name
 package_stays e w ok is t ct pk = turn_below_outside e.parent (turned e) (moves e) (stays e) t.name (package_out e w ok is t ct pk)
 
--- a type that isn't an entry is not at or below one
-pub type_clear : (e : Renaming) (w : Workspace) → IsLinked w → IsRenaming e w → (t : Symbol) → Contains w.symbols t → is_type t.kind ≡ true → t.kind ≢ Entry → IsClear e t.name
-type_clear e w ok is t ct ty ne front back h = false_from_ne_true (is_entry e front) (λ q. go e.entry refl q)
+-- what may be meant and isn't an entry is not at or below one
+pub wanted_clear : (what : Wants) (e : Renaming) (w : Workspace) → IsLinked w → IsRenaming e w → (t : Symbol) → Contains w.symbols t → may_resolve_to what t.kind ≡ true → t.kind ≢ Entry → IsClear e t.name
+wanted_clear what e w ok is t ct ty ne front back h = false_from_ne_true (is_entry e front) (λ q. go e.entry refl q)
   where
     entry_not : Entry ≡ Package → ⊥
     entry_not h = cc
@@ -255,7 +297,7 @@ type_clear e w ok is t ct ty ne front back h = false_from_ne_true (is_entry e fr
             | inr both ↦ entry_not (sym s.3 ∙ both.0)
           ]
           | inr u ↦ elim (one_symbol w.symbols ok.unique s.0 u.it s.1 u.within (s.2 ∙ sym f ∙ sym u.name)) [
-            | inl same ↦ both_ways (is_leaf t.kind) (type_not_leaf t.kind ty) (u.entry (sym (ap (λ z. z.kind) same) ∙ s.3))
+            | inl same ↦ wanted_no_entry_field what t.kind ty (u.entry (sym (ap (λ z. z.kind) same) ∙ s.3))
             | inr both ↦ entry_not (sym s.3 ∙ both.0)
           ]
         ]

@@ -73,7 +73,7 @@ renamed_at e r h = record {
   file = r.file;
   scope = ren e r.scope;
   is_absolute = r.is_absolute;
-  wants_message = r.wants_message;
+  wants = r.wants;
   words = rewritten e (front_at r h) r.words;
 }
 
@@ -105,7 +105,7 @@ shows_mapped e w f good x =
 abbrev pub IsCaptured : Renaming → Workspace → Reference → Type 0
 IsCaptured e w r =
     (k j : ℕ) × (hit w r ≡ Some k) × (k < j) × (j ≤ length r.scope)
-    × (shows_mapped e w r.file (fits_at_first r.words)
+    × (shows_mapped e w r.file (fits_at_first r.wants r.words)
     (ren e (take j r.scope) ++ take 1 (rewritten e (take k r.scope) r.words))
     ≡ true)
 
@@ -166,7 +166,7 @@ abbrev pub captured_from : Renaming → Workspace → Reference → Option ℕ �
 captured_from e w r None = false
 captured_from e w r (Some k) =
     any_above
-    (λ j. shows_mapped e w r.file (fits_at_first r.words)
+    (λ j. shows_mapped e w r.file (fits_at_first r.wants r.words)
     (ren e (take j r.scope) ++ take 1 (rewritten e (take k r.scope) r.words)))
     k (length r.scope)
 

@@ -1,9 +1,10 @@
 -- The faults of imports, names and references: each is a sentence that takes only what it reads.
-use Rattle.std.specs.Prelude.{◌≡◌, ◌≢◌, ◌⊎◌, ℕ, ◌<◌, Bool, List, [], ◌∷◌, length, get_or, position, Option, Some, None, true}
+use Rattle.std.specs.Prelude.{◌≡◌, ◌≢◌, ◌⊎◌, ℕ, ◌<◌, Bool, List, [], ◌∷◌, length, get_or, position, Option, Some, None}
 use Rattle.std.specs.List.{Contains, filter_map}
 use Rattle.std.specs.Option.{option_map}
 use Rattle.std.specs.Str.{bytes_eq}
 use Rattle.proto_names_rules.specs.Names.{Package, Entry, Enum, Symbol, Import, meaning}
+use Rattle.proto_names_rules.specs.declared.wants.Wants.TheVariants as wants
 use Rattle.proto_names_rules.specs.Cycles.{Leads}
 use Rattle.proto_case.specs.Camel.{entry_name}
 use Rattle.proto_names_rules.specs.Skeleton.{Source, Token, EntryOf, Given, Declared, Used, Skeleton, name_of, reference_of, workspace_of}
@@ -112,7 +113,7 @@ pub data ReferenceFault (text : At → Text) (k : Skeleton At) : Fault → Type 
   wrong_kind : (u : Used At) (s : Symbol) → Contains k.used u
       → Contains (workspace_of text entry_name k).symbols s
       → meaning (workspace_of text entry_name k) (reference_of text entry_name u) ≡ Some s.name
-      → u.wants_message ≡ true → s.kind ≡ Enum
+      → u.wants ≡ wants.Message → s.kind ≡ Enum
       → ReferenceFault text k (fault_of_kind u.first kind.WrongKind)
   -- a reference that means a generated entry
   of_entry : (u : Used At) (s : Symbol) → Contains k.used u

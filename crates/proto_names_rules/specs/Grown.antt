@@ -51,7 +51,7 @@ used_in file u = record {
   file = file;
   scope = map (shifted_source (at file)) u.scope;
   is_absolute = u.is_absolute;
-  wants_message = u.wants_message;
+  wants = u.wants;
   first = at file u.first;
   tokens = map (at file) u.tokens;
 }

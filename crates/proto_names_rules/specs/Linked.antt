@@ -3,6 +3,7 @@ use Rattle.std.specs.Prelude.{◌≡◌, ◌≢◌, ◌<◌, Bool, true, false, 
 use Rattle.std.specs.List.{Contains, AllPairs}
 use Rattle.proto_names_rules.specs.Names.{Kind, Package, Message, Entry, Enum, Service, Field, EntryField, Oneof, Value, Method, Extension, Symbol, Import, Reference, Workspace, Word, Name, meaning}
 use Rattle.proto_names_rules.specs.Edits.{Renaming, target, Collides, IsCaptured}
+use Rattle.proto_names_rules.specs.declared.wants.Wants.TheVariants as wants
 
 -- a package, or a prefix of one
 abbrev pub is_package : Kind → Bool
@@ -23,11 +24,25 @@ is_leaf Value = true
 is_leaf Method = true
 is_leaf Extension = true
 
+-- a field of an entry
+abbrev pub is_entry_field : Kind → Bool
+is_entry_field Package = false
+is_entry_field Message = false
+is_entry_field Entry = false
+is_entry_field Enum = false
+is_entry_field Service = false
+is_entry_field Field = false
+is_entry_field EntryField = true
+is_entry_field Oneof = false
+is_entry_field Value = false
+is_entry_field Method = false
+is_entry_field Extension = false
+
 -- a symbol of the first kind may have one of the second kind declared right in it
 abbrev pub holds : Kind → Kind → Bool
 holds Package k = true
 holds Message k = not (is_package k)
-holds Entry k = is_leaf k
+holds Entry k = is_entry_field k
 holds Enum k = false
 holds Service k = is_leaf k
 holds Field k = false
@@ -48,8 +63,8 @@ IsNested symbols =
 abbrev pub AreApart : Symbol → Symbol → Type 0
 AreApart s t = s.name ≡ t.name → (s.kind ≡ Package) × (t.kind ≡ Package)
 
--- no fault of names and references: full names are unique but for packages, each reference means a
--- type that is no generated entry, and one that wants a message no enum
+-- no fault of names and references: full names are unique but for packages, each reference means
+-- what it wants, no generated entry, and one that wants a message no enum
 pub record IsLinked (w : Workspace) : Type 0 where
   pub nested : IsNested w.symbols
   pub unique : AllPairs AreApart w.symbols
@@ -58,7 +73,7 @@ pub record IsLinked (w : Workspace) : Type 0 where
       → (s : Symbol) → Contains w.symbols s → meaning w r ≡ Some s.name → s.kind ≢ Entry
   pub right_kind : (r : Reference) → Contains w.references r
       → (s : Symbol) → Contains w.symbols s → meaning w r ≡ Some s.name
-      → r.wants_message ≡ true → s.kind ≢ Enum
+      → r.wants ≡ wants.Message → s.kind ≢ Enum
 
 -- a generated entry with the word is declared right below the parent
 abbrev pub HasEntry : Workspace → Name → Word → Type 0

@@ -3,8 +3,8 @@
 use Rattle.std.specs.Prelude.{◌≡◌, ℕ, ◌<◌, Bool, true, false, List, [], ◌∷◌, ◌++◌, get_or, length, Some}
 use Rattle.std.specs.List.{Contains, AllPairs}
 use Rattle.proto_names_rules.specs.Linked.{AreApart, IsLinked, IsNested}
-use Rattle.proto_names_rules.specs.Names.{Name, Reference, Symbol, Word, Workspace, is_outer, is_type, meaning, sees}
-use Rattle.proto_names_rules.specs.Kept.{Declares, DifferAt, IsFlawless}
+use Rattle.proto_names_rules.specs.Names.{Name, Reference, Symbol, Word, Workspace, may_resolve_to, meaning, sees}
+use Rattle.proto_names_rules.specs.Kept.{Declares, DifferAt, IsFlawless, may_fit}
 
 -- the file is not marked
 abbrev pub IsUnmarked : List Bool → ℕ → Type 0
@@ -23,27 +23,28 @@ ScopesAreOwn w = (r : Reference) → Contains w.references r → IsScopeOf w r.f
 pub record AreMarked (key : Word → ℕ) (places : List ℕ) (w v : Workspace) (marks : List Bool)
     : Type 0 where
   pub edited : (file : ℕ) → Contains places file → get_or marks file false ≡ true
-  -- has no reference to a type whose file it sees no more,
+  -- has no reference to a type or an extension whose file it sees no more,
   pub none_hidden : (r : Reference) (s : Symbol) → Contains w.references r
       → IsUnmarked marks r.file → meaning w r ≡ Some s.name → Contains w.symbols s
-      → is_type s.kind ≡ true → sees w r.file s.file ≡ true → sees v r.file s.file ≡ true
-  -- none to a type that went,
+      → may_resolve_to r.wants s.kind ≡ true → sees w r.file s.file ≡ true
+      → sees v r.file s.file ≡ true
+  -- none to one that went,
   pub none_gone : (r : Reference) (s : Symbol) → Contains w.references r → IsUnmarked marks r.file
       → meaning w r ≡ Some s.name → Contains w.symbols s → Contains places s.file
-      → is_type s.kind ≡ true → Contains v.symbols s
-  -- none whose first word has the key of the last word of a name that came right below the empty
-  -- name or one that the file declares,
+      → may_resolve_to r.wants s.kind ≡ true → Contains v.symbols s
+  -- none whose first word has the key of the last word of a name that may fit there and that came
+  -- right below the empty name or one that the file declares,
   pub none_came : (r : Reference) (first : Word) (rest : List Word) → Contains w.references r
       → IsUnmarked marks r.file → r.words ≡ first ∷ rest
       → (s : Symbol) (front : Name) (last : Word) → Contains v.symbols s
-      → Contains places s.file → is_outer s.kind ≡ true → s.name ≡ front ++ last ∷ []
+      → Contains places s.file → may_fit r.wants s.kind ≡ true → s.name ≡ front ++ last ∷ []
       → key last ≡ key first → IsScopeOf v r.file front → Contains w.symbols s
   -- and none whose first word has the key of such a name in a file that it sees and did not see,
   -- unless it declares that name itself
   pub none_shown : (r : Reference) (first : Word) (rest : List Word) → Contains w.references r
       → IsUnmarked marks r.file → r.words ≡ first ∷ rest
       → (s : Symbol) (front : Name) (last : Word) → Contains v.symbols s
-      → sees v r.file s.file ≡ true → sees w r.file s.file ≡ false → is_outer s.kind ≡ true
+      → sees v r.file s.file ≡ true → sees w r.file s.file ≡ false → may_fit r.wants s.kind ≡ true
       → s.name ≡ front ++ last ∷ [] → key last ≡ key first → IsScopeOf v r.file front
       → Declares v r.file s
 

@@ -2,7 +2,7 @@
 -- A token is of any type `X`: its index in one file, or its file and index among many.
 use Rattle.std.specs.Prelude.{◌⊎◌, ◌≡◌, ◌≢◌, ℕ, Bool, true, false, if◌then◌else◌, List, [], ◌∷◌, ◌++◌, map, Some, None}
 use Rattle.std.specs.List.{Contains}
-use Rattle.proto_names_rules.specs.Names.{Kind, Package, Entry, Symbol, Import, Reference, Workspace, Word, Name, meaning, hit, front_at}
+use Rattle.proto_names_rules.specs.Names.{Kind, Package, Entry, Symbol, Import, Reference, Wants, Workspace, Word, Name, meaning, hit, front_at}
 use Rattle.proto_names_rules.specs.Edits.{Renaming, rewritten}
 use Rattle.proto_base.specs.Texts.{Text}
 
@@ -23,7 +23,7 @@ pub record Used (X : Type 0) : Type 0 where
   pub file : ℕ
   pub scope : List (Source X)
   pub is_absolute : Bool
-  pub wants_message : Bool
+  pub wants : Wants
   pub first : X
   pub tokens : List X
 
@@ -55,7 +55,7 @@ reference_of text entry u = record {
   file = u.file;
   scope = name_of text entry u.scope;
   is_absolute = u.is_absolute;
-  wants_message = u.wants_message;
+  wants = u.wants;
   words = map text u.tokens;
 }
 
@@ -149,7 +149,7 @@ shifted_used f u = record {
   file = u.file;
   scope = map (shifted_source f) u.scope;
   is_absolute = u.is_absolute;
-  wants_message = u.wants_message;
+  wants = u.wants;
   first = f u.first;
   tokens = map f u.tokens;
 }

@@ -2,7 +2,7 @@
 
 ghost use Rattle.std.specs.Prelude.{◌≡◌};
 ghost use Rattle.proto_names_rules.specs.Linked.{is_package};
-ghost use Rattle.proto_names_rules.specs.Names.{is_type, is_outer};
+ghost use Rattle.proto_names_rules.specs.Names.{is_extension, is_type, is_outer};
 
 use std::fmt;
 
@@ -67,13 +67,23 @@ impl Kind {
         }
     }
 
-    /// Whether a reference may mean a symbol of this kind: a message, also a generated one, or an
-    /// enum.
+    /// Whether a reference to a type may mean a symbol of this kind: a message, also a generated
+    /// one, or an enum.
     pub fn is_type(self) -> bool
         ensures { result ≡ is_type self }
     {
         match self {
             Kind::Message | Kind::Entry | Kind::Enum => true,
+            _ => false,
+        }
+    }
+
+    /// Whether it is an extension.
+    pub fn is_extension(self) -> bool
+        ensures { result ≡ is_extension self }
+    {
+        match self {
+            Kind::Extension => true,
             _ => false,
         }
     }

@@ -9,6 +9,8 @@ pub mod laws;
 pub mod marks;
 pub mod spelling;
 pub mod visibility;
+mod wants;
 
 pub use full_names::below;
 pub use kind::Kind;
+pub use wants::Wants;

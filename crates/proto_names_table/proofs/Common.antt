@@ -5,7 +5,7 @@ pub use Rattle.proto_names_table.proofs.Search.{joined_more, outermost, pick, pl
 pub use Rattle.proto_names_table.specs.Filling.{AreRows, IsNameError, IsRowAt}
 pub use Rattle.proto_names_table.specs.LastWords.{AreListed, named_as}
 pub use Rattle.proto_names_table.specs.Naming.{AreSpans, tree_named, used_named}
-pub use Rattle.proto_names_table.specs.Resolved.{IsAsked, IsIndexOf, IsTypeAt, under_all}
-pub use Rattle.proto_names_table.specs.Search.{HitsAt, IsHit, is_seen, passes}
+pub use Rattle.proto_names_table.specs.Resolved.{IsAsked, IsIndexOf, IsWantedAt, under_all}
+pub use Rattle.proto_names_table.specs.Search.{HitsAt, IsHit, is_seen, is_visible_as, passes}
 pub use Rattle.proto_names_table.specs.Spelled.{AreSpelled, ClashFault, Named, all_named, named_in, symbol_named}
 pub use Rattle.proto_names_table.specs.Tables.{IsTable, aboves_of, files_of, look, names_of}

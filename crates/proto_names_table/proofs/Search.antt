@@ -2,6 +2,7 @@
 use Rattle.std.proofs.Common.{◌≡◌, ◌≢◌, ℕ, zero, suc, ◌<◌, ◌≤◌, Bool, false, List, [], ◌∷◌, ◌++◌, length, get_or, take, refl, sym, ◌∙◌, ap, subst, inl, inr, arith, append_assoc}
 use Rattle.proto_base.proofs.Common.{both_ways, cases_eq, get_or-map, length-map}
 use Rattle.proto_names_table.specs.Common.{Row, Table, names_of, aboves_of, look, IsTable, passes, HitsAt, NoneAbove}
+use Rattle.proto_names_rules.specs.declared.wants.Wants.{Wants}
 use Rattle.proto_names_rules.proofs.Common.{joined, IsPlain, ArePlain, under, front, under_apart, under_pointed, name_some}
 
 pub joined_some : (w : List ℕ) (ws : List (List ℕ)) → IsPlain w → joined (w ∷ ws) ≢ []
@@ -72,38 +73,38 @@ outermost path zero p l e = refl
 outermost [] (suc k) p l e = absurd (omega (arith, l))
 outermost (x ∷ path) (suc k) p l e = absurd (joined_some x (take k path) p.0 (sym e))
 
-abbrev pub Fails : Table → List Bool → Bool → ℕ → List ℕ → Type 0
-Fails t seen is_last number word = (row : ℕ) → row < length t.rows.items → get_or (names_of t) row [] ≡ under (front (names_of t) number) word → (d : Row) → passes seen is_last (get_or t.rows.items row d) ≡ false
+abbrev pub Fails : Table → List Bool → Wants → Bool → ℕ → List ℕ → Type 0
+Fails t seen what is_last number word = (row : ℕ) → row < length t.rows.items → get_or (names_of t) row [] ≡ under (front (names_of t) number) word → (d : Row) → passes seen what is_last (get_or t.rows.items row d) ≡ false
 
 pub pick : {X : Type 0} (xs : List X) (k : ℕ) → k < length xs → X
 pick [] k l = absurd (omega (arith, l))
 pick (x ∷ xs) zero l = x
 pick (x ∷ xs) (suc k) l = pick xs k (omega (arith, l))
 
-no_hit : (t : Table) (seen : List Bool) (is_last : Bool) (path : List (List ℕ)) (word : List ℕ) (k number : ℕ) → front (names_of t) number ≡ joined (take k path) → Fails t seen is_last number word → (row : ℕ) → HitsAt t seen is_last path word k row → ⊥
-no_hit t seen is_last path word k number e fails row h = let d = pick t.rows.items row h.within in both_ways (passes seen is_last (get_or t.rows.items row d)) (fails row h.within (h.name ∙ ap (λ z. under z word) (sym e)) d) (h.passes_there d)
+no_hit : (t : Table) (seen : List Bool) (what : Wants) (is_last : Bool) (path : List (List ℕ)) (word : List ℕ) (k number : ℕ) → front (names_of t) number ≡ joined (take k path) → Fails t seen what is_last number word → (row : ℕ) → HitsAt t seen what is_last path word k row → ⊥
+no_hit t seen what is_last path word k number e fails row h = let d = pick t.rows.items row h.within in both_ways (passes seen what is_last (get_or t.rows.items row d)) (fails row h.within (h.name ∙ ap (λ z. under z word) (sym e)) d) (h.passes_there d)
 
 -- none passes here: none passes at the next front outward, but perhaps there
-pub one_out : (t : Table) → IsTable t → (seen : List Bool) (is_last : Bool) (word : List ℕ) (m : ℕ) → m < length t.rows.items → (r : Row) → r ≡ get_or t.rows.items m r → Fails t seen is_last (suc m) word
-    → (path : List (List ℕ)) → ArePlain path → (k : ℕ) → k ≤ length path → front (names_of t) (suc m) ≡ joined (take k path) → NoneAbove t seen is_last path word k
-    → (j : ℕ) × (j ≤ length path) × (front (names_of t) r.above ≡ joined (take j path)) × NoneAbove t seen is_last path word j
-one_out t ok seen is_last word m l r is fails path plain k lk e none =
+pub one_out : (t : Table) → IsTable t → (seen : List Bool) (what : Wants) (is_last : Bool) (word : List ℕ) (m : ℕ) → m < length t.rows.items → (r : Row) → r ≡ get_or t.rows.items m r → Fails t seen what is_last (suc m) word
+    → (path : List (List ℕ)) → ArePlain path → (k : ℕ) → k ≤ length path → front (names_of t) (suc m) ≡ joined (take k path) → NoneAbove t seen what is_last path word k
+    → (j : ℕ) × (j ≤ length path) × (front (names_of t) r.above ≡ joined (take j path)) × NoneAbove t seen what is_last path word j
+one_out t ok seen what is_last word m l r is fails path plain k lk e none =
     let o = outward t ok m l r is path plain k lk e in (
       o.less,
       omega (arith, lk, o.one),
       o.front_is,
       λ j row a b h. elim (cases_eq j k) [
-        | inl same ↦ no_hit t seen is_last path word k (suc m) e fails row (subst (λ z. HitsAt t seen is_last path word z row) same h)
+        | inl same ↦ no_hit t seen what is_last path word k (suc m) e fails row (subst (λ z. HitsAt t seen what is_last path word z row) same h)
         | inr other ↦ none j row (omega (arith, a, o.one, other)) b h
       ],
     )
 
 -- none passes at the empty name either
-pub none_at_all : (t : Table) (seen : List Bool) (is_last : Bool) (word : List ℕ) → Fails t seen is_last 0 word → (path : List (List ℕ)) → ArePlain path → (k : ℕ) → k ≤ length path → [] ≡ joined (take k path) → NoneAbove t seen is_last path word k
-    → (j row : ℕ) → j ≤ length path → HitsAt t seen is_last path word j row → ⊥
-none_at_all t seen is_last word fails path plain k lk e none j row lj h =
+pub none_at_all : (t : Table) (seen : List Bool) (what : Wants) (is_last : Bool) (word : List ℕ) → Fails t seen what is_last 0 word → (path : List (List ℕ)) → ArePlain path → (k : ℕ) → k ≤ length path → [] ≡ joined (take k path) → NoneAbove t seen what is_last path word k
+    → (j row : ℕ) → j ≤ length path → HitsAt t seen what is_last path word j row → ⊥
+none_at_all t seen what is_last word fails path plain k lk e none j row lj h =
     let z = outermost path k plain lk e in
     elim (cases_eq j 0) [
-      | inl first ↦ no_hit t seen is_last path word k 0 e fails row (subst (λ x. HitsAt t seen is_last path word x row) (first ∙ sym z) h)
+      | inl first ↦ no_hit t seen what is_last path word k 0 e fails row (subst (λ x. HitsAt t seen what is_last path word x row) (first ∙ sym z) h)
       | inr more ↦ none j row (omega (arith, z, more)) lj h
     ]

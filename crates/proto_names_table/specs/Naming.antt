@@ -1,7 +1,8 @@
 -- The names of files as their trees give them, and the references in them by their words.
-use Rattle.std.specs.Prelude.{◌≡◌, ℕ, suc, ◌<◌, List, [], ◌∷◌, ◌++◌, length, get_or, map, Some, None, true}
+use Rattle.std.specs.Prelude.{◌≡◌, ℕ, suc, ◌<◌, List, [], ◌∷◌, ◌++◌, length, get_or, map, Some, None}
 use Rattle.std.specs.List.{All, Contains}
 use Rattle.proto_names_rules.specs.declared.kind.Kind.TheVariants.{Enum, Entry}
+use Rattle.proto_names_rules.specs.declared.wants.Wants.TheVariants as wants
 use Rattle.proto_names_rules.specs.Names.{Symbol, Reference, Workspace, meaning}
 pub use Rattle.proto_names_outline.specs.Listing.{used_named}
 pub use Rattle.proto_names_table.specs.LastWords.{named_as}
@@ -28,7 +29,7 @@ pub data ReferenceFlaw (w : Workspace) (r : Reference) : ℕ → Type 0 where
   unresolved : meaning w r ≡ None → ReferenceFlaw w r 14
   -- it wants a message and means an enum
   wrong_kind : (s : Symbol) → Contains w.symbols s → meaning w r ≡ Some s.name
-      → r.wants_message ≡ true → s.kind ≡ Enum → ReferenceFlaw w r 15
+      → r.wants ≡ wants.Message → s.kind ≡ Enum → ReferenceFlaw w r 15
   -- it means a generated entry
   of_entry : (s : Symbol) → Contains w.symbols s → meaning w r ≡ Some s.name → s.kind ≡ Entry
       → ReferenceFlaw w r 16

@@ -2,6 +2,7 @@
 use Rattle.std.specs.Prelude.{◌≡◌, ◌≢◌, ◌↔◌, ℕ, ◌<◌, ◌≤◌, ◌++◌, ◌&&◌, Bool, true, false, List, [], ◌∷◌, length, get_or, Option, Some, None}
 use Rattle.std.specs.List.{Contains}
 use Rattle.proto_names_rules.specs.Names.{Symbol, Reference, Workspace}
+use Rattle.proto_names_rules.specs.declared.wants.Wants.{Wants}
 use Rattle.proto_names_rules.specs.Marks.{MarksSeen}
 use Rattle.proto_names_rules.specs.Joined.{joined, ArePlain}
 use Rattle.proto_names_rules.specs.Forest.{under, front}
@@ -10,7 +11,7 @@ use Rattle.proto_names_table.specs.declared.table.Symbol.{Symbol as Declaration}
 use Rattle.proto_names_table.specs.declared.table.Row.{Row}
 use Rattle.proto_names_table.specs.declared.table.Table.{Table}
 use Rattle.proto_names_table.specs.Tables.{files_of, names_of}
-use Rattle.proto_names_table.specs.Search.{passes}
+use Rattle.proto_names_table.specs.Search.{is_visible_as}
 
 -- each symbol has the row of its name, and each row's files have a symbol
 pub record IsIndexOf (t : Table) (symbols : List Symbol) : Type 0 where
@@ -38,14 +39,14 @@ pub record IsAsked (t : Table) (seen : List Bool) (scope : ℕ) (w : Workspace) 
   pub scope_plain : ArePlain r.scope
   pub scope_is : front (names_of t) scope ≡ joined r.scope
 
--- the row of this text, if it is a type that is seen
-abbrev pub IsTypeAt : Table → List Bool → List ℕ → Option ℕ → Type 0
-IsTypeAt t seen text (Some k) =
+-- the row of this text, if it is seen and a reference that wants this may mean it
+abbrev pub IsWantedAt : Table → List Bool → Wants → List ℕ → Option ℕ → Type 0
+IsWantedAt t seen what text (Some k) =
     (k < length t.rows.items) × (get_or (names_of t) k [] ≡ text)
-    × ((d : Row) → passes seen true (get_or t.rows.items k d) ≡ true)
-IsTypeAt t seen text None =
+    × ((d : Row) → is_visible_as seen what (get_or t.rows.items k d) ≡ true)
+IsWantedAt t seen what text None =
     (k : ℕ) (d : Row) → k < length t.rows.items → get_or (names_of t) k [] ≡ text
-    → passes seen true (get_or t.rows.items k d) ≡ false
+    → is_visible_as seen what (get_or t.rows.items k d) ≡ false
 
 -- the table has one symbol more, and the names keep their numbers
 pub record SymbolIsDeclared (old new : Table) (text : List ℕ) (symbol : Declaration) : Type 0 where

@@ -11,7 +11,7 @@ ghost use Rattle.proto_names_rules.specs.Joined.{joined, ArePlain, IsPlain};
 ghost use Rattle.proto_names_rules.specs.Names.{Symbol as NamedSymbol};
 ghost use Rattle.proto_names_rules.specs.declared.kind.Kind.TheVariants.{Package};
 ghost use Rattle.proto_names_table.specs.Resolved.{SymbolIsDeclared, IsIndexOf, IsTaken, IsWithout};
-ghost use Rattle.proto_names_table.specs.Search.{is_seen, passes, HitsAt, IsHit};
+ghost use Rattle.proto_names_table.specs.Search.{is_seen, is_visible_as, passes, HitsAt, IsHit};
 ghost use Rattle.proto_names_table.specs.Undone.{TakesRow};
 ghost use Rattle.proto_names_table.specs.Tables.{AreAlike, IsTable, IsUnchanged, with_declaration, names_of, look, row_of};
 
@@ -19,7 +19,7 @@ use crate::index::Index;
 use crate::name::Name;
 use proto_base::NoMemory;
 use proto_file_sets::FileSet;
-use proto_names_rules::Kind;
+use proto_names_rules::{Kind, Wants};
 use std::alloc::Global;
 use std::sync::ArcStr;
 
@@ -53,15 +53,22 @@ pub struct Row {
 
 impl Row {
     /// Whether a reference's first word may stand for it where these files are seen.
-    fn passes(&self, is_last: bool, seen: &FileSet) -> bool
-        ensures { result ≡ passes seen.now is_last self.now }
+    fn passes(&self, wants: Wants, is_last: bool, seen: &FileSet) -> bool
+        ensures { result ≡ passes seen.now wants is_last self.now }
     {
         let fits = if is_last {
-            self.symbol.kind.is_type()
+            wants.fits_alone(self.symbol.kind)
         } else {
             self.symbol.kind.is_outer()
         };
         fits && self.is_seen(seen)
+    }
+
+    /// Whether a reference that wants this may mean it where these files are seen.
+    pub fn is_visible_as(&self, wants: Wants, seen: &FileSet) -> bool
+        ensures { result ≡ is_visible_as seen.now wants self.now }
+    {
+        wants.may_resolve_to(self.symbol.kind) && self.is_seen(seen)
     }
 
     /// Whether one of its files is seen.
@@ -119,6 +126,17 @@ fn sees_any(seen: &FileSet, files: &[u32]) -> bool
     false
 }
 
+/// The first word of a reference, for which a search begins.
+#[derive(Clone, Copy)]
+pub struct FirstWord<'a> {
+    /// Its text.
+    pub text: &'a str,
+    /// What the reference wants.
+    pub wants: Wants,
+    /// Whether no further word follows it.
+    pub is_last: bool,
+}
+
 /// All names, each with a number: 0 stands for the empty one, and the row with index `k` has the
 /// number `k + 1`.
 #[derive(Drop)]
@@ -169,23 +187,24 @@ impl Table {
     }
 
     /// The index of the row for a reference's first word: outward from the scope, which is the
-    /// number of a name, the first below which the word passes. Where `is_last` is set, no word
-    /// follows it; `seen` has the files that are seen.
-    pub fn search(&self, scope: usize, word: &str, is_last: bool, seen: &FileSet) -> Option<usize>
+    /// number of a name, the first below which the word passes; `seen` has the files that are
+    /// seen.
+    pub fn search(&self, scope: usize, word: FirstWord, seen: &FileSet) -> Option<usize>
         requires table { IsTable self.now }
         requires within { scope ≤ length self.now.rows.items }
-        requires plain { IsPlain word.now }
+        requires plain { IsPlain word.text.now }
         ensures row { IfSome result (λ row. row < length self.now.rows.items) }
         ensures hit { IfSome result (λ row. (path : List (List ℕ)) → ArePlain path → front
-            (names_of self.now) scope
-            ≡ joined path → IsHit self.now seen.now is_last path word.now row) }
+            (names_of self.now) scope ≡ joined path → IsHit self.now seen.now
+            word.entry.wants word.entry.is_last path word.entry.text.now row) }
         ensures none { IfNone result ((path : List (List ℕ)) → ArePlain path → front
             (names_of self.now) scope ≡ joined path → (k row : ℕ)
-            → k ≤ length path → HitsAt self.now seen.now is_last path word.now k row → ⊥) }
+            → k ≤ length path → HitsAt self.now seen.now
+            word.entry.wants word.entry.is_last path word.entry.text.now k row → ⊥) }
     {
         let mut number = scope;
         loop {
-            if let Some(row) = self.passing(number, word, is_last, seen) {
+            if let Some(row) = self.passing(number, word, seen) {
                 return Some(row);
             }
             if number == 0 {
@@ -196,19 +215,23 @@ impl Table {
     }
 
     /// The row of the word right below this number, if it passes.
-    fn passing(&self, number: usize, word: &str, is_last: bool, seen: &FileSet) -> Option<usize>
+    fn passing(&self, number: usize, word: FirstWord, seen: &FileSet) -> Option<usize>
         requires table { IsTable self.now }
         requires within { number ≤ length self.now.rows.items }
-        requires plain { IsPlain word.now }
-        ensures some { IfSome result (λ row. (row < length self.now.rows.items) ×
-            (get_or (names_of self.now) row [] ≡ under (front (names_of self.now) number) word.now)
-            × ((d : Row) → passes seen.now is_last (get_or self.now.rows.items row d) ≡ true)) }
-        ensures none { IfNone result ((row : ℕ) → row < length self.now.rows.items → get_or
-            (names_of self.now) row [] ≡ under (front (names_of self.now) number) word.now
-            → (d : Row) → passes seen.now is_last (get_or self.now.rows.items row d) ≡ false) }
+        requires plain { IsPlain word.text.now }
+        ensures some { IfSome result (λ row. (row < length self.now.rows.items)
+            × (get_or (names_of self.now) row []
+            ≡ under (front (names_of self.now) number) word.entry.text.now)
+            × ((d : Row) → passes seen.now word.entry.wants word.entry.is_last
+            (get_or self.now.rows.items row d) ≡ true)) }
+        ensures none { IfNone result ((row : ℕ) → row < length self.now.rows.items
+            → get_or (names_of self.now) row []
+            ≡ under (front (names_of self.now) number) word.entry.text.now
+            → (d : Row) → passes seen.now word.entry.wants word.entry.is_last
+            (get_or self.now.rows.items row d) ≡ false) }
     {
-        let row = self.find(number, word)?;
-        if self.rows[row].passes(is_last, seen) {
+        let row = self.find(number, word.text)?;
+        if self.rows[row].passes(word.wants, word.is_last, seen) {
             Some(row)
         } else {
             None

@@ -29,7 +29,7 @@ module _ (text now : At → List ℕ) (file : ℕ) (same : (i : ℕ) → now (at
   same_symbol p = ap (λ (n : List (List ℕ)). let s : Symbol = record { name = n; kind = p.kind; file = file } in s) (same_name (p.above ++ p.last ∷ []))
 
   pub same_reference : (u : Used ℕ) → reference_of now entry_name (used_in file u) ≡ reference_of text entry_name (used_in file u)
-  same_reference u = ap₂ (λ (n ws : List (List ℕ)). let r : Reference = record { file = file; scope = n; is_absolute = u.is_absolute; wants_message = u.wants_message; words = ws } in r) (same_name u.scope) (same_words u.tokens)
+  same_reference u = ap₂ (λ (n ws : List (List ℕ)). let r : Reference = record { file = file; scope = n; is_absolute = u.is_absolute; wants = u.wants; words = ws } in r) (same_name u.scope) (same_words u.tokens)
 
 -- ---- the files before and now
 

@@ -1,13 +1,12 @@
 -- Where the name stands that a reference means (for the crates above).
 use Rattle.std.proofs.Common.{◌≡◌, ◌≢◌, ℕ, suc, ◌<◌, Bool, true, false, cond, List, [], ◌∷◌, length, get_or, map, Option, Some, None, option_map, refl, sym, ap, subst, ◌∙◌, inl, inr, arith, All, Contains, find, ◌==◌}
-use Rattle.proto_base.proofs.Common.{none-some, same_Some, contains_cases, contains_head, contains_later, contains_map, from_map}
+use Rattle.proto_base.proofs.Common.{false_from_ne_true, none-some, same_Some, contains_cases, contains_head, contains_later, contains_map, from_map}
 use Rattle.proto_files.proofs.Common.{FileOf, ReadOf}
 use Rattle.proto_case.specs.Camel.{entry_name}
-use Rattle.proto_names_rules.proofs.Common.{place_of, ArePlain, At, at, joined, is_package, Symbol, is_type, same_name, Declared, Used, name_of, symbol_of, name_from_same, same_from_name, meant}
+use Rattle.proto_names_rules.proofs.Common.{place_of, ArePlain, At, at, joined, is_package, package_from, Symbol, may_resolve_to, same_name, Declared, Used, name_of, symbol_of, name_from_same, same_from_name, meant, wanted_no_package}
 use Rattle.proto_names.specs.Links.{uses_of, link_skeleton, names_of_files, text_of, used_named}
 use Rattle.proto_names.proofs.Common.{IsLinkRead, TextMeant, meant_by_link, meant_by_use, LinkOf, NameOf, name_at, name_declared_as as stands_at}
-use Rattle.proto_names_rules.specs.declared.kind.Kind.{Kind}
-use Rattle.proto_names_rules.specs.declared.kind.Kind.TheVariants.{Package, Message, Entry, Enum, Service, Field, EntryField, Oneof, Value, Method, Extension}
+use Rattle.proto_names_rules.specs.declared.kind.Kind.TheVariants.{Package}
 use Rattle.proto_names.specs.Linking.{Meant}
 use Rattle.proto_resolved.specs.SceneOf.{declared_as, meaning_of}
 
@@ -29,22 +28,6 @@ found {A} p (y ∷ xs) x c e = go (λ d. found p xs x d e) (p y) refl
       | inl same ↦ (let t : p y ≡ true = ap p same ∙ e in absurd (cc))
       | inr later ↦ (let r = on later in record { it = r.it; is = ap (λ (b : Bool). cond b (Some y) (find p xs)) f ∙ r.is; there = contains_later y r.it xs r.there; passes = r.passes })
     ]
-
-type_is_no_package : (k : Kind) → is_type k ≡ true → k ≢ Package
-type_is_no_package k t e = let f : is_type k ≡ false = ap is_type e in absurd (cc)
-
-in_no_package : (k : Kind) → is_type k ≡ true → is_package k ≡ false
-in_no_package Package t = sym t
-in_no_package Message t = refl
-in_no_package Entry t = refl
-in_no_package Enum t = refl
-in_no_package Service t = refl
-in_no_package Field t = refl
-in_no_package EntryField t = refl
-in_no_package Oneof t = refl
-in_no_package Value t = refl
-in_no_package Method t = refl
-in_no_package Extension t = refl
 
 module _ (files : List FileOf) (reads : List ReadOf) (l : LinkOf) (link : IsLinkRead files reads l) where
   -- the name of a symbol has its kind
@@ -69,19 +52,19 @@ module _ (files : List FileOf) (reads : List ReadOf) (l : LinkOf) (link : IsLink
       let spelled : Declared At → List (List ℕ) = λ d. name_of (text_of files reads) entry_name d.path in
       let t = meant (names_of_files files reads) (used_named (text_of files reads) file u) name means in
       let kind : n.kind ≡ t.0.kind = same_kind row n h t.0 t.1 (text ∙ ap joined (sym t.2)) in
-      let type : is_type n.kind ≡ true = ap is_type kind ∙ t.3 in
+      let wanted : may_resolve_to u.wants n.kind ≡ true = ap (may_resolve_to u.wants) kind ∙ t.3 in
       let d0 = from_map (symbol_of (text_of files reads) entry_name) declared t.0 t.1 in
       let named : spelled d0.0 ≡ name = ap (λ (s : Symbol). s.name) d0.2 ∙ t.2 in
       let f = found (λ d. same_name (spelled d) name) declared d0.0 d0.1 (same_from_name (spelled d0.0) name named) in
       let d = f.it in
       let same : spelled d ≡ name = name_from_same (spelled d) name f.passes in
       let kind_there : n.kind ≡ d.kind = same_kind row n h (symbol_of (text_of files reads) entry_name d) (contains_map (symbol_of (text_of files reads) entry_name) declared d f.there) (text ∙ ap joined (sym same)) in
-      let other : d.kind ≢ Package = type_is_no_package d.kind (ap is_type (sym kind_there) ∙ type) in
+      let other : d.kind ≢ Package = wanted_no_package u.wants d.kind (ap (may_resolve_to u.wants) (sym kind_there) ∙ wanted) in
       record {
         declared = d;
         is = f.is;
         place = (stands_at (text_of files reads) (link_skeleton files reads) l link.by d f.there other row n h (text ∙ ap joined (sym same))).1;
-        other = in_no_package n.kind type;
+        other = false_from_ne_true (is_package n.kind) (λ q. wanted_no_package u.wants n.kind wanted (package_from n.kind q));
         plain = subst ArePlain t.2 (link.by.names.plain t.0 t.1);
       }
 

@@ -101,7 +101,17 @@ fn all_faults_are_listed(rt: HostRuntime) {
 
 /// Texts, what is listed of them in the core language, and what is listed as written.
 const LANGUAGES: &[(&str, &str, &str)] = &[
-    ("a.proto option (x) = { a: 1 };", "a.proto:16: 3;", ""),
+    (
+        "a.proto option (x) = { a: 1 };",
+        "a.proto:16: 3;",
+        "a.proto:8: 14;",
+    ),
+    // Names of custom options stand in order with other references.
+    (
+        "b.proto import \"a.proto\"; message M { optional N n = 1 [(x) = 1, (.y) = 2]; oneof o { option (M.n) = 3; } }|a.proto enum E { V = 0 [(V) = 1]; }",
+        "a.proto:9: 8;b.proto:30: 8;",
+        "a.proto:17: 14;b.proto:39: 14;b.proto:49: 14;b.proto:58: 14;b.proto:86: 14;",
+    ),
     (
         "b.proto option (x) = { # };|a.proto option (x) = { a: 1 };",
         "a.proto:16: 3;b.proto:15: 3;",
@@ -118,11 +128,11 @@ const LANGUAGES: &[(&str, &str, &str)] = &[
         "a.proto:22: 8;",
         "a.proto:22: 8;",
     ),
-    // Custom options may be set again, and what they set is not looked up.
+    // Custom options may be set again.
     (
-        "a.proto option (x) = { a: 1 }; option foo = 1; option (x) = 2; option foo = 2;",
-        "a.proto:16: 3;",
-        "a.proto:30: 27;a.proto:62: 27;",
+        "a.proto package google.protobuf; message FileOptions { extensions 1000; } extend FileOptions { optional int32 x = 1000; } option (x) = 1; option foo = 1; option (x) = 2; option foo = 2;",
+        "a.proto:114: 8;",
+        "a.proto:137: 27;a.proto:169: 27;",
     ),
 ];
 

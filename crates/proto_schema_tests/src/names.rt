@@ -7,6 +7,7 @@ mod extensions;
 mod faults;
 mod limits;
 mod meanings;
+mod option_names;
 mod readers;
 mod replacing;
 mod resolving;

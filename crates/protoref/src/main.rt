@@ -20,7 +20,7 @@ use std::{env, io, mem};
 const BAD_COMMAND_LINE: &str = "protoref: bad command line";
 
 /// What `protoref --version` prints. `VERSION`, at the top of the repository, has the same number.
-const VERSION: &str = "protoref 0.1.0\n";
+const VERSION: &str = "protoref 0.2.0\n";
 
 fn main(rt: HostRuntime) -> ExitCode {
     match answer(&rt) {

@@ -8,20 +8,28 @@ use std::process::Abort;
 /// Files, what is asked of them, what is printed, and whether all is well.
 type Row = (&'static str, &'static str, &'static str, bool);
 
-/// A file with custom options, the name of the first of which begins at its offset 38.
+/// Files with custom options and their extensions; the name of the first option begins at the offset 56 of its file.
 const CUSTOM: &str =
-    "a.proto syntax = \"proto3\"; package p; option (x) = { a: 1 }; message A { int32 f = 1 [(y).z = 2]; }";
+    "a.proto syntax = \"proto3\"; package p; import \"d.proto\"; option (x) = { a: 1 }; message A { int32 f = 1 [(p.y).a = 2]; } extend google.protobuf.FileOptions { V x = 1000; } extend google.protobuf.FieldOptions { V y = 1000; } message V { int32 a = 1; } | d.proto syntax = \"proto2\"; package google.protobuf; message FileOptions { extensions 1000; } message FieldOptions { extensions 1000; }";
 
-/// Two files, the second of which has one, at its offset 27.
+/// Two files, the second of which has one, at its offset 141.
 const SECOND: &str =
-    "a.proto syntax = \"proto3\"; message A { int32 f = 1; } | b.proto syntax = \"proto3\"; option (p.x) = 1;";
+    "a.proto syntax = \"proto3\"; message A { int32 f = 1; } | b.proto syntax = \"proto2\"; package google.protobuf; message FileOptions { extensions 1000; } extend FileOptions { optional int32 x = 1000; } option (x) = 1;";
+
+/// A file with an option whose extension the second file declares.
+const USING: &str =
+    "a.proto syntax = \"proto3\"; import \"b.proto\"; option (google.protobuf.x) = 1; | b.proto syntax = \"proto2\"; package google.protobuf; message FileOptions { extensions 1000; } extend FileOptions { optional int32 x = 1000; }";
+
+/// A message with an option that a field may capture.
+const BESIDE: &str =
+    "a.proto syntax = \"proto2\"; package google.protobuf; message FieldOptions { extensions 1000; } extend FieldOptions { optional int32 x = 1000; } message A { optional int32 f = 1 [(x) = 1]; optional M m = 2; } message M { }";
 
 const ROWS: &[Row] = &[
     // Custom options are not printed.
     (
         CUSTOM,
         "compile",
-        "{\"file\":[{\"messageType\":[{\"field\":[{\"jsonName\":\"f\",\"label\":\"LABEL_OPTIONAL\",\"name\":\"f\",\"number\":1,\"type\":\"TYPE_INT32\"}],\"name\":\"A\"}],\"name\":\"a.proto\",\"package\":\"p\",\"syntax\":\"proto3\"}]}\n",
+        "{\"file\":[{\"dependency\":[\"d.proto\"],\"extension\":[{\"extendee\":\".google.protobuf.FileOptions\",\"label\":\"LABEL_OPTIONAL\",\"name\":\"x\",\"number\":1000,\"type\":\"TYPE_MESSAGE\",\"typeName\":\".p.V\"},{\"extendee\":\".google.protobuf.FieldOptions\",\"label\":\"LABEL_OPTIONAL\",\"name\":\"y\",\"number\":1000,\"type\":\"TYPE_MESSAGE\",\"typeName\":\".p.V\"}],\"messageType\":[{\"field\":[{\"jsonName\":\"f\",\"label\":\"LABEL_OPTIONAL\",\"name\":\"f\",\"number\":1,\"type\":\"TYPE_INT32\"}],\"name\":\"A\"},{\"field\":[{\"jsonName\":\"a\",\"label\":\"LABEL_OPTIONAL\",\"name\":\"a\",\"number\":1,\"type\":\"TYPE_INT32\"}],\"name\":\"V\"}],\"name\":\"a.proto\",\"package\":\"p\",\"syntax\":\"proto3\"},{\"messageType\":[{\"extensionRange\":[{\"end\":1001,\"start\":1000}],\"name\":\"FileOptions\"},{\"extensionRange\":[{\"end\":1001,\"start\":1000}],\"name\":\"FieldOptions\"}],\"name\":\"d.proto\",\"package\":\"google.protobuf\"}]}\n",
         true,
     ),
     (
@@ -30,24 +38,43 @@ const ROWS: &[Row] = &[
         "a.proto:1:20: 8 Syntax\n",
         false,
     ),
-    // Each edit is refused, where no case of its own refuses it.
+    // Their names are looked up.
+    (
+        "a.proto syntax = \"proto3\"; package p; option (x) = { a: 1 };",
+        "compile",
+        "a.proto:1:39: 14 Unresolved\n",
+        false,
+    ),
+    (
+        "a.proto syntax = \"proto3\"; package p; message x { } message M { oneof o { option (x) = 1; int32 a = 1; } }",
+        "compile",
+        "a.proto:1:75: 14 Unresolved\n",
+        false,
+    ),
+    // Each edit is refused, that of an extension too, where no case of its own refuses it.
     (
         CUSTOM,
         "rename p.A B",
-        "refused: 19 OptionValue a.proto:1:39\n",
+        "refused: 19 OptionValue a.proto:1:57\n",
+        false,
+    ),
+    (
+        CUSTOM,
+        "rename p.x z",
+        "refused: 19 OptionValue a.proto:1:57\n",
         false,
     ),
     (CUSTOM, "rename p.B C", "refused: 1 UnknownTarget\n", false),
     (
         CUSTOM,
         "delete-field p.A.f",
-        "refused: 19 OptionValue a.proto:1:39\n",
+        "refused: 19 OptionValue a.proto:1:57\n",
         false,
     ),
     (
         SECOND,
         "add-import a.proto b.proto",
-        "refused: 19 OptionValue b.proto:1:28\n",
+        "refused: 19 OptionValue b.proto:1:142\n",
         false,
     ),
     (
@@ -57,9 +84,28 @@ const ROWS: &[Row] = &[
         false,
     ),
     (
-        "a.proto syntax = \"proto3\"; import \"b.proto\"; | b.proto syntax = \"proto3\"; option (p.x) = 1;",
+        "a.proto syntax = \"proto3\"; import \"b.proto\"; message A { int32 f = 1; } | b.proto syntax = \"proto2\"; package google.protobuf; message FileOptions { extensions 1000; } extend FileOptions { optional int32 x = 1000; } option (x) = 1;",
         "drop-import a.proto b.proto",
-        "refused: 19 OptionValue b.proto:1:28\n",
+        "refused: 19 OptionValue b.proto:1:142\n",
+        false,
+    ),
+    (
+        BESIDE,
+        "rename google.protobuf.A.m y",
+        "refused: 19 OptionValue a.proto:1:171\n",
+        false,
+    ),
+    // So is one by which a name would mean something else, or nothing.
+    (
+        BESIDE,
+        "rename google.protobuf.A.m x",
+        "refused: 7 Captured a.proto:1:171\n",
+        false,
+    ),
+    (
+        USING,
+        "drop-import a.proto b.proto",
+        "refused: 15 Needed a.proto:1:46\n",
         false,
     ),
     // Without a custom option the answers are those of the core language.
@@ -107,16 +153,12 @@ const IMPORTS: &[(&str, &str, Status)] = &[
         "a.proto:1:20: IMPORT_USED b.proto\n",
         Status::Problem,
     ),
-    // The option's name may be declared in the file that is imported.
-    (
-        "a.proto syntax = \"proto3\"; import \"b.proto\"; option (x) = 1; | b.proto syntax = \"proto3\";",
-        "",
-        Status::Done,
-    ),
+    // An option's name uses it.
+    (USING, "", Status::Done),
 ];
 
 #[test]
-fn finds_no_unused_import_beside_a_custom_option(rt: HostRuntime) {
+fn finds_no_import_unused_that_an_option_uses(rt: HostRuntime) {
     for &(files, text, status) in IMPORTS {
         let mut store = store_of(&rt, files);
         let mut rules = RuleSet::none();

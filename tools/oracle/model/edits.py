@@ -1,8 +1,8 @@
 """The answers to edits in a model of schemas: what a command prints, the bytes that change, and the lines of the journal and the log."""
 
 from described import text
+from guards import first_option, guarded_word, is_fixed
 from renames import rename_of
-from schemas import Use
 from statements import addition_of, deletion_of, drop_of
 
 NAMES = {
@@ -23,6 +23,7 @@ NAMES = {
     15: "Needed",
     16: "TooLarge",
     19: "OptionValue",
+    20: "FixedName",
 }
 # By the command's word; each takes the words after ROOT.
 EDITS = {"rename": rename_of, "delete-field": deletion_of, "add-import": addition_of, "drop-import": drop_of}
@@ -31,22 +32,21 @@ KEYS = {"rename": ("name", "to"), "delete-field": ("name",), "add-import": ("fil
 
 
 def answer(workspace, command, *words):
-    """The number of what refuses an edit, the reference that it reports, and the edit itself where nothing refuses it."""
+    """The number of what refuses an edit, the place that it reports, as a file and an offset, and the edit where nothing refuses it."""
     number, use, edit = EDITS[command](workspace, *words)
-    custom = [Use(place, (), name) for place, file in enumerate(workspace.files) for name in file.custom]
-    return (number, use, edit) if number or not custom else (19, custom[0], None)
-
-
-def place_of(workspace, use):
-    """The path, line and column of a reference, as they are printed."""
-    return workspace.written_place(use.file, use.reference.first.start)
+    if number or workspace.is_ahead and command not in ("rename", "delete-field"):
+        return number, use and (use.file, use.reference.first.start), edit
+    word = guarded_word(workspace, edit) if workspace.is_ahead else first_option(workspace)
+    if word:
+        return 19, word, None
+    return (20, None, None) if workspace.is_ahead and is_fixed(workspace, edit) else (0, None, edit)
 
 
 def printed(workspace, command, *words):
     """What the command prints, its status, and the edit if it is accepted."""
-    number, use, edit = answer(workspace, command, *words)
+    number, at, edit = answer(workspace, command, *words)
     if number:
-        place = f" {place_of(workspace, use)}" if use else ""
+        place = f" {workspace.written_place(*at)}" if at else ""
         return f"refused: {number} {NAMES[number]}{place}\n", 1, None
     return "".join(f"changed {path}\n" for path, _, _, _ in edit.changes()), 0, edit
 

@@ -7,13 +7,13 @@ from collections import Counter
 from typing import NamedTuple
 
 from grammar import SCALARS, Block, Extend, Field, Method, NoSchema, Oneof, Option, Reader, Reserved, Value, number_value, tokens_of
-from schemas import Workspace, line_and_column
+from schemas import MESSAGE, OPTION, Workspace, line_and_column
 
 NAMES = dict(enumerate(
     "TooLarge NotUtf8 BadChar OpenComment OpenString BadEscape BadNumber Syntax TooDeep UnknownImport DoubleImport ImportCycle"
     " DuplicateName Unresolved WrongKind MapEntryRef NumberRange DuplicateNumber ReservedNumber ReservedName RangeOverlap"
     " EmptyEnum FirstNotZero ClosedEnum Label BadMap BadOption BadDefault EmptyOneof JsonClash NotInProto3 AliasNotAllowed"
-    " BadPath DoublePath TooManyFiles NotExtendable DuplicateExtension RequiredExtension".split(),
+    " BadPath DoublePath TooManyFiles NotExtendable DuplicateExtension RequiredExtension NotAnOption".split(),
     1,
 ))
 MAX_FILES, MAX_PATH = 4096, 255
@@ -66,6 +66,18 @@ MORE_OPTIONS = {
     "field": MORE_OF_FIELDS,
     "extension": MORE_OF_FIELDS,
 }
+# The options message of each element that has custom options, and the nine options messages.
+OPTIONS_OF = {
+    "file": "FileOptions",
+    "message": "MessageOptions",
+    "field": "FieldOptions",
+    "oneof": "OneofOptions",
+    "enum": "EnumOptions",
+    "value": "EnumValueOptions",
+    "service": "ServiceOptions",
+    "method": "MethodOptions",
+}
+OPTIONS_MESSAGES = [("google", "protobuf", name) for name in (*OPTIONS_OF.values(), "ExtensionRangeOptions")]
 # The scalar types whose values are whole numbers of 64 bits.
 LONG = ("int64", "uint64", "sint64", "fixed64", "sfixed64")
 
@@ -78,7 +90,7 @@ class Fault(NamedTuple):
     number: int
 
 
-def faults(files, as_written=False):
+def faults(files, as_written=False, is_ahead=False):
     """All faults of the first phase that has one, each once and in order. Files are pairs of a path and its bytes read as Latin-1."""
     files = sorted(files)
     found = set(faults_of_paths([path for path, _ in files]))
@@ -88,7 +100,7 @@ def faults(files, as_written=False):
     tokens, found = read_each(texts, lambda path: tokens_of(texts[path], as_written))
     if not found:
         trees, found = read_each(texts, lambda path: Reader(tokens[path], as_written).file(path, texts[path]))
-    return found or faults_of(Workspace(texts, as_written, list(trees.values())))
+    return found or faults_of(Workspace(texts, as_written, list(trees.values()), is_ahead))
 
 
 def read_each(paths, read):
@@ -163,7 +175,7 @@ def faults_of_references(workspace):
     for use in workspace.uses:
         resolved = workspace.resolution(use)
         kind = workspace.by_name[resolved].kind if resolved else None
-        number = 14 if not kind else 15 if use.wants_message and kind == "enum" else 16 if kind == "entry" else None
+        number = 14 if not kind else 15 if use.wants is MESSAGE and kind == "enum" else 16 if kind == "entry" else None
         if number:
             yield Fault(workspace.files[use.file].path, use.reference.first.start, number)
 
@@ -177,6 +189,8 @@ def faults_of_checks(workspace):
         for offset, number in Checks(workspace, file, resolved).file():
             yield Fault(file.path, offset, number)
     yield from faults_of_numbers(workspace, resolved)
+    if workspace.is_ahead:
+        yield from faults_of_elements(workspace)
 
 
 def faults_of_numbers(workspace, resolved):
@@ -191,6 +205,18 @@ def faults_of_numbers(workspace, resolved):
             if used in taken:
                 yield Fault(path, field.number_at, 37)
             taken.add(used)
+
+
+def faults_of_elements(workspace):
+    """Custom options of elements that do not have them, of those whose names resolve to something."""
+    for use in workspace.uses:
+        resolved = use.wants is OPTION and workspace.resolution(use)
+        if resolved and workspace.extended_by(workspace.by_name[resolved]) != options_message_of(use.option.element):
+            yield Fault(workspace.files[use.file].path, use.reference.first.start, 39)
+
+
+def options_message_of(element):
+    return ("google", "protobuf", OPTIONS_OF[element])
 
 
 class Checks:
@@ -246,7 +272,8 @@ class Checks:
             yield from self.options("method", method.options)
 
     def extend(self, extend):
-        if self.is_proto3 and not self.workspace.as_written:
+        is_of_options = self.resolved[id(extend.extendee)].name in OPTIONS_MESSAGES or not self.workspace.is_ahead
+        if self.is_proto3 and not (self.workspace.as_written and is_of_options):
             yield extend.keyword.start, 31
         yield from self.labels(extend.fields)
         for field in extend.fields:

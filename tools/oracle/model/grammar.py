@@ -138,6 +138,17 @@ class Option:
 
 
 @dataclass
+class CustomOption:
+    """An option with a name in parentheses: the element that has it, the names of the messages or the service around its scope, and
+    the words of its path and of its value."""
+
+    element: str
+    around: tuple
+    name: Reference
+    words: list
+
+
+@dataclass
 class Field:
     label: Optional[str]
     # The type of a map's key.
@@ -263,7 +274,7 @@ class File:
     import_places: list = field(default_factory=list)
     # The places of weak imports among all.
     weak_imports: list = field(default_factory=list)
-    # The names of custom options, which are no part of the tree.
+    # Custom options, which are no part of the tree.
     custom: list = field(default_factory=list)
     package_end: Optional[int] = None
     syntax_end: Optional[int] = None
@@ -306,6 +317,8 @@ class Reader:
 
     def __init__(self, tokens, as_written=False):
         self.as_written, self.custom = as_written, []
+        # The names of the messages, or of the service, around what is read.
+        self.around = []
         self.tokens, self.place = [*tokens, Token(-1, "end", "")], 0
         # How many tokens the longest prefix has that closing braces alone would complete, of those that were read.
         self.whole = 0
@@ -376,14 +389,14 @@ class Reader:
         elif self.is_next("extend"):
             file.members.append(self.extend())
         else:
-            self.member(file.members, "message", "enum", "service")
+            self.member(file.members, "file", "message", "enum", "service")
 
-    def member(self, members, *blocks):
-        """Takes an empty statement, an option, or a block of one of these kinds."""
+    def member(self, members, element, *blocks):
+        """Takes an empty statement, an option of an element, or a block of one of these kinds."""
         if self.takes(";"):
             return
         if self.takes("option"):
-            self.option(members)
+            self.option(members, element)
             self.take_end()
         else:
             members.append(self.block(*blocks))
@@ -394,20 +407,21 @@ class Reader:
             words.append(self.take("word"))
         return words
 
-    def option(self, options):
-        """Takes an option, and adds a plain one to these."""
+    def option(self, options, element):
+        """Takes an option of an element, and adds a plain one to these."""
         if self.as_written and self.is_next("("):
-            return self.custom_option()
+            return self.custom_option(element)
         name = self.take("word")
         self.take_text("=")
         options.append(Option(name, self.constant()))
 
-    def custom_option(self):
+    def custom_option(self, element):
         self.take_text("(")
         first = self.next()
         is_absolute = self.takes(".")
-        self.custom.append(Reference(first, is_absolute, self.dotted()))
+        name = Reference(first, is_absolute, self.dotted())
         self.take_text(")")
+        start = self.place
         while self.takes("."):
             self.take("word")
         self.take_text("=")
@@ -415,6 +429,10 @@ class Reader:
             self.braces()
         else:
             self.constant()
+        words = [token for token in self.tokens[start : self.place] if token.kind == "word"]
+        # The option of a message or of a service stands in what is around that.
+        around = self.around[:-1] if element in ("message", "service") else self.around
+        self.custom.append(CustomOption(element, tuple(around), name, words))
 
     def braces(self):
         """Takes a value in braces: tokens in which braces are balanced, and `[` behind `:` alone."""
@@ -442,12 +460,12 @@ class Reader:
         sign = [self.take_text("-")] if self.is_next("-") else []
         return sign + [self.take("number")]
 
-    def settings(self):
+    def settings(self, element):
         found = []
         if self.takes("["):
-            self.option(found)
+            self.option(found, element)
             while self.takes(","):
-                self.option(found)
+                self.option(found, element)
             self.take_text("]")
         return found
 
@@ -462,8 +480,11 @@ class Reader:
         kind = self.take_text(*kinds).text
         block = Block(kind, self.take("word"))
         self.take_text("{")
+        inside = [] if kind == "enum" else [block.name.text]
+        self.around += inside
         while not self.takes("}"):
             {"message": self.in_message, "enum": self.in_enum, "service": self.in_service}[kind](block.members)
+        self.around = self.around[: len(self.around) - len(inside)]
         return block
 
     def extend(self):
@@ -483,7 +504,7 @@ class Reader:
         elif self.is_next("extend"):
             members.append(self.extend())
         elif self.is_next(";", "option", "message", "enum"):
-            self.member(members, "message", "enum")
+            self.member(members, "message", "message", "enum")
         else:
             members.append(self.map_field() if self.is_next("map") else self.labeled_field())
 
@@ -492,7 +513,7 @@ class Reader:
         self.take_text("{")
         while not self.is_next("}"):
             if self.as_written and self.takes("option"):
-                self.custom_option()
+                self.custom_option("oneof")
                 self.take_end()
             else:
                 oneof.fields.append(self.field(None, self.next().start))
@@ -520,7 +541,7 @@ class Reader:
         name = self.take("word")
         self.take_text("=")
         written = self.take("number")
-        settings = self.settings()
+        settings = self.settings("field")
         span = (start, self.take_end())
         return Field(label, key, scalar, reference, name, number_value([written]), settings, span, written.start)
 
@@ -557,18 +578,18 @@ class Reader:
         if self.is_next("reserved"):
             members.append(self.reserved(self.signed))
         elif self.is_next(";", "option"):
-            self.member(members)
+            self.member(members, "enum")
         else:
             name = self.take("word")
             self.take_text("=")
             place = self.next().start
             number = number_value(self.signed())
-            members.append(Value(name, number, self.settings(), place))
+            members.append(Value(name, number, self.settings("value"), place))
             self.take_end()
 
     def in_service(self, members):
         if self.is_next(";", "option"):
-            return self.member(members)
+            return self.member(members, "service")
         self.take_text("rpc")
         name = self.take("word")
         is_streamed, given = self.side()
@@ -577,7 +598,7 @@ class Reader:
         options = []
         if self.takes("{"):
             while not self.takes("}"):
-                self.member(options)
+                self.member(options, "method")
         else:
             self.take_end()
         members.append(Method(name, given, answered, (is_streamed, streams), options))

@@ -108,8 +108,8 @@ class Editor:
         """One of the edits, so that answers of each kind are picked as often: also by whether a place is in the edit's own file."""
         kinds = {}
         for edit in edits:
-            number, use, _ = answer(self.workspace, *edit)
-            kind = (number, use and self.workspace.files[use.file].path == edit[1])
+            number, at, _ = answer(self.workspace, *edit)
+            kind = (number, at and self.workspace.files[at[0]].path == edit[1])
             kinds.setdefault(kind, []).append(edit)
         # An import that is there already, or that would make a cycle, is refused alike each time: these are picked less often.
         weights = [0.3 if kind[0] in (12, 14) else 2 if kind[0] in (0, 16) else 1 for kind in kinds]

@@ -17,6 +17,8 @@ class Rename:
         self.workspace, self.target, self.to = workspace, target, to
         self.old = target.name
         self.new = target.name[:-1] + (to,)
+        # What it takes away and makes.
+        self.names = (self.old, self.new)
         # The renamed names with their new ones: of a map field its entry's too.
         self.pairs = [(self.old, self.new)]
         if target.kind == "field" and target.node.key:
@@ -61,7 +63,7 @@ class Rename:
         words = self.words_after(use)
         for cut in range(self.workspace.hit(use) + 1, len(use.scope) + 1):
             kinds = visible.get(self.map(use.scope[:cut]) + words[:1], ())
-            if any(fits(kind, words) for kind in kinds):
+            if any(fits(kind, words, use.wants) for kind in kinds):
                 return True
         return False
 

@@ -264,16 +264,16 @@ MESSAGE_OPTIONS = 'syntax = "proto2"; package google.protobuf; message MessageOp
 CUSTOM = (
     P3 + 'package p; import "d.proto"; extend google.protobuf.MessageOptions { T x = 1000; }'
     " message T { int32 a = 1; U u = 2; } message U { int32 b = 1; }"
-    " message A { option (x) = %s; int32 f = 1; message B { option (p.x).a = 3; } }"
+    " message A { option (x)%s; int32 f = 1; message B { option %s.a = 3; } }"
 )
-WITH_CUSTOM = {"a.proto": CUSTOM % "{ a: 1 u { b: 2 } }", "d.proto": MESSAGE_OPTIONS}
+WITH_CUSTOM = {"a.proto": CUSTOM % (" = { a: 1 u { b: 2 } }", "(p.x)"), "d.proto": MESSAGE_OPTIONS}
 TWICE = "message M { extensions 1; } extend M { optional int32 x = 1; }"
 ONE_OPTION = P3 + 'import "d.proto"; extend google.protobuf.FieldOptions { %sstring x = 1000; }'
 FIELD_OPTIONS = MESSAGE_OPTIONS.replace("Message", "Field")
 # Files, and all faults of the first faulty phase: those of files that are read as they are written, and those without the word.
 WRITTEN = [
     (WITH_CUSTOM, [], ["a.proto:1:194: 3"]),
-    ({**WITH_CUSTOM, "a.proto": CUSTOM % "{ a u { b 2 } }"}, [], ["a.proto:1:178: 8"]),
+    ({**WITH_CUSTOM, "a.proto": CUSTOM % (" = { a u { b 2 } }", "(p.x)")}, [], ["a.proto:1:178: 8"]),
     ("message M : {}", ["a.proto:1:1: 8"], ["a.proto:1:11: 3"]),
     ("option (x) = {", ["a.proto:1:1: 8"], ["a.proto:1:1: 8"]),
     ("option (x) = { a: 1; }", ["a.proto:1:1: 8"], ["a.proto:1:17: 3"]),
@@ -288,23 +288,23 @@ WRITTEN = [
     ("option (x) = 1.5;", ["a.proto:1:1: 8"], ["a.proto:1:1: 8"]),
     ("option (x) = ;", ["a.proto:1:1: 8"], ["a.proto:1:1: 8"]),
     ("message M { oneof o { option a = 1; int32 b = 1; } }", ["a.proto:1:23: 8"], ["a.proto:1:23: 8"]),
-    ("message M { oneof o { option (a) = 1; } }", ["a.proto:1:19: 29"], ["a.proto:1:23: 8"]),
+    ("message M { oneof o { option (a) = 1; } }", ["a.proto:1:31: 14"], ["a.proto:1:23: 8"]),
     ("message M { optional M m = 1 [deprecated = true, (a) = { ]; }", ["a.proto:1:13: 8"], ["a.proto:1:13: 8"]),
-    ("enum E { A = 0 [(a) = {]}]; B = 0; }", ["a.proto:1:33: 32"], ["a.proto:1:10: 8"]),
+    ("enum E { A = 0 [(a) = {]}]; B = 0; }", ["a.proto:1:18: 14"], ["a.proto:1:10: 8"]),
     ("option (x) = " + "{" * 33, ["a.proto:1:46: 9"], ["a.proto:1:46: 9"]),
-    ("message M { option (x) = " + "{" * 31 + "}" * 31 + "; }", [], ["a.proto:1:13: 8"]),
+    ("message M { option (x) = " + "{" * 31 + "}" * 31 + "; }", ["a.proto:1:21: 14"], ["a.proto:1:13: 8"]),
     ("message M { option (x) = " + "{" * 32 + "}" * 32 + "; }", ["a.proto:1:57: 9"], ["a.proto:1:57: 9"]),
     ('option (x) = { a: "\\q" };', ["a.proto:1:19: 6"], ["a.proto:1:17: 3"]),
     ("option (x) = { a # b };", ["a.proto:1:18: 3"], ["a.proto:1:18: 3"]),
     ("option (x) = { a / b };", ["a.proto:1:18: 3"], ["a.proto:1:18: 3"]),
-    ("option (x) = { a: 1.5 };", [], ["a.proto:1:17: 3"]),
+    ("option (x) = { a: 1.5 };", ["a.proto:1:9: 14"], ["a.proto:1:17: 3"]),
     ("option (x) = { a: 1e5 };", ["a.proto:1:19: 7"], ["a.proto:1:17: 3"]),
-    ("option (x) = { ) ; ] , = };", [], ["a.proto:1:1: 8"]),
-    ("message M { option (x) = { ) ; ] , = }; }", [], ["a.proto:1:13: 8"]),
-    ("enum E { A = 0 [(x) = { = ) ; ]}]; }", [], ["a.proto:1:10: 8"]),
-    ("option (x) = { a: [ 1 };", [], ["a.proto:1:17: 3"]),
-    ("message M { option (x) = { a: [ b { c: [ } }; }", [], ["a.proto:1:29: 3"]),
-    ("enum E { A = 0 [(x) = { a: [ }]; }", [], ["a.proto:1:26: 3"]),
+    ("option (x) = { ) ; ] , = };", ["a.proto:1:9: 14"], ["a.proto:1:1: 8"]),
+    ("message M { option (x) = { ) ; ] , = }; }", ["a.proto:1:21: 14"], ["a.proto:1:13: 8"]),
+    ("enum E { A = 0 [(x) = { = ) ; ]}]; }", ["a.proto:1:18: 14"], ["a.proto:1:10: 8"]),
+    ("option (x) = { a: [ 1 };", ["a.proto:1:9: 14"], ["a.proto:1:17: 3"]),
+    ("message M { option (x) = { a: [ b { c: [ } }; }", ["a.proto:1:21: 14"], ["a.proto:1:29: 3"]),
+    ("enum E { A = 0 [(x) = { a: [ }]; }", ["a.proto:1:18: 14"], ["a.proto:1:26: 3"]),
     ({"a.proto": 'import weak "b.proto";', "b.proto": ""}, [], ["a.proto:1:1: 8"]),
     ({"a.proto": 'import weak "b.proto"; import "a.proto";', "b.proto": 'import weak "a.proto";'}, ["a.proto:1:13: 12", "a.proto:1:31: 12", "b.proto:1:13: 12"], ["a.proto:1:1: 8", "b.proto:1:1: 8"]),
     ("message weak { optional .weak weak = 1; enum E { Weak = 0; } } service S { rpc weak(.weak) returns (.weak); }", [], []),
@@ -312,7 +312,7 @@ WRITTEN = [
     ('import public weak "b.proto";', ["a.proto:1:1: 8"], ["a.proto:1:1: 8"]),
     ('import weak public "b.proto";', ["a.proto:1:1: 8"], ["a.proto:1:1: 8"]),
     ('message M { import weak "b.proto"; }', ["a.proto:1:13: 8"], ["a.proto:1:13: 8"]),
-    ("option (optional.stream) = -0x1; option (.message).to.max = 'a' \"b\";", [], ["a.proto:1:1: 8"]),
+    ("option (optional.stream) = -0x1; option (.message).to.max = 'a' \"b\";", ["a.proto:1:9: 14", "a.proto:1:42: 14"], ["a.proto:1:1: 8"]),
     ({"a.proto": ONE_OPTION % "", "d.proto": FIELD_OPTIONS}, [], ["a.proto:1:38: 31"]),
     ({"a.proto": ONE_OPTION % "required ", "d.proto": FIELD_OPTIONS}, ["a.proto:1:76: 31", "a.proto:1:76: 38"], ["a.proto:1:38: 31", "a.proto:1:76: 31", "a.proto:1:76: 38"]),
     ({"a.proto": TWICE, "b.proto": 'import "a.proto"; extend M { optional int32 y = 1; }'}, [], ["b.proto:1:49: 37"]),
@@ -323,10 +323,104 @@ WRITTEN = [
         ["a.proto:1:8: 27", "a.proto:1:35: 27", "a.proto:1:83: 27", "a.proto:1:120: 27"],
     ),
 ]
+# A proto2 file with options messages of its own.
+FOO = (
+    "package google.protobuf; message Foo {} message B { option deprecated = true; }"
+    " message FileOptions { optional bool deprecated = 23; enum E { X = 0; } }"
+)
+# The extension apart from the message that has the option, and from a type that its value fills.
+APART = {
+    "a.proto": P3
+    + 'package p; import "d.proto"; import "u.proto"; extend google.protobuf.MessageOptions { T x = 1000; }'
+    " message T { int32 a = 1; U u = 2; } message C { option (x) = { a: 1 u { b: 2 } }; }",
+    "b.proto": P3 + 'package p; import "a.proto"; message A { option (x) = { a: 1 }; int32 f = 1; }',
+    "u.proto": P3 + "package p; message U { int32 b = 1; }",
+    "d.proto": MESSAGE_OPTIONS,
+}
+# A name that is looked up in the message around, and another that a field may have.
+WITH_PATH = {"a.proto": CUSTOM % (".a = 3", "(x)"), "d.proto": MESSAGE_OPTIONS}
+WITH_LONGER_PATH = {"a.proto": CUSTOM % (".a = 3", "(p.x)"), "d.proto": MESSAGE_OPTIONS}
+CAPTURED_BY_IMPORT = {
+    "x.proto": "import 'd.proto'; extend google.protobuf.MessageOptions { optional int32 x = 1000; }",
+    "y.proto": 'syntax = "proto2"; import "x.proto"; package q; message M { option (x) = 1; }',
+    "z.proto": "package q.x;",
+    "d.proto": MESSAGE_OPTIONS,
+}
+# An option of a field; one whose name a field, a oneof, a value, an entry or a package has, too.
+FIELDS_OF = "package google.protobuf; message FieldOptions { extensions 1000 to max; } extend FieldOptions { optional bool x = 1000; } "
+# Two files, one with an extension and the other with an option.
+OF_X = {
+    "x.proto": "import 'd.proto'; extend google.protobuf.MessageOptions { optional int32 x = 1000; }",
+    "y.proto": 'syntax = "proto2"; import "x.proto"; message M { option (x) = 1; }',
+    "d.proto": MESSAGE_OPTIONS,
+}
+# An extension in the message that has the option.
+INSIDE = P3 + 'package p; import "d.proto"; message A { extend google.protobuf.MessageOptions { int32 x = 1000; } option (%s) = 1; }'
+OF_FIELDS = FIELDS_OF + "message A { %s optional int32 y = 1 [(%s) = true]; }"
+# Files with names of options, and all faults of the first faulty phase, of files that are read as they are written, in a workspace that is
+# ahead. The program has those of 14 Unresolved.
+OPTION_NAMES = [
+    (OF_FIELDS % ("", "x"), []),
+    (OF_FIELDS % ("", ".google.protobuf.x"), []),
+    (OF_FIELDS % ("", "google.protobuf.x"), []),
+    (OF_FIELDS % ("", "protobuf.x"), []),
+    (OF_FIELDS % ("", ".x"), ["a.proto:1:159: 14"]),
+    (OF_FIELDS % ("", "y"), ["a.proto:1:159: 14"]),
+    (OF_FIELDS % ("", "A"), ["a.proto:1:159: 14"]),
+    (OF_FIELDS % ("", "protobuf"), ["a.proto:1:159: 14"]),
+    (OF_FIELDS % ("", "FieldOptions.x"), ["a.proto:1:159: 14"]),
+    (OF_FIELDS % ("optional int32 x = 2;", "x"), ["a.proto:1:180: 14"]),
+    (OF_FIELDS % ("optional int32 x = 2;", "protobuf.x"), []),
+    (OF_FIELDS % ("optional int32 protobuf = 2;", "protobuf.x"), []),
+    (OF_FIELDS % ("message protobuf {}", "protobuf.x"), ["a.proto:1:178: 14"]),
+    (OF_FIELDS % ("oneof x { int32 b = 2; }", "x"), ["a.proto:1:183: 14"]),
+    (OF_FIELDS % ("message x {}", "x"), ["a.proto:1:171: 14"]),
+    (OF_FIELDS % ("enum E { x = 0; }", "x"), ["a.proto:1:176: 14"]),
+    (OF_FIELDS % ("enum x { V = 0; }", "x.y"), ["a.proto:1:176: 14"]),
+    (OF_FIELDS % ("map<int32,A> x = 2;", "x"), ["a.proto:1:178: 14"]),
+    (OF_FIELDS % ("map<int32,A> x = 2;", "XEntry"), ["a.proto:1:178: 14"]),
+    (OF_FIELDS % ("extend FieldOptions { optional bool x = 1001; }", "x"), []),
+    (OF_FIELDS % ("extend FieldOptions { optional bool z = 1001 [(x) = true]; }", "A.z"), []),
+    (OF_FIELDS % ("extend FieldOptions { optional bool x = 1001 [(x) = true]; }", "A.x"), []),
+    (FIELDS_OF + "message A { optional int32 x = 1; enum E { V = 0 [(x) = true]; } }", ["a.proto:1:174: 14"]),
+    (FIELDS_OF + "message A { optional int32 x = 1; enum E { option (x) = true; V = 0; } }", ["a.proto:1:174: 14"]),
+    (FIELDS_OF + "message A { oneof x { option (x) = true; int32 b = 2; } }", ["a.proto:1:153: 14"]),
+    (FIELDS_OF + "message A { optional int32 x = 1; option (x) = true; }", ["a.proto:1:165: 39"]),
+    (FIELDS_OF + "message A { option (A.z) = true; extend FieldOptions { optional bool z = 1001; } }", ["a.proto:1:143: 39"]),
+    (FIELDS_OF + "message A { option (z) = true; extend FieldOptions { optional bool z = 1001; } }", ["a.proto:1:143: 14"]),
+    (FIELDS_OF + "option (x) = true; enum E { option (x) = true; V = 0 [(x) = true]; }", ["a.proto:1:131: 39", "a.proto:1:159: 39", "a.proto:1:178: 39"]),
+    (FIELDS_OF + "service S { option (x) = true; rpc x (S) returns (S); }", ["a.proto:1:161: 14", "a.proto:1:173: 14"]),
+    (FIELDS_OF + "message M {} service S { option (x) = true; rpc y (M) returns (M) { option (x) = true; } }", ["a.proto:1:156: 39", "a.proto:1:199: 39"]),
+    (FIELDS_OF + "message M {} service S { rpc x (M) returns (M) { option (x) = true; } }", ["a.proto:1:180: 14"]),
+    (FIELDS_OF + "message M { oneof o { option (x) = true; int32 a = 1 [(x) = true]; } }", ["a.proto:1:153: 39"]),
+    ({"a.proto": INSIDE % "x", "d.proto": MESSAGE_OPTIONS}, ["a.proto:1:127: 14"]),
+    ({"a.proto": INSIDE % "A.x", "d.proto": MESSAGE_OPTIONS}, []),
+    (OF_X, []),
+    ({**OF_X, "y.proto": 'import "z.proto"; message M { option (x) = 1; }', "z.proto": 'import "x.proto";'}, ["y.proto:1:39: 14"]),
+    ({**OF_X, "y.proto": 'import "z.proto"; message M { option (x) = 1; }', "z.proto": 'import public "x.proto";'}, []),
+    ({**OF_X, "y.proto": 'import "x.proto"; import "z.proto"; package q; message M { option (x) = 1; }', "z.proto": "package q.x;"}, ["y.proto:1:68: 14"]),
+    (P3 + "package google.protobuf; extend %s { int32 x = 1; }" % "M", ["a.proto:1:52: 14"]),
+    (
+        {"a.proto": P3 + 'import "b.proto"; extend M { int32 x = 1; }', "b.proto": "message M { extensions 1; }"},
+        ["a.proto:1:38: 31"],
+    ),
+    (
+        {"a.proto": P3 + 'import "b.proto"; extend proto2.FileOptions { int32 x = 1; }', "b.proto": "package proto2; message FileOptions { extensions 1; }"},
+        ["a.proto:1:38: 31"],
+    ),
+    (
+        {
+            "a.proto": P3 + 'import "b.proto"; extend google.protobuf.ExtensionRangeOptions { int32 x = 1; }',
+            "b.proto": "package google; message protobuf { message ExtensionRangeOptions { extensions 1; } }",
+        },
+        [],
+    ),
+]
 # Extensions of a proto3 file, which have no JSON names, and fields beside them.
 EXTENDED_IN_PROTO3 = {
-    "a.proto": P3 + 'import "b.proto"; extend M { int32 fooBar = 1; int32 x = 2; } message N { int32 fooBar = 1; int32 y = 2; }',
-    "b.proto": "message M { extensions 1 to 9; }",
+    "a.proto": P3
+    + 'import "b.proto"; extend google.protobuf.FileOptions { int32 fooBar = 1; int32 x = 2; } message N { int32 fooBar = 1; int32 y = 2; }',
+    "b.proto": "package google.protobuf; message FileOptions { extensions 1 to 9; }",
 }
 # Edits of files that are read as they are written, with what is printed.
 WRITTEN_EDITS = [
@@ -334,15 +428,55 @@ WRITTEN_EDITS = [
     ({"a.proto": 'import weak "b.proto";', "b.proto": ""}, ("drop-import", "a.proto", "b.proto"), "changed a.proto\n"),
     ({"a.proto": 'import weak "b.proto";', "b.proto": ""}, ("add-import", "a.proto", "b.proto"), "refused: 12 AlreadyImported\n"),
     ({"a.proto": 'import weak "b.proto";', "b.proto": ""}, ("add-import", "b.proto", "a.proto"), "refused: 14 Cycle\n"),
-    (WITH_CUSTOM, ("rename", "p.A", "Q"), "refused: 19 OptionValue a.proto:1:186\n"),
     (WITH_CUSTOM, ("rename", "p.A", "message"), "refused: 4 KeywordName\n"),
-    (WITH_CUSTOM, ("delete-field", "p.A.f"), "refused: 19 OptionValue a.proto:1:186\n"),
     (WITH_CUSTOM, ("add-import", "d.proto", "a.proto"), "refused: 14 Cycle\n"),
     (WITH_CUSTOM, ("drop-import", "a.proto", "d.proto"), "refused: 15 Needed a.proto:1:56\n"),
-    ({"a.proto": "", "b.proto": "option (.x) = 1;"}, ("add-import", "a.proto", "b.proto"), "refused: 19 OptionValue b.proto:1:9\n"),
+    (WITH_PATH, ("rename", "p.A.f", "x"), "refused: 7 Captured a.proto:1:229\n"),
+    (OF_X, ("drop-import", "y.proto", "x.proto"), "refused: 15 Needed y.proto:1:58\n"),
+    ({**OF_X, "z.proto": "package q; import 'y.proto'; message x {}"}, ("add-import", "y.proto", "z.proto"), "refused: 14 Cycle\n"),
+    (CAPTURED_BY_IMPORT, ("add-import", "y.proto", "z.proto"), "refused: 7 Captured y.proto:1:69\n"),
+    (FOO, ("rename", "google.protobuf.Foo", "M"), "changed a.proto\n"),
+    (FOO, ("rename", "google.protobuf.Foo", "9"), "refused: 3 NotAnIdentifier\n"),
     ({"a.proto": "message M {} option ruby_package = ':';"}, ("rename", "M", "N"), "changed a.proto\n"),
     (EXTENDED_IN_PROTO3, ("rename", "x", "foo_bar"), "changed a.proto\n"),
     (EXTENDED_IN_PROTO3, ("rename", "N.y", "foo_bar"), "refused: 9 JsonClash\n"),
+]
+# Edits that the program refuses for the first custom option, which may stand in another file.
+REFUSED_EDITS = [
+    (WITH_CUSTOM, ("rename", "p.A", "Q"), "refused: 19 OptionValue a.proto:1:186\n"),
+    (WITH_CUSTOM, ("rename", "p.x", "y"), "refused: 19 OptionValue a.proto:1:186\n"),
+    (WITH_CUSTOM, ("delete-field", "p.A.f"), "refused: 19 OptionValue a.proto:1:186\n"),
+    (OF_X, ("rename", "x", "z"), "refused: 19 OptionValue y.proto:1:58\n"),
+    ({**OF_X, "z.proto": ""}, ("add-import", "x.proto", "z.proto"), "refused: 19 OptionValue y.proto:1:58\n"),
+    ({**OF_X, "y.proto": OF_X["y.proto"].replace("(x)", "(.x)")}, ("rename", "M", "N"), "refused: 19 OptionValue y.proto:1:58\n"),
+]
+# Edits in a workspace that is ahead, with what is printed.
+AHEAD_EDITS = [
+    (WITH_CUSTOM, ("rename", "p.T.a", "c"), "refused: 19 OptionValue a.proto:1:193\n"),
+    (WITH_CUSTOM, ("delete-field", "p.T.a"), "refused: 19 OptionValue a.proto:1:193\n"),
+    (WITH_CUSTOM, ("rename", "p.U.b", "c"), "refused: 19 OptionValue a.proto:1:202\n"),
+    (WITH_CUSTOM, ("rename", "p.A.f", "b"), "refused: 19 OptionValue a.proto:1:202\n"),
+    (WITH_CUSTOM, ("delete-field", "p.T.u"), "refused: 19 OptionValue a.proto:1:198\n"),
+    (APART, ("rename", "p.U.b", "c"), "refused: 19 OptionValue a.proto:1:193\n"),
+    (APART, ("rename", "p.A.f", "b"), "changed b.proto\n"),
+    (WITH_PATH, ("rename", "p.T.a", "c"), "refused: 19 OptionValue a.proto:1:189\n"),
+    (WITH_CUSTOM, ("rename", "google.protobuf.MessageOptions", "M"), "refused: 20 FixedName\n"),
+    (FOO, ("rename", "google.protobuf.Foo", "MessageOptions"), "refused: 20 FixedName\n"),
+    (FOO, ("delete-field", "google.protobuf.FileOptions.deprecated"), "refused: 20 FixedName\n"),
+    (FOO, ("rename", "google.protobuf.FileOptions.E", "F"), "refused: 20 FixedName\n"),
+    ("package google; message protobuf { message OneofOptions {} }", ("rename", "google.protobuf", "p"), "refused: 20 FixedName\n"),
+]
+WITHIN = {"a.proto": INSIDE % "A.x", "d.proto": MESSAGE_OPTIONS}
+# The same of edits that are accepted there, with their splices.
+AHEAD_SPLICES = [
+    (WITH_CUSTOM, ("rename", "p.x", "y"), ["a.proto 90 x y", "a.proto 185 x y", "a.proto 246 x y"]),
+    (WITH_CUSTOM, ("rename", "p.T", "V"), ["a.proto 88 T V", "a.proto 110 T V"]),
+    (WITH_CUSTOM, ("rename", "p.A", "Q"), ["a.proto 173 A Q"]),
+    (WITH_CUSTOM, ("rename", "p.A.f", "g"), ["a.proto 217 f g"]),
+    (WITH_LONGER_PATH, ("rename", "p.A.f", "p"), ["a.proto 201 f p"]),
+    (WITHIN, ("rename", "p.A", "Q"), ["a.proto 56 A Q", "a.proto 126 A Q"]),
+    (WITHIN, ("rename", "p.A.x", "y"), ["a.proto 106 x y", "a.proto 128 x y"]),
+    (OF_X, ("rename", "x", "z"), ["x.proto 73 x z", "y.proto 57 x z"]),
 ]
 # Files that are read as they are written, with pieces of their descriptors.
 WRITTEN_JSON = [
@@ -362,8 +496,10 @@ WRITTEN_JSON = [
         ['"label":"LABEL_OPTIONAL","name":"x","number":1000,"proto3Optional":true,"type":"TYPE_STRING"'],
     ),
     (
-        "option java_generic_services = true; option java_generate_equals_and_hash = false; option ruby_package = 'a' 'b'; option (x) = 1;",
+        "option java_generic_services = true; option java_generate_equals_and_hash = false; option ruby_package = 'a' 'b';"
+        " package google.protobuf; message FileOptions { extensions 1000 to max; } extend FileOptions { optional bool x = 1000; }"
+        " option (x) = 1;",
         ['"options":{"javaGenerateEqualsAndHash":false,"javaGenericServices":true,"rubyPackage":"ab"}'],
     ),
-    (P3 + "message M { string a = 1 [(x) = 1, ctype = STRING_PIECE, (x) = 1]; string b = 2 [(x) = 1]; }", ['"options":{"ctype":"STRING_PIECE"}', '"name":"b","number":2,"type"']),
+    (FIELDS_OF + "message M { optional string a = 1 [(x) = 1, ctype = STRING_PIECE, (x) = 1]; optional string b = 2 [(x) = 1]; }", ['"options":{"ctype":"STRING_PIECE"}', '"name":"b","number":2,"type"']),
 ]

@@ -6,11 +6,13 @@ It is written from docs/language.md alone. Full names are tuples of words.
 from dataclasses import dataclass, field
 from typing import Optional
 
-from grammar import Block, Extend, Field, Method, Oneof, Reference, Token, Value, entry_name, file_of
+from grammar import Block, CustomOption, Extend, Field, Method, Oneof, Reference, Token, Value, entry_name, file_of
 
-# Kinds of symbols. A reference of one word fits types, a longer one fits what may have types below it.
+# Kinds of symbols. A reference of one word fits types, the name of an option all kinds; a longer one fits what may have names below it.
 TYPES = ("message", "entry", "enum")
 PREFIXES = TYPES + ("service", "package")
+# What a reference may want.
+TYPE, MESSAGE, OPTION = "type", "message", "option"
 
 
 @dataclass(frozen=True)
@@ -30,20 +32,24 @@ class Symbol:
 class Use:
     """A reference, with its file and the full name of the message or service around it, or of what else is its scope.
 
-    It has the field or the extension whose type it is."""
+    It has the field or the extension whose type it is, or the custom option whose name it is."""
 
     file: int
     scope: tuple
     reference: Reference
-    wants_message: bool = False
+    wants: str = TYPE
     field: Optional[Field] = None
+    option: Optional[CustomOption] = None
 
 
 class Workspace:
-    """Schemas by their paths, with their names. Texts are bytes read as Latin-1; files are given where they are read already."""
+    """Schemas by their paths, with their names. Texts are bytes read as Latin-1; files are given where they are read already.
 
-    def __init__(self, texts, as_written=False, files=None):
-        self.texts, self.as_written = dict(texts), as_written
+    A workspace that is ahead has the rules of custom options that the program does not have yet: 31 NotInProto3 and 39 NotAnOption by
+    what an extension extends, and 19 OptionValue and 20 FixedName by what an edit concerns."""
+
+    def __init__(self, texts, as_written=False, files=None, is_ahead=False):
+        self.texts, self.as_written, self.is_ahead = dict(texts), as_written, is_ahead
         self.files = files or [file_of(path, texts[path], as_written) for path in sorted(texts)]
         self.place_of = {file.path: place for place, file in enumerate(self.files)}
         self.symbols = list(self.declared())
@@ -125,7 +131,7 @@ class Workspace:
 
     def used(self):
         for file, scope, extend in self.extends:
-            yield Use(file, scope, extend.extendee, wants_message=True)
+            yield Use(file, scope, extend.extendee, MESSAGE)
             for field in extend.fields:
                 if field.reference:
                     yield Use(file, scope, field.reference, field=field)
@@ -137,13 +143,16 @@ class Workspace:
             elif symbol.kind == "service":
                 for method in symbol.node.of(Method):
                     for reference in (method.input, method.output):
-                        yield Use(symbol.file, symbol.name, reference, wants_message=True)
+                        yield Use(symbol.file, symbol.name, reference, MESSAGE)
+        for place, file in enumerate(self.files):
+            for option in file.custom:
+                yield Use(place, file.package + option.around, option.name, OPTION, option=option)
 
     def hit(self, use, words=None):
         """How many parts the longest prefix of the scope has at which the first word is visible and fits."""
         words = words or use.reference.words
         for cut in range(len(use.scope), -1, -1):
-            if fits(self.visible[use.file].get(use.scope[:cut] + words[:1]), words):
+            if fits(self.visible[use.file].get(use.scope[:cut] + words[:1]), words, use.wants):
                 return cut
         return None
 
@@ -157,7 +166,12 @@ class Workspace:
             if cut is None:
                 return None
             name = use.scope[:cut] + words
-        return name if self.visible[use.file].get(name) in TYPES else None
+        return name if self.visible[use.file].get(name) in (("extension",) if use.wants is OPTION else TYPES) else None
+
+    def extended_by(self, symbol):
+        """The full name of the message that an extension extends, or nothing."""
+        file, scope, extend = next(found for found in self.extends if found[2] is symbol.block)
+        return self.resolution(Use(file, scope, extend.extendee, MESSAGE))
 
     def written_place(self, place, offset):
         """Path, line and column, as they are printed."""
@@ -176,7 +190,10 @@ class Workspace:
         return False
 
 
-def fits(kind, words):
+def fits(kind, words, wants):
+    """Whether the first of these words fits a symbol of a kind, or None where there is none."""
+    if len(words) == 1 and wants is OPTION:
+        return kind is not None
     return kind in (TYPES if len(words) == 1 else PREFIXES)
 
 

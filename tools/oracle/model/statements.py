@@ -38,6 +38,7 @@ class Deletion(Statement):
 
     def __init__(self, workspace, target):
         self.target, self.field = target, target.node
+        self.names = (target.name,)
         self.oneof = next((one for one in target.block.of(Oneof) if self.field in one.fields), None)
         text = workspace.files[target.file].text
         start, end = self.field.span
@@ -127,7 +128,7 @@ def captured(workspace, place, path):
             continue
         words = use.reference.words
         for cut in range(workspace.hit(use) + 1, len(use.scope) + 1):
-            if fits(visible.get(use.scope[:cut] + words[:1]), words):
+            if fits(visible.get(use.scope[:cut] + words[:1]), words, use.wants):
                 return use
     return None
 

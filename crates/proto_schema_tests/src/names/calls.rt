@@ -1,7 +1,7 @@
 //! The public calls, with what tests say of their answers.
 
 use crate::calls::{self, Given};
-use proto_base::SchemaFault;
+use proto_base::{Profile, SchemaFault};
 use proto_files::{Files, Paths};
 use proto_names::{Kind, Link, RefId, SymbolId};
 use std::fmt::Write;
@@ -12,10 +12,15 @@ pub(crate) fn given_files<R: AllocGlobal + Abort>(rt: &R, texts: &str) -> Given 
     calls::given_files(rt.alloc(), texts).expect(rt, "memory")
 }
 
-/// The files of a workspace, read.
-pub(crate) fn read<R: AllocGlobal>(rt: &R, given: Given) -> Result<Files, SchemaFault> {
-    let paths = Paths::new(rt.alloc(), given)?;
+// The files of a workspace of a language, read.
+fn read_as<R: AllocGlobal>(rt: &R, profile: Profile, given: Given) -> Result<Files, SchemaFault> {
+    let paths = Paths::new_as(rt.alloc(), given, profile)?;
     Files::read(rt.alloc(), paths)
+}
+
+/// The same of the core language.
+pub(crate) fn read<R: AllocGlobal>(rt: &R, given: Given) -> Result<Files, SchemaFault> {
+    read_as(rt, Profile::Core, given)
 }
 
 // The one owner of a link, which tells each row, as do its copy and the link of the same files in
@@ -48,8 +53,13 @@ fn expect_copy<R: AllocGlobal + Abort>(
 }
 
 // The one owner of files.
-fn link<R: AllocGlobal + Abort>(rt: &R, given: Given, rows: &[Told]) -> Result<(), SchemaFault> {
-    let files = read(rt, given)?;
+fn link_as<R: AllocGlobal + Abort>(
+    rt: &R,
+    profile: Profile,
+    given: Given,
+    rows: &[Told],
+) -> Result<(), SchemaFault> {
+    let files = read_as(rt, profile, given)?;
     let linked = link_of(rt, &files, rows);
     files.release();
     linked
@@ -57,12 +67,17 @@ fn link<R: AllocGlobal + Abort>(rt: &R, given: Given, rows: &[Told]) -> Result<(
 
 /// Links the files, and asks for each row.
 pub(crate) fn expect_linked<R: AllocGlobal + Abort>(rt: &R, given: Given, rows: &[Told]) {
-    link(rt, given, rows).expect(rt, "a link");
+    link_as(rt, Profile::Core, given, rows).expect(rt, "a link");
 }
 
 /// The same of files that are written as one text.
 pub(crate) fn expect_told<R: AllocGlobal + Abort>(rt: &R, texts: &str, rows: &[Told]) {
     expect_linked(rt, given_files(rt, texts), rows);
+}
+
+/// The same as written.
+pub(crate) fn expect_told_as_written<R: AllocGlobal + Abort>(rt: &R, texts: &str, rows: &[Told]) {
+    link_as(rt, Profile::AsWritten, given_files(rt, texts), rows).expect(rt, "a link");
 }
 
 /// Ends the test with the row unless this was found.
@@ -92,7 +107,7 @@ pub(crate) fn expect_fault<R: AllocGlobal + Abort>(
 
 /// The files link, or have this fault.
 pub(crate) fn expect<R: AllocGlobal + Abort>(rt: &R, given: Given, said: &str) {
-    expect_fault(rt, link(rt, given, &[]), said);
+    expect_fault(rt, link_as(rt, Profile::Core, given, &[]), said);
 }
 
 /// Files that are written as one text, and what is answered for them.
@@ -101,6 +116,14 @@ pub(crate) type Answer = (&'static str, &'static str);
 pub(crate) fn expect_answers<R: AllocGlobal + Abort>(rt: &R, rows: &[Answer]) {
     for (texts, said) in rows {
         expect(rt, given_files(rt, texts), said);
+    }
+}
+
+/// The same as written.
+pub(crate) fn expect_answers_as_written<R: AllocGlobal + Abort>(rt: &R, rows: &[Answer]) {
+    for (texts, said) in rows {
+        let linked = link_as(rt, Profile::AsWritten, given_files(rt, texts), &[]);
+        expect_fault(rt, linked, said);
     }
 }
 

@@ -1,6 +1,7 @@
 //! Rows that are written as texts, and how they are asserted.
 
-use proto_base::NoMemory;
+use proto_base::{NoMemory, Profile, SchemaFault};
+use proto_edit::Workspace;
 use protoref_test_cases::{Row, Step, difference};
 use std::alloc::Global;
 use std::process::Abort;
@@ -22,6 +23,19 @@ pub(crate) fn texts(
         }
     }
     Ok(files)
+}
+
+/// The workspace of such files as written.
+pub(crate) fn open_as_written(
+    alloc: Global,
+    written: &'static str,
+) -> Result<Workspace, SchemaFault> {
+    let mut files = Vec::new(alloc);
+    for (path, text) in &texts(alloc, written)? {
+        let path = String::from_str(alloc, path)?;
+        files.push((path, Vec::from_slice(alloc, text.as_bytes())?))?;
+    }
+    Workspace::open_as(alloc, files, Profile::AsWritten)
 }
 
 /// The edit that is written as one text, with its answer.

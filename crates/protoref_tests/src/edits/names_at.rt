@@ -1,7 +1,7 @@
 //! The word at an offset, and the name that stands at a token. Places are counted in the texts.
 
-use super::calls::texts;
-use proto_base::{NoMemory, Profile, SchemaFault};
+use super::calls::{open_as_written, texts};
+use proto_base::{NoMemory, SchemaFault};
 use proto_edit::{Files, Workspace};
 use proto_names_at::{name_at, word_at};
 use protoref_test_cases::open;
@@ -37,10 +37,11 @@ const ROWS: &[Row] = &[
     ),
 ];
 
-/// The same of files as written: in the name and the value of a custom option no name stands.
+/// The same of files as written: in the name of a custom option an extension and what stands in front of it, and in its path
+/// and its value nothing.
 const WRITTEN: Row = (
-    "a.proto syntax = \"proto3\"; message M { M m = 1 [(x) = { M: m }]; }",
-    "a.proto:27 M=M,a.proto:31 M=M,a.proto:33 m=M.m",
+    "a.proto syntax = \"proto3\"; package p; import \"d.proto\"; message M { extend google.protobuf.FieldOptions { M x = 1000; } M m = 1 [(x).m = { m: { } }]; M n = 2 [(M.x) = { n { } }]; oneof o { M k = 3 [json_name = \"k\", (.p.M.x).m.n = { k { } }]; } }|d.proto package google.protobuf; message FieldOptions { extensions 1000; }",
+    "a.proto:56 M=p.M,a.proto:83 FieldOptions=google.protobuf.FieldOptions,a.proto:98 M=p.M,a.proto:100 x=p.M.x,a.proto:112 M=p.M,a.proto:114 m=p.M.m,a.proto:122 x=p.M.x,a.proto:142 M=p.M,a.proto:144 n=p.M.n,a.proto:152 M=p.M,a.proto:154 x=p.M.x,a.proto:181 M=p.M,a.proto:183 k=p.M.k,a.proto:211 M=p.M,a.proto:213 x=p.M.x,d.proto:33 FieldOptions=google.protobuf.FieldOptions",
 );
 
 /// A text of one file, and an offset in it with the word there; `none` where no word is.
@@ -166,17 +167,8 @@ fn told_of(alloc: Global, written: &'static str) -> Result<String, SchemaFault> 
     Ok(found?)
 }
 
-fn given(alloc: Global, written: &'static str) -> Result<Vec<(String, Vec<u8>)>, NoMemory> {
-    let mut files = Vec::new(alloc);
-    for (path, text) in &texts(alloc, written)? {
-        let path = String::from_str(alloc, path)?;
-        files.push((path, Vec::from_slice(alloc, text.as_bytes())?))?;
-    }
-    Ok(files)
-}
-
 fn told_as_written(alloc: Global, written: &'static str) -> Result<String, SchemaFault> {
-    let workspace = Workspace::open_as(alloc, given(alloc, written)?, Profile::AsWritten)?;
+    let workspace = open_as_written(alloc, written)?;
     let found = told(alloc, &workspace);
     workspace.release();
     Ok(found?)
@@ -211,7 +203,7 @@ fn is_the_name_that_stands_there(rt: HostRuntime) {
 }
 
 #[test]
-fn is_no_name_in_a_custom_option(rt: HostRuntime) {
+fn is_an_extension_in_the_name_of_an_option(rt: HostRuntime) {
     let (written, wanted) = WRITTEN;
     let found = match told_as_written(rt.alloc(), written) {
         Err(SchemaFault::NoMemory) => told_as_written(rt.alloc(), written),

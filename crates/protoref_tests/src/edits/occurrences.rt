@@ -1,6 +1,6 @@
 //! The tokens that stand for a name, file by file, which a rename of it changes. Places are counted in the texts.
 
-use super::calls::texts;
+use super::calls::{open_as_written, texts};
 use proto_base::NoMemory;
 use proto_edit::{Files, Workspace};
 use proto_edit_rename::{FileOccurrences, occurrences};
@@ -77,6 +77,24 @@ const ROWS: &[Row] = &[
         "p.x",
         "a.proto:70 x",
     ),
+];
+
+/// Files as written, with extensions that options name.
+const OPTIONS: &str =
+    "a.proto syntax = \"proto3\"; package p; import \"d.proto\"; message M { extend google.protobuf.FieldOptions { N x = 1000; } N n = 1 [(x).x = { }]; message N { N x = 1 [(p.M.x) = { x { } }]; } }|b.proto import \"a.proto\"; import \"d.proto\"; extend google.protobuf.OneofOptions { optional p.M.N x = 1000; } message M { oneof o { option (x) = { }; int32 y = 1; } optional int32 z = 2 [(.p.M.x) = { }]; }|d.proto package google.protobuf; message FieldOptions { extensions 1000 to 1001; } message OneofOptions { extensions 1000; }";
+
+/// Names of `OPTIONS`, and the tokens that stand for them: in names of options, and not in their paths and values.
+const OF_OPTIONS: &[(&str, &str)] = &[
+    (
+        "p.M.x",
+        "a.proto:100 x,a.proto:122 x,a.proto:161 x,b.proto:184 x",
+    ),
+    ("x", "b.proto:89 x,b.proto:131 x"),
+    (
+        "p.M",
+        "a.proto:56 M,a.proto:159 M,b.proto:85 M,b.proto:182 M",
+    ),
+    ("p.M.N.x", "a.proto:149 x"),
 ];
 
 const OTHERS: &str =
@@ -157,6 +175,16 @@ fn are_those_that_stand_for_the_name(rt: HostRuntime) {
     for (files, name, wanted) in ROWS {
         expect_told(&rt, files, name, wanted);
     }
+}
+
+#[test]
+fn are_in_names_of_options(rt: HostRuntime) {
+    let workspace = open_as_written(rt.alloc(), OPTIONS).expect(&rt, "a workspace");
+    for (name, wanted) in OF_OPTIONS {
+        let found = told(rt.alloc(), &workspace, *name).expect(&rt, "memory");
+        assert!(rt; found.as_str() == *wanted, "{name}: {found}, not {wanted}");
+    }
+    workspace.release();
 }
 
 #[test]

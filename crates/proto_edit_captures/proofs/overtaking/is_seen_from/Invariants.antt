@@ -6,5 +6,5 @@ use Rattle.proto_edit_captures.proofs.overtaking.is_seen_from.Given as goal
 
 abbrev pub invariant-loop-part : goal.invariant-loop-part
 invariant-loop-part l =
-    shown_from (λ front. sees_text l.seen.link.now l.seen.files.now (contains_text l.seen.packages) l.around.is_long (below front l.word)) l.around.least [] (map string_bytes l.around.scope.now)
-    ≡ shown_from (λ front. sees_text l.seen.link.now l.seen.files.now (contains_text l.seen.packages) l.around.is_long (below front l.word)) l.around.least (string_bytes l.front) (map string_bytes (drop l.part-index l.around.scope.now))
+    shown_from (λ front. sees_text l.seen.link.now l.seen.files.now (contains_text l.seen.packages) l.around.fit (below front l.word)) l.around.least [] (map string_bytes l.around.scope.now)
+    ≡ shown_from (λ front. sees_text l.seen.link.now l.seen.files.now (contains_text l.seen.packages) l.around.fit (below front l.word)) l.around.least (string_bytes l.front) (map string_bytes (drop l.part-index l.around.scope.now))

@@ -5,12 +5,12 @@ use Rattle.proto_tree.specs.File.{tree_of_file}
 use Rattle.proto_files.specs.FilesRead.{AreRead, read_at}
 use Rattle.proto_names_outline.specs.Listing.{read, used_by}
 use Rattle.proto_names_outline.specs.declared.listing.Use.{Use}
-use Rattle.proto_names_rules.proofs.Common.{at, is_outer}
+use Rattle.proto_names_rules.proofs.Common.{at}
 use Rattle.proto_names.specs.Linking.{Meant}
 use Rattle.proto_names_imports.specs.Links.{text_of, link_skeleton}
 use Rattle.proto_edit_rename_laws.proofs.Common.{standing, name_map}
-use Rattle.proto_edit_rename.specs.StandingTokens.{goes_on, standing_tokens}
-use Rattle.proto_edit_rename.proofs.OuterKinds.{none_stands}
+use Rattle.proto_edit_rename.specs.StandingTokens.{goes_on, may_be_referred, standing_tokens}
+use Rattle.proto_edit_rename.proofs.ReferredKinds.{none_stands}
 use Rattle.proto_edit_rename.proofs.StandingUses.{counted_are_standing, none_goes_on, meant_are_as_many, uses_are}
 use Rattle.proto_edit_rename.proofs.standing.standing_in.Goals as goal
 
@@ -18,10 +18,10 @@ if_ok : {A E : Type 0} (P Q : A → Type 0) → ((x : A) → P x → Q x) → (r
 if_ok P Q f (Ok x) h = f x h
 if_ok P Q f (Err e) h = tt
 
-pub returns-then-not-is_outer : goal.returns-then-not-is_outer
-returns-then-not-is_outer c = λ reads are t aimed to i.
+pub returns-then-not-may_be_referred : goal.returns-then-not-may_be_referred
+returns-then-not-may_be_referred c = λ reads are t aimed to i.
     (let files = c.args.linked.now.files in
-    let inner : is_outer t.aim.kind ≡ false = ap is_outer (sym aimed.kind) ∙ sym c.is_outer.ensures ∙ c.if-not-is_outer.true in
+    let inner : may_be_referred t.aim.kind ≡ false = ap may_be_referred (sym aimed.kind) ∙ sym c.may_be_referred.ensures ∙ c.if-not-may_be_referred.true in
     let nothing = c.new.ensures.items in (
       λ h. absurd (let none = subst (λ (z : List ℕ). Contains z i) nothing h in omega (arith, none.1)),
       λ h. absurd (none_stands files reads are c.files-files.ensures.clean.clean c.args.target.name.now to t aimed.named inner (at c.args.file i) h),

@@ -21,7 +21,7 @@ returns-in-Err-clause-fault c = λ w names read. (
     let scope = scope_is (goal.at.returns-in-Err-clause-fault c).After-resolved_row-row in
     let f = reference_by c.args.lookup.now.file names (word_at c.args.words.now) in
     let asked = asked_in c.args.lookup.now.table.now c.args.lookup.now.seen.now c.args.lookup.now.rows.now names c.args.lookup.now.file w read (word_at c.args.words.now) c.used-item.result within c.match-used.scope scope in
-    let is = c.resolved_row-row.ensures.meant w (f c.used-item.result) asked refl refl in
+    let is = c.resolved_row-row.ensures.meant w (f c.used-item.result) asked refl refl refl in
     first_bad c.args.lookup.now.table.now w f c.args.lookup.now.file c.args.uses.now c.loop-used.used-index c.loop-used.meant.items c.used-item.result (record { file = c.args.lookup.now.file; token = c.token_of-token.result; flaw = c.in-Err.flaw })
     c.loop-used-test.true c.used-item.is (c.loop-used.invariant w names read) refl c.token_of-token.ensures
     (row_flawed c.args.lookup.now.table.now c.requires.table w read.index (f c.used-item.result) c.resolved_row-row.result c.in-Err.flaw is c.in-Err.ensures.flaw))
@@ -32,8 +32,8 @@ loop-used-preserved c = λ w names read. (
     let scope = scope_is (goal.at.loop-used-preserved c).After-resolved_row-row in
     let f = reference_by c.args.lookup.now.file names (word_at c.args.words.now) in
     let asked = asked_in c.args.lookup.now.table.now c.args.lookup.now.seen.now c.args.lookup.now.rows.now names c.args.lookup.now.file w read (word_at c.args.words.now) c.used-item.result within c.match-used.scope scope in
-    let is = ap (option_map (λ k. get_or (names_of c.args.lookup.now.table.now) k [])) (sym c.in-Ok.ensures.row.0) ∙ c.resolved_row-row.ensures.meant w (f c.used-item.result) asked refl refl in
-    let sound = ap (λ o. row_flaw c.args.lookup.now.table.now o c.used-item.result.wants_message) (sym c.in-Ok.ensures.row.0) ∙ c.in-Ok.ensures.row.1 in
+    let is = ap (option_map (λ k. get_or (names_of c.args.lookup.now.table.now) k [])) (sym c.in-Ok.ensures.row.0) ∙ c.resolved_row-row.ensures.meant w (f c.used-item.result) asked refl refl refl in
+    let sound = ap (λ o. row_flaw c.args.lookup.now.table.now o c.used-item.result.wants) (sym c.in-Ok.ensures.row.0) ∙ c.in-Ok.ensures.row.1 in
     let items = c.in_ok-push-in-Ok.ensures in
     subst (AreMeant c.args.lookup.now.table.now w (map f (take (c.loop-used.used-index + 1) c.args.uses.now)) (map first_token_of_use (take (c.loop-used.used-index + 1) c.args.uses.now))) (sym items)
     (meant_step c.args.lookup.now.table.now w f c.args.uses.now c.loop-used.used-index c.loop-used.meant.items c.used-item.result (record { token = c.token_of-token.result; first = c.word_key-first.result; row = c.in-Ok.row }) c.loop-used-test.true c.used-item.is

@@ -1,17 +1,17 @@
 use Rattle.std.proofs.Common.{◌<◌, ℕ, Bool, List, length, map, sym, ◌∙◌, ap, subst, arith, All}
 use Rattle.proto_base.proofs.Common.{Vec}
 use Rattle.proto_base.specs.declared.changes.Change.{Change}
-use Rattle.proto_names_affected.specs.ChangedFiles.{outer_rows_of}
+use Rattle.proto_names_affected.specs.ChangedFiles.{kind_rows_of}
 use Rattle.proto_names_affected.specs.FirstWords.{AreFirstsOf}
 use Rattle.proto_names_affected.specs.Sight.{IsSightMarked}
-use Rattle.proto_names_affected.specs.declared.outer_rows.KindRow.{KindRow}
+use Rattle.proto_names_affected.specs.declared.kind_rows.KindRow.{KindRow}
 use Rattle.proto_names.proofs.MarksMore.{marks_of_lists}
-use Rattle.proto_names.proofs.OuterRows.{outer_count, outer_within}
+use Rattle.proto_names.proofs.KindRows.{kind_count, kind_within}
 use Rattle.proto_names.specs.Common.{Meant, RefId}
 use Rattle.proto_names.proofs.updating.affected_files.Goals as goal
 
-pub outer_rows_at-requires : goal.outer_rows_at-requires
-outer_rows_at-requires c = λ k d l. omega (arith, c.requires.places k d l, c.requires.rows, ap length c.deref.ensures.value)
+pub kind_rows_at-requires : goal.kind_rows_at-requires
+kind_rows_at-requires c = λ k d l. omega (arith, c.requires.places k d l, c.requires.rows, ap length c.deref.ensures.value)
 
 pub marks_of_changes-requires-clause-places : goal.marks_of_changes-requires-clause-places
 marks_of_changes-requires-clause-places c = λ k d l. omega (arith, c.requires.places k d l, c.requires.meant, ap length c.deref-3.ensures.value)
@@ -20,14 +20,14 @@ pub marks_of_changes-requires-clause-now : goal.marks_of_changes-requires-clause
 marks_of_changes-requires-clause-now c =
     let t = c.args.declarations.now.table in
     let places = c.args.edited.places.now in
-    ap length c.deref-4.ensures.value ∙ outer_count t (map (λ v. v.items) c.args.declarations.now.rows.items) places c.in_ok-now.now.items (c.in_ok-now.ensures ∙ ap (λ (rs : List (Vec ℕ)). map (outer_rows_of t (map (λ v. v.items) rs)) places) c.deref.ensures.value)
+    ap length c.deref-4.ensures.value ∙ kind_count t (map (λ v. v.items) c.args.declarations.now.rows.items) places c.in_ok-now.now.items (c.in_ok-now.ensures ∙ ap (λ (rs : List (Vec ℕ)). map (kind_rows_of t (map (λ v. v.items) rs)) places) c.deref.ensures.value)
 
 pub marks_of_changes-requires-clause-within : goal.marks_of_changes-requires-clause-within
 marks_of_changes-requires-clause-within c =
     let t = c.args.declarations.now.table in
     let places = c.args.edited.places.now in
     subst (All (λ (v : Vec KindRow). All (λ p. p.row < length t.rows.items) v.items)) (sym c.deref-4.ensures.value)
-    (outer_within t (map (λ v. v.items) c.args.declarations.now.rows.items) places c.in_ok-now.now.items (c.in_ok-now.ensures ∙ ap (λ (rs : List (Vec ℕ)). map (outer_rows_of t (map (λ v. v.items) rs)) places) c.deref.ensures.value))
+    (kind_within t (map (λ v. v.items) c.args.declarations.now.rows.items) places c.in_ok-now.now.items (c.in_ok-now.ensures ∙ ap (λ (rs : List (Vec ℕ)). map (kind_rows_of t (map (λ v. v.items) rs)) places) c.deref.ensures.value))
 
 pub marks_of_changes-requires-clause-references : goal.marks_of_changes-requires-clause-references
 marks_of_changes-requires-clause-references c =
@@ -56,7 +56,7 @@ returns-clause-changes c =
     marks_of_lists t c.in_ok-affected.affected c.mark_others.new.affected c.in_ok-mark_others.ensures.stay places (map (λ v. v.items) c.args.before.now)
     (ap (map (λ (v : Vec RefId). v.items)) c.deref-2.ensures.value)
     (ap (map (λ (v : Vec Meant). v.items)) c.deref-3.ensures.value)
-    (ap (map (λ (v : Vec KindRow). v.items)) c.deref-4.ensures.value ∙ c.in_ok-now.ensures ∙ ap (λ (rs : List (Vec ℕ)). map (outer_rows_of t (map (λ v. v.items) rs)) places) c.deref.ensures.value)
+    (ap (map (λ (v : Vec KindRow). v.items)) c.deref-4.ensures.value ∙ c.in_ok-now.ensures ∙ ap (λ (rs : List (Vec ℕ)). map (kind_rows_of t (map (λ v. v.items) rs)) places) c.deref.ensures.value)
     c.in_ok-affected.ensures.marked
 
 pub returns-clause-sight : goal.returns-clause-sight

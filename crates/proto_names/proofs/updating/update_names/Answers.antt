@@ -2,10 +2,10 @@ use Rattle.std.proofs.Common.{◌<◌, List, length, map, take, sym, ◌∙◌, 
 use Rattle.proto_base.proofs.Common.{Vec, length-map}
 use Rattle.proto_base.specs.Undone.{undone}
 use Rattle.proto_base.specs.declared.changes.Change.{Change}
-use Rattle.proto_names_affected.specs.ChangedFiles.{AreChangesMarked, outer_rows_of}
+use Rattle.proto_names_affected.specs.ChangedFiles.{AreChangesMarked, kind_rows_of}
 use Rattle.proto_names_affected.specs.FirstWords.{AreFirstsOf}
 use Rattle.proto_names_affected.specs.Renewed.{AreReferencesOf}
-use Rattle.proto_names_affected.specs.declared.outer_rows.KindRow.{KindRow}
+use Rattle.proto_names_affected.specs.declared.kind_rows.KindRow.{KindRow}
 use Rattle.proto_names.proofs.GrownLists.{cut_grown, not_less, paired_now}
 use Rattle.proto_names.proofs.PartsBefore.{are_references_of, meant_count, references_within, rows_below, rows_count, were_names}
 use Rattle.proto_names.proofs.RenewedParts.{file_is_linked_now, meant_below_now, now_below, now_count, parts_are_clean, parts_are_link, parts_have_to_look}
@@ -23,7 +23,7 @@ pub update-requires-clause-paired : goal.update-requires-clause-paired
 update-requires-clause-paired c = rows_count c.args.edited.files.now c.args.edited.places.now c.args.declarations.now.table c.requires.renewed.imports_before c.args.declarations.now.rows.items (undone c.args.edited.saw.now c.args.edited.seen.now) c.args.resolutions.now.meant.items c.args.resolutions.now.references.items c.requires.table c.requires.renewed.link
 
 pub affected_files-requires-clause-before : goal.affected_files-requires-clause-before
-affected_files-requires-clause-before c = ap length c.deref.ensures.value ∙ sym (length-map c.in_ok-before.before.items (λ v. v.items)) ∙ ap length c.in_ok-before.ensures.before ∙ length-map c.args.edited.places.now (outer_rows_of c.args.declarations.now.table (map (λ v. v.items) c.args.declarations.now.rows.items))
+affected_files-requires-clause-before c = ap length c.deref.ensures.value ∙ sym (length-map c.in_ok-before.before.items (λ v. v.items)) ∙ ap length c.in_ok-before.ensures.before ∙ length-map c.args.edited.places.now (kind_rows_of c.args.declarations.now.table (map (λ v. v.items) c.args.declarations.now.rows.items))
 
 pub affected_files-requires-clause-rows : goal.affected_files-requires-clause-rows
 affected_files-requires-clause-rows c = now_count c.args.edited.files.now c.args.edited.places.now c.args.declarations.now.table c.requires.renewed.imports_before c.args.declarations.now.rows.items (undone c.args.edited.saw.now c.args.edited.seen.now) c.args.resolutions.now.meant.items c.args.resolutions.now.references.items c.requires.table c.requires.renewed.link c.update.new.self.table c.update.new.self.rows.items c.in_ok-before.ensures.renewed
@@ -136,11 +136,11 @@ pub returns-clause-paired : goal.returns-clause-paired
 returns-clause-paired c = c.renew_references.ensures.len ∙ paired_now (c.added_are_cut.ensures) c.args.resolutions.now.references.items c.grow_references.new.references.items c.grow_references.ensures.grown c.len-names.result (length c.update.new.self.table.rows.items) c.len-names.ensures (sym c.update.new.self.table.rows.ok.0) (length c.args.declarations.now.table.rows.items) c.requires.paired c.in_ok-before.ensures.renewed.names.size c.in_ok-grow_references.ensures.len
 
 pub returns-clause-clean : goal.returns-clause-clean
-returns-clause-clean c = parts_are_clean c.args.edited.files.now c.args.edited.places.now c.args.declarations.now.table c.requires.renewed.imports_before c.args.declarations.now.rows.items (undone c.args.edited.saw.now c.args.edited.seen.now) c.args.resolutions.now.meant.items c.args.resolutions.now.references.items c.requires.table c.requires.renewed.link c.update.new.self.table c.update.new.self.rows.items c.in_ok-before.ensures.renewed c.in_ok-affected.affected c.grow_references.new.references.items c.grow_references.ensures.same (subst (λ (bs : List (List KindRow)). AreChangesMarked c.update.new.self.table c.in_ok-affected.affected c.args.edited.places.now (map (λ v. v.items) c.grow_references.new.references.items) (map (λ v. v.items) c.args.resolutions.now.meant.items) bs (map (outer_rows_of c.update.new.self.table (map (λ v. v.items) c.update.new.self.rows.items)) c.args.edited.places.now)) (ap (map (λ (v : Vec KindRow). v.items)) c.deref.ensures.value ∙ c.in_ok-before.ensures.before) c.in_ok-affected.ensures.changes) c.update.ensures.table c.args.edited.saw.now c.args.edited.seen.now c.requires.renewed.sight c.requires.renewed.kept (c.in_ok-affected.ensures.sight (undone c.args.edited.saw.now c.args.edited.seen.now) c.requires.was) c.resolve_again.new.meant.items (λ reads are. c.in_ok-resolve_again.ensures.meant c.if-not-branch.false reads are) c.are_read.ensures.0 c.are_read.ensures.1
+returns-clause-clean c = parts_are_clean c.args.edited.files.now c.args.edited.places.now c.args.declarations.now.table c.requires.renewed.imports_before c.args.declarations.now.rows.items (undone c.args.edited.saw.now c.args.edited.seen.now) c.args.resolutions.now.meant.items c.args.resolutions.now.references.items c.requires.table c.requires.renewed.link c.update.new.self.table c.update.new.self.rows.items c.in_ok-before.ensures.renewed c.in_ok-affected.affected c.grow_references.new.references.items c.grow_references.ensures.same (subst (λ (bs : List (List KindRow)). AreChangesMarked c.update.new.self.table c.in_ok-affected.affected c.args.edited.places.now (map (λ v. v.items) c.grow_references.new.references.items) (map (λ v. v.items) c.args.resolutions.now.meant.items) bs (map (kind_rows_of c.update.new.self.table (map (λ v. v.items) c.update.new.self.rows.items)) c.args.edited.places.now)) (ap (map (λ (v : Vec KindRow). v.items)) c.deref.ensures.value ∙ c.in_ok-before.ensures.before) c.in_ok-affected.ensures.changes) c.update.ensures.table c.args.edited.saw.now c.args.edited.seen.now c.requires.renewed.sight c.requires.renewed.kept (c.in_ok-affected.ensures.sight (undone c.args.edited.saw.now c.args.edited.seen.now) c.requires.was) c.resolve_again.new.meant.items (λ reads are. c.in_ok-resolve_again.ensures.meant c.if-not-branch.false reads are) c.are_read.ensures.0 c.are_read.ensures.1
 
 pub returns-clause-link : goal.returns-clause-link
 returns-clause-link c = λ imports are_imports.
-    parts_are_link c.args.edited.files.now c.args.edited.places.now c.args.declarations.now.table c.requires.renewed.imports_before c.args.declarations.now.rows.items (undone c.args.edited.saw.now c.args.edited.seen.now) c.args.resolutions.now.meant.items c.args.resolutions.now.references.items c.requires.table c.requires.renewed.link c.update.new.self.table c.update.new.self.rows.items c.in_ok-before.ensures.renewed c.in_ok-affected.affected c.grow_references.new.references.items c.grow_references.ensures.same (subst (λ (bs : List (List KindRow)). AreChangesMarked c.update.new.self.table c.in_ok-affected.affected c.args.edited.places.now (map (λ v. v.items) c.grow_references.new.references.items) (map (λ v. v.items) c.args.resolutions.now.meant.items) bs (map (outer_rows_of c.update.new.self.table (map (λ v. v.items) c.update.new.self.rows.items)) c.args.edited.places.now)) (ap (map (λ (v : Vec KindRow). v.items)) c.deref.ensures.value ∙ c.in_ok-before.ensures.before) c.in_ok-affected.ensures.changes) c.update.ensures.table c.args.edited.saw.now c.args.edited.seen.now c.requires.renewed.sight c.requires.renewed.kept (c.in_ok-affected.ensures.sight (undone c.args.edited.saw.now c.args.edited.seen.now) c.requires.was) c.resolve_again.new.meant.items (λ reads are. c.in_ok-resolve_again.ensures.meant c.if-not-branch.false reads are) c.are_read.ensures.0 c.are_read.ensures.1 c.renew_references.new.references.items (c.renew_references.ensures.len ∙ paired_now (c.added_are_cut.ensures) c.args.resolutions.now.references.items c.grow_references.new.references.items c.grow_references.ensures.grown c.len-names.result (length c.update.new.self.table.rows.items) c.len-names.ensures (sym c.update.new.self.table.rows.ok.0) (length c.args.declarations.now.table.rows.items) c.requires.paired c.in_ok-before.ensures.renewed.names.size c.in_ok-grow_references.ensures.len)
+    parts_are_link c.args.edited.files.now c.args.edited.places.now c.args.declarations.now.table c.requires.renewed.imports_before c.args.declarations.now.rows.items (undone c.args.edited.saw.now c.args.edited.seen.now) c.args.resolutions.now.meant.items c.args.resolutions.now.references.items c.requires.table c.requires.renewed.link c.update.new.self.table c.update.new.self.rows.items c.in_ok-before.ensures.renewed c.in_ok-affected.affected c.grow_references.new.references.items c.grow_references.ensures.same (subst (λ (bs : List (List KindRow)). AreChangesMarked c.update.new.self.table c.in_ok-affected.affected c.args.edited.places.now (map (λ v. v.items) c.grow_references.new.references.items) (map (λ v. v.items) c.args.resolutions.now.meant.items) bs (map (kind_rows_of c.update.new.self.table (map (λ v. v.items) c.update.new.self.rows.items)) c.args.edited.places.now)) (ap (map (λ (v : Vec KindRow). v.items)) c.deref.ensures.value ∙ c.in_ok-before.ensures.before) c.in_ok-affected.ensures.changes) c.update.ensures.table c.args.edited.saw.now c.args.edited.seen.now c.requires.renewed.sight c.requires.renewed.kept (c.in_ok-affected.ensures.sight (undone c.args.edited.saw.now c.args.edited.seen.now) c.requires.was) c.resolve_again.new.meant.items (λ reads are. c.in_ok-resolve_again.ensures.meant c.if-not-branch.false reads are) c.are_read.ensures.0 c.are_read.ensures.1 c.renew_references.new.references.items (c.renew_references.ensures.len ∙ paired_now (c.added_are_cut.ensures) c.args.resolutions.now.references.items c.grow_references.new.references.items c.grow_references.ensures.grown c.len-names.result (length c.update.new.self.table.rows.items) c.len-names.ensures (sym c.update.new.self.table.rows.ok.0) (length c.args.declarations.now.table.rows.items) c.requires.paired c.in_ok-before.ensures.renewed.names.size c.in_ok-grow_references.ensures.len)
     (subst (λ (ms : List (Vec Meant)). AreReferencesOf (map (λ v. v.items) c.renew_references.new.references.items) (map (λ v. v.items) ms)) c.deref-3.ensures.value c.in_ok-renew_references.ensures.references)
     imports (are_imports c.are_read.ensures.0 c.are_read.ensures.1)
 
@@ -149,7 +149,7 @@ returns-clause-told c = λ imports before link same.
     record {
       count = c.in_ok-affected.ensures.len;
       look = λ was reads are_was are.
-          parts_have_to_look c.args.edited.files.now c.args.edited.places.now c.args.declarations.now.table imports c.args.declarations.now.rows.items (undone c.args.edited.saw.now c.args.edited.seen.now) c.args.resolutions.now.meant.items c.args.resolutions.now.references.items c.requires.table (before, record { link = link.link; clean = link.clean; reads = was; read = are_was }, same) c.update.new.self.table c.update.new.self.rows.items c.in_ok-before.ensures.renewed c.in_ok-affected.affected c.grow_references.new.references.items c.grow_references.ensures.same (subst (λ (bs : List (List KindRow)). AreChangesMarked c.update.new.self.table c.in_ok-affected.affected c.args.edited.places.now (map (λ v. v.items) c.grow_references.new.references.items) (map (λ v. v.items) c.args.resolutions.now.meant.items) bs (map (outer_rows_of c.update.new.self.table (map (λ v. v.items) c.update.new.self.rows.items)) c.args.edited.places.now)) (ap (map (λ (v : Vec KindRow). v.items)) c.deref.ensures.value ∙ c.in_ok-before.ensures.before) c.in_ok-affected.ensures.changes) c.update.ensures.table c.args.edited.saw.now c.args.edited.seen.now c.requires.renewed.sight c.requires.renewed.kept (c.in_ok-affected.ensures.sight (undone c.args.edited.saw.now c.args.edited.seen.now) c.requires.was) reads are;
+          parts_have_to_look c.args.edited.files.now c.args.edited.places.now c.args.declarations.now.table imports c.args.declarations.now.rows.items (undone c.args.edited.saw.now c.args.edited.seen.now) c.args.resolutions.now.meant.items c.args.resolutions.now.references.items c.requires.table (before, record { link = link.link; clean = link.clean; reads = was; read = are_was }, same) c.update.new.self.table c.update.new.self.rows.items c.in_ok-before.ensures.renewed c.in_ok-affected.affected c.grow_references.new.references.items c.grow_references.ensures.same (subst (λ (bs : List (List KindRow)). AreChangesMarked c.update.new.self.table c.in_ok-affected.affected c.args.edited.places.now (map (λ v. v.items) c.grow_references.new.references.items) (map (λ v. v.items) c.args.resolutions.now.meant.items) bs (map (kind_rows_of c.update.new.self.table (map (λ v. v.items) c.update.new.self.rows.items)) c.args.edited.places.now)) (ap (map (λ (v : Vec KindRow). v.items)) c.deref.ensures.value ∙ c.in_ok-before.ensures.before) c.in_ok-affected.ensures.changes) c.update.ensures.table c.args.edited.saw.now c.args.edited.seen.now c.requires.renewed.sight c.requires.renewed.kept (c.in_ok-affected.ensures.sight (undone c.args.edited.saw.now c.args.edited.seen.now) c.requires.was) reads are;
     }
 
 pub add_changed-requires-clause-within : goal.add_changed-requires-clause-within

@@ -3,7 +3,7 @@ use Rattle.std.proofs.lemmas.List.Elements.{All-filter}
 use Rattle.proto_names_table.specs.declared.ids.Meant.{Meant}
 use Rattle.proto_names_table.specs.declared.ids.RefId.{RefId}
 use Rattle.proto_names_affected.specs.Marking.{AreUsersMarked}
-use Rattle.proto_names_affected.specs.OuterRows.{HasLastWords, is_below_type}
+use Rattle.proto_names_affected.specs.KindRows.{HasLastWords, is_below_type}
 use Rattle.proto_names_affected.proofs.Changes.{beginners_marked, rows_within, users_marked, users_stay}
 use Rattle.proto_names_affected.proofs.changed_files.mark_change.Goals as goal
 

@@ -5,7 +5,7 @@ use Rattle.proto_names_table.specs.declared.ids.Meant.{Meant}
 use Rattle.proto_names_table.specs.declared.ids.RefId.{RefId}
 use Rattle.proto_names_affected.specs.ChangedFiles.{IsChangeMarked}
 use Rattle.proto_names_affected.specs.Marking.{IsMarked}
-use Rattle.proto_names_affected.specs.declared.outer_rows.KindRow.{KindRow}
+use Rattle.proto_names_affected.specs.declared.kind_rows.KindRow.{KindRow}
 use Rattle.proto_names_affected.proofs.Changes.{change_stays}
 use Rattle.proto_names_affected.proofs.changed_files.marks_of_changes.Goals as goal
 

@@ -17,5 +17,5 @@ returns c = λ w names read. (
       | in-Below b ↦ b.scope-is ∙ ap (number_above lookup.rows.now) (sym b.in-Below.is)
     ] in
     let asked = asked_in lookup.table.now lookup.seen.now lookup.rows.now names lookup.file w read (word_at c.args.words.now) c.args.used.now c.requires.scope c.match-used.scope scope in
-    let is = c.resolved_row-row.ensures.meant w r asked refl refl in
+    let is = c.resolved_row-row.ensures.meant w r asked refl refl refl in
     subst (IsKindOf w r) (sym c.kind_at_row.ensures) (kind_is lookup.table.now c.requires.table w read.index r c.resolved_row-row.result is))

@@ -4,4 +4,8 @@ use Rattle.proto_names_outline.proofs.Growing.{adds_then}
 use Rattle.proto_names_outline.proofs.field_listing.list_map_field.Goals as goal
 
 pub returns : goal.returns
-returns c = on_ok_weaker c.list_type.result (λ types. adds_then c.in_ok-name.ensures.adds (adds_then c.in_ok-list_entry.ensures types (omega (arith, c.in_ok-name.ensures.adds.grown))) (omega arith)) c.list_type.ensures
+returns c =
+    let entry = c.in_ok-name.ensures.adds.grown in
+    let typed = c.in_ok-list_entry.ensures.grown in
+    on_ok_weaker c.list_settings.result (λ settings.
+    adds_then c.in_ok-name.ensures.adds (adds_then c.in_ok-list_entry.ensures (adds_then c.in_ok-list_type.ensures settings (omega (arith, entry, typed))) (omega (arith, entry))) (omega arith)) c.list_settings.ensures

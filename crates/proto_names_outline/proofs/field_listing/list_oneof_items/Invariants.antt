@@ -1,11 +1,11 @@
 use Rattle.std.proofs.Common.{◌≤◌, length, drop}
 use Rattle.proto_tree.specs.File.{trees, oneof_item_tree}
-use Rattle.proto_names_outline.specs.Common.{Below, Listing, flat_uses, Adds, needs}
-use Rattle.proto_names_outline.proofs.Listed.{fields_placed}
+use Rattle.proto_names_outline.specs.Common.{Below, Listing, Adds, needs}
+use Rattle.proto_names_outline.proofs.Listed.{inner_uses, fields_placed}
 use Rattle.proto_names_outline.proofs.field_listing.list_oneof_items.Given as goal
 
 abbrev pub invariant-loop-item : goal.invariant-loop-item
 invariant-loop-item l = record {
   within : needs (Below l.scope) ≤ length l.listing.declared.items;
-  rest : (final : Listing) → Adds l.listing final (Below l.scope) (λ path. fields_placed path (trees oneof_item_tree (drop l.item-index l.items))) (λ path. flat_uses path (trees oneof_item_tree (drop l.item-index l.items))) → Adds l.fn.listing final (Below l.scope) (λ path. fields_placed path (trees oneof_item_tree l.items)) (λ path. flat_uses path (trees oneof_item_tree l.items));
+  rest : (final : Listing) → Adds l.listing final (Below l.scope) (λ path. fields_placed path (trees oneof_item_tree (drop l.item-index l.items))) (λ path. inner_uses path (trees oneof_item_tree (drop l.item-index l.items))) → Adds l.fn.listing final (Below l.scope) (λ path. fields_placed path (trees oneof_item_tree l.items)) (λ path. inner_uses path (trees oneof_item_tree l.items));
 }

@@ -30,6 +30,6 @@ returns-in_ok-add_unless c =
     let is : import_path r i ≡ path = ap or_nothing (ap value_of (sym c.text.ensures) ∙ c.in_ok-path.ensures.value) ∙ sym c.as_str.ensures.value in
     subst (λ (x : ImportsOf). (reads : List ReadOf) → AreRead x.files reads → new ≡ old ++ found_by x.rules x.read rule.ImportUsed (import_used (names_of_files x.files reads) (paths_of x.files) x.read x.file i)) c.self.view_is
     (λ (reads : List ReadOf) are.
-    (let uses = leads_is_used files reads are file c.self.inside.used (c.self.invariant.1 chosen) path c.in_ok-is_used.is_used ((rw c.files.ensures.files at c.in_ok-is_used.ensures) reads are) in
-    used_found linter.rules.now.chosen r (names_of_files files reads) (paths_of files) file i old new path c.in_ok-is_used.is_used c.passes-passes.result chosen plain is uses c.passes-passes.ensures
+    (let uses = leads_is_used files reads are file c.self.inside.used (c.self.invariant.1 chosen) path c.in_ok-passes.passes ((rw c.files.ensures.files at c.in_ok-passes.ensures) reads are) in
+    used_found linter.rules.now.chosen r (names_of_files files reads) (paths_of files) file i old new path c.in_ok-passes.passes chosen plain is uses
     (grind (rules, c.in_ok-add_unless.ensures.added, again))))

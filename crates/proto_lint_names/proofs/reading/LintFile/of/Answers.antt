@@ -1,5 +1,4 @@
-use Rattle.std.proofs.Common.{◌∙◌, ap, refl, is_some}
-use Rattle.proto_tree.specs.File.{tree_of_file}
+use Rattle.std.proofs.Common.{refl}
 use Rattle.proto_files.specs.GivenFiles.{file_at}
 use Rattle.proto_lint_names.proofs.Readings.{read_is}
 use Rattle.proto_lint_names.proofs.reading.LintFile.of.Goals as goal
@@ -10,14 +9,10 @@ tokens-tokens-requires c = rw c.files-files.ensures.files c.requires
 pub new-words-requires : goal.new-words-requires
 new-words-requires c = rw c.files-files.ensures.files c.requires
 
-pub tree-requires : goal.tree-requires
-tree-requires c = rw c.files-files.ensures.files c.requires
-
 pub returns-clause-read : goal.returns-clause-read
 returns-clause-read c = λ reads are.
     (let files = c.args.linked.now.files in
     let given = c.files-files.ensures.files in
     let tokens = rw given at c.tokens-tokens.ensures.tokens in
     read_is files reads are c.link.result.now (rw c.link.ensures.link c.link.ensures.linked.link) c.args.file c.requires (file_at files c.args.file).bytes refl
-    c.tokens-tokens.result.now tokens c.new-words.result ((rw given at c.new-words.ensures.words) c.tokens-tokens.result.now tokens)
-    (tree_of_file c.tree.result.now) (rw given at c.tree.ensures) c.is_some.result (c.is_some.ensures ∙ ap is_some c.custom_name.ensures))
+    c.tokens-tokens.result.now tokens c.new-words.result ((rw given at c.new-words.ensures.words) c.tokens-tokens.result.now tokens))

@@ -1,6 +1,0 @@
-use Rattle.std.proofs.Common.{take}
-use Rattle.proto_names_affected.specs.OuterRows.{AreKindsOf}
-use Rattle.proto_names_affected.proofs.outer_rows.kinds_by_row.Given as goal
-
-abbrev pub invariant-loop-pair : goal.invariant-loop-pair
-invariant-loop-pair l = AreKindsOf (take l.pair-index l.pairs) l.kinds
