@@ -63,6 +63,8 @@ pub struct FolderStore<'a, R: Files + AllocGlobal> {
     shared_mode: u32,
     // The name of the second files that it makes.
     second: &'static str,
+    // What was found where leftovers were looked for, for the next list.
+    walked: Option<Walk>,
 }
 
 // What is known of a path.
@@ -104,6 +106,7 @@ impl<'a, R: Files + Clock + AllocGlobal> FolderStore<'a, R> {
             unsynced: BTreeSet::new(rt.alloc()),
             shared_mode: 0o777,
             second: SECOND,
+            walked: None,
         }
     }
 
@@ -209,20 +212,47 @@ impl<'a, R: Files + Clock + AllocGlobal> FolderStore<'a, R> {
     }
 
     // Removes what lies below the root and was left. What cannot be removed keeps none of the rest.
-    fn remove_leftovers(&self) -> io::Result<()>
-        ensures { self.now.root.now ≡ [] → IsErr result }
+    fn remove_leftovers(&mut self) -> io::Result<()>
+        ensures nowhere { self.old.root.now ≡ [] → IsErr result }
+        ensures root { self.new.root.now ≡ self.old.root.now }
+        ensures language { self.new.profile ≡ self.old.profile }
+        ensures failures { self.new.failures ≡ self.old.failures }
     {
         let walk = self.walk_folders()?;
-        let mut is_clear = true;
-        for (path, number) in walk.leftovers.iter() {
-            let full_path = self.full_path(path.as_str())?;
-            is_clear &= clear_leftover(self.rt, full_path.as_str(), *number).is_ok();
-        }
+        let is_clear = self.remove_all(walk.leftovers.as_slice())?;
+        self.walked = Some(walk);
         if is_clear {
             Ok(())
         } else {
             Err(io::Error::from(io::ErrorKind::PermissionDenied))
         }
+    }
+
+    // Removes these files, and answers whether all of them are gone.
+    fn remove_all(&self, leftovers: &[(String, FileNumber)]) -> io::Result<bool> {
+        let mut is_clear = true;
+        for (path, number) in leftovers {
+            let full_path = self.full_path(path.as_str())?;
+            is_clear &= clear_leftover(self.rt, full_path.as_str(), *number).is_ok();
+        }
+        Ok(is_clear)
+    }
+
+    // What lies below the root now: what was found where leftovers were looked for, where no folder
+    // has changed since.
+    fn walk_now(&mut self) -> io::Result<Walk>
+        ensures nowhere { self.old.root.now ≡ [] → IsErr result }
+        ensures root { self.new.root.now ≡ self.old.root.now }
+        ensures language { self.new.profile ≡ self.old.profile }
+        ensures failures { self.new.failures ≡ self.old.failures }
+    {
+        self.refuse_no_root()?;
+        if let Some(walk) = self.walked.take() {
+            if let Ok(true) = self.are_unchanged(walk.folders.as_slice()) {
+                return Ok(walk);
+            }
+        }
+        self.walk_folders()
     }
 
     // The paths of all schema files, noted.
@@ -232,7 +262,7 @@ impl<'a, R: Files + Clock + AllocGlobal> FolderStore<'a, R> {
         ensures language { self.new.profile ≡ self.old.profile }
         ensures failures { self.new.failures ≡ self.old.failures }
     {
-        let walk = self.walk_folders()?;
+        let walk = self.walk_now()?;
         note_listed(self.rt.alloc(), &mut self.seen, &walk)?;
         self.shared_mode &= walk.shared_mode;
         self.listed = walk.files.len();
@@ -254,6 +284,7 @@ impl<'a, R: Files + Clock + AllocGlobal> FolderStore<'a, R> {
             }
         }
         self.folders = Vec::new(self.rt.alloc());
+        self.walked = None;
         Ok(())
     }
 
@@ -272,10 +303,18 @@ impl<'a, R: Files + Clock + AllocGlobal> FolderStore<'a, R> {
     fn full_path(&self, path: &str) -> io::Result<String>
         ensures { self.now.root.now ≡ [] → IsErr result }
     {
+        self.refuse_no_root()?;
+        joined_path(self.rt.alloc(), self.root, path)
+    }
+
+    // Fails where the root is the empty word.
+    fn refuse_no_root(&self) -> io::Result<()>
+        ensures { self.now.root.now ≡ [] → IsErr result }
+    {
         if self.root.is_empty() {
             return Err(io::Error::from(io::ErrorKind::NotFound));
         }
-        joined_path(self.rt.alloc(), self.root, path)
+        Ok(())
     }
 
     // The way into the root, which is a folder or a symbolic link to one.

@@ -1,5 +1,5 @@
 use Rattle.std.proofs.Common.{rules}
-use Rattle.proto_store.proofs.folder.FolderStore.full_path.Goals as goal
+use Rattle.proto_store.proofs.folder.FolderStore.refuse_no_root.Goals as goal
 
 pub returns : goal.returns
 returns g c = search rules
