@@ -1,5 +1,5 @@
 -- The tokens that stand for a name, in their order.
-use Rattle.std.proofs.Common.{◌≡◌, ◌↔◌, ℕ, suc, ◌+◌, ◌<◌, ◌==◌, Bool, true, false, not, if◌then◌else◌, eqb-true, eq-eqb, All, AllPairs, List, [], ◌∷◌, ◌++◌, length, get_or, map, Option, Some, None, refl, sym, ap, subst, ◌∙◌, arith, inl, inr, Contains, true≢false}
+use Rattle.std.proofs.Common.{◌≡◌, ◌↔◌, ℕ, suc, ◌<◌, ◌==◌, Bool, true, false, not, if◌then◌else◌, eqb-true, eq-eqb, All, AllPairs, List, [], ◌∷◌, ◌++◌, length, get_or, map, Option, Some, None, refl, sym, ap, subst, ◌∙◌, arith, inl, inr, Contains, true≢false}
 use Rattle.std.proofs.lemmas.List.Kept.{AllPairs-filter}
 use Rattle.proto_base.proofs.Common.{All-append, All-contains, All-map, All-weaker, AllPairs-cons, Contains-append_left, Contains-append_right, Contains-get_or, Text, Vec, cond-false, cond-true, contains_cases, contains_filter, contains_head, contains_later, contains_map, false_from_ne_true, from_filter, from_flat_map, from_map}
 use Rattle.proto_files.proofs.Common.{AreRead, FileOf, HasNoFault, ReadOf}

@@ -72,7 +72,7 @@ no_line_end (b ∷ bytes) is =
 new_word_is : (files : List FileOf) (name to : Text) → IsAdmissible files (rename name to) → (reads : List ReadOf) → AreRead files reads → IsRun class.Letter to
 new_word_is files name to admissible reads are = elim (cases_Bool (is_run to)) [
   | inl y ↦ run_is to y
-  | inr n ↦ absurd (admissible 3 (reads, are, inl (not_an_identifier n)))
+  | inr n ↦ absurd (admissible 3 (reads, are, not_an_identifier n))
 ]
 
 -- what each changed word becomes holds of each new text

@@ -1,13 +1,12 @@
 mod Chains
 pub mod Common
-mod CoreCustom
-mod CustomFiles
 pub mod EditSteps
 pub mod GivenAgain
 mod MappedSteps
 mod NamedFields
 mod NotableEdits
 pub mod OneAnswer
+mod OptionSteps
 mod Refusals
 mod Reopening
 mod StatementSteps

@@ -20,19 +20,19 @@ use Rattle.proto_files.specs.GivenFiles.{no_file}
 
 -- ---- the step
 
-allowed_by : (files : List FileOf) (reads : List ReadOf) (name to : List ℕ) (t : Target) → AreCompiled files → AreRead files reads → IsNamed files reads name t → IsAdmissible files (rename name to) → IsAllowedRename files reads name to t
+pub allowed_by : (files : List FileOf) (reads : List ReadOf) (name to : List ℕ) (t : Target) → AreCompiled files → AreRead files reads → IsNamed files reads name t → IsAdmissible files (rename name to) → IsAllowedRename files reads name to t
 allowed_by files reads name to t compiled read named admissible = record {
   read = read;
   link = λ x h. compiled.clean x (of_link x h);
   checks = λ x h. compiled.clean x (of_check x h);
   named = named;
-  admissible = λ n c. admissible n (reads, read, inl c);
+  admissible = λ n c. admissible n (reads, read, c);
 }
 
 module _ (files : List FileOf) (reads : List ReadOf) (name to : List ℕ) (t : Target) (after : List FileOf) (seen : List ReadOf) (compiled : AreCompiled files) (read : AreRead files reads)
     (named : IsNamed files reads name t) (admissible : IsAdmissible files (rename name to)) (w : AreReworded (renamed_words files reads t to) files reads after seen) where
   no_case : (n : ℕ) → RenameCase files reads name to n → ⊥
-  no_case n c = admissible n (reads, read, inl c)
+  no_case n c = admissible n (reads, read, c)
 
   allowed : IsAllowedRename files reads name to t
   allowed = allowed_by files reads name to t compiled read named admissible
@@ -84,7 +84,7 @@ words_are_put files reads name to t compiled read named admissible =
 
 -- there is a target, since cases 1 and 2 do not refuse
 pub target_of : (files : List FileOf) (reads : List ReadOf) (name to : List ℕ) → AreRead files reads → IsAdmissible files (rename name to) → (t : Target) × IsNamed files reads name t
-target_of files reads name to read admissible = targets_are_there files reads name to read (λ c. admissible 1 (reads, read, inl c)) (λ c. admissible 2 (reads, read, inl c))
+target_of files reads name to read admissible = targets_are_there files reads name to read (λ c. admissible 1 (reads, read, c)) (λ c. admissible 2 (reads, read, c))
 
 pub admissible_renames_step : AdmissibleRenamesStep
 admissible_renames_step files name to compiled admissible =

@@ -61,13 +61,13 @@ module _ (files : List FileOf) (reads : List ReadOf) (compiled : AreCompiled fil
     where
       go : (b : Bool) → is_workspace_path path ≡ b → IsWorkspacePath path
       go true e = is_path_from_test path e
-      go false e = absurd (admissible 13 (reads, read, inl (not_imported k there (λ i. false≢true (sym e ∙ test_from_is_path path (imported_path path k i))))))
+      go false e = absurd (admissible 13 (reads, read, not_imported k there (λ i. false≢true (sym e ∙ test_from_is_path path (imported_path path k i)))))
 
   added_path : (file path : List ℕ) → IsAdmissible files (add_import file path) → IsWorkspacePath path
   added_path file path admissible = go (file_with_path (paths_of files) path) refl
     where
       go : (o : Option ℕ) → file_with_path (paths_of files) path ≡ o → IsWorkspacePath path
-      go None e = absurd (admissible 11 (reads, read, inl (by_name 11 (unknown_path e))))
+      go None e = absurd (admissible 11 (reads, read, (by_name 11 (unknown_path e))))
       go (Some to) e = named_path files path to compiled.workspace e
 
 -- ---- what may be renamed stands below written words
@@ -225,7 +225,7 @@ new_word files reads name to read admissible = go (is_run to) refl
   where
     go : (b : Bool) → is_run to ≡ b → is_run to ≡ true
     go true e = e
-    go false e = absurd (admissible 3 (reads, read, inl (not_an_identifier e)))
+    go false e = absurd (admissible 3 (reads, read, (not_an_identifier e)))
 
 notable_by : (w : List FileOf) (reads : List ReadOf) (e : Asked) (entry : List ChangeOf) → AreCompiled w → AreRead w reads → IsAdmissible w e → ChangesOf w reads e entry → IsNotable e
 notable_by w reads (rename name to) entry compiled read admissible c = (named_words w reads read name c.0 c.1, new_word w reads name to read admissible)

@@ -1,10 +1,13 @@
 -- Files that compile have one list of descriptors; an edit changes them in one way, or is refused by one case (for the crates above).
-use Rattle.std.proofs.Common.{◌≡◌, ℕ, Bool, List, Option, Some, None, inl, inr, sym, ap, ap₂, subst, ◌∙◌, arith}
+use Rattle.std.proofs.Common.{◌≡◌, ℕ, ◌<◌, Bool, List, inl, inr, sym, ap, subst, ◌∙◌, arith}
 use Rattle.std.proofs.lemmas.Bool.{cases_lt}
 use Rattle.proto_files.proofs.Common.{ReadOf, AreRead, FileOf, file_at, read_at, read_once}
 use Rattle.proto_text.proofs.Common.{offset_at}
-use Rattle.proto_ast.specs.CustomNames.{custom_name_in}
-use Rattle.proto_edit.specs.CustomOptions.{IsCustomAt, IsFirstCustom}
+use Rattle.proto_names_rules.specs.Grown.{At, at}
+use Rattle.proto_edit_rules.specs.DeleteField.{IsFieldWord}
+use Rattle.proto_edit_rules.specs.Options.{ComesBefore, IsFirstToken}
+use Rattle.proto_edit_rules.specs.Rename.{IsValueWord}
+use Rattle.proto_edit.specs.Workspaces.{IsWordAt, WordPlaceOf}
 use Rattle.proto_descriptors.specs.Descriptors.{FileDesc}
 use Rattle.proto_desc.specs.Whole.{of_link}
 use Rattle.proto_edit_entries.proofs.Common.{ChangeOf, IsPut, puts_are_once}
@@ -82,34 +85,47 @@ least_once w e m n x y = elim (cases_lt m n) [
   ]
 ]
 
-there_and_none : {P : Type 0} (o : Option ℕ) (token : ℕ) → o ≡ Some token → o ≡ None → P
-there_and_none o token some none = let e : Some token ≡ None = sym some ∙ none in cc
+-- ---- the place of the least word of an option
 
-one_token : (o : Option ℕ) (a b : ℕ) → o ≡ Some a → o ≡ Some b → a ≡ b
-one_token o a b p q = let e : Some a ≡ Some b = sym p ∙ q in cc
+-- there is one first token
+first_is_one : (files : List FileOf) (reads : List ReadOf) (Holds : At → Type 0) (path file : List ℕ) (offset other : ℕ) → IsFirstToken files reads Holds path offset → IsFirstToken files reads Holds file other → (path ≡ file) × (offset ≡ other)
+first_is_one files reads Holds path file offset other x y =
+    let same = one_place x.a y.a (x.least y.a y.holds) (y.least x.a x.holds) in
+    (x.path_is ∙ ap (λ (a : At). (file_at files a.file).path) same ∙ sym y.path_is, x.offset_is ∙ ap (λ (a : At). offset_at (read_at reads a.file).tokens a.token) same ∙ sym y.offset_is)
+  where
+    one_place : (a b : At) → (ComesBefore b a → ⊥) → (ComesBefore a b → ⊥) → a ≡ b
+    one_place a b not_after not_before = elim (cases_lt a.file b.file) [
+      | inl lt ↦ absurd (not_before (inl lt))
+      | inr ge ↦ elim (cases_lt b.file a.file) [
+        | inl gt ↦ absurd (not_after (inl gt))
+        | inr le ↦
+            let one : a.file ≡ b.file = omega (arith, ge, le) in
+            elim (cases_lt a.token b.token) [
+              | inl lt ↦ absurd (not_before (inr (one, lt)))
+              | inr more ↦ elim (cases_lt b.token a.token) [
+                | inl gt ↦ absurd (not_after (inr (sym one, gt)))
+                | inr less ↦ (let token : a.token ≡ b.token = omega (arith, more, less) in λ i. at (one i) (token i))
+              ]
+            ]
+      ]
+    ]
 
--- there is one first custom option
-first_once : (reads : List ReadOf) (file other token same : ℕ) → IsFirstCustom reads file token → IsFirstCustom reads other same → (file ≡ other) × (token ≡ same)
-first_once reads file other token same x y = elim (cases_lt file other) [
-  | inl lt ↦ there_and_none (custom_name_in (read_at reads file).tree) token x.1 (y.2 file lt)
-  | inr ge ↦ elim (cases_lt other file) [
-    | inl gt ↦ there_and_none (custom_name_in (read_at reads other).tree) same y.1 (x.2 other gt)
-    | inr le ↦
-        let one : file ≡ other = omega (arith, ge, le) in
-        (one, one_token (custom_name_in (read_at reads other).tree) token same (subst (λ (k : ℕ). custom_name_in (read_at reads k).tree ≡ Some token) one x.1) y.1)
-  ]
-]
+word_by : (w : List FileOf) (reads : List ReadOf) (e : Asked) (path file : List ℕ) (offset other : ℕ) → AreCompiled w → AreRead w reads → WordPlaceOf w reads e path offset → WordPlaceOf w reads e file other → (path ≡ file) × (offset ≡ other)
+word_by w reads (rename name to) path file offset other has read x y =
+    let first = subst (λ (t : Target). IsFirstToken w reads (IsValueWord w reads t to) path offset) (one_target w reads name x.0 y.0 has read x.1 y.1) x.2 in
+    first_is_one w reads (IsValueWord w reads y.0 to) path file offset other first y.2
+word_by w reads (delete_field name) path file offset other has read x y =
+    let first = subst (λ (t : Target). IsFirstToken w reads (IsFieldWord w reads t) path offset) (one_target w reads name x.0 y.0 has read x.1.named y.1.named) x.2 in
+    first_is_one w reads (IsFieldWord w reads y.0) path file offset other first y.2
+word_by w reads (add_import imports imported) path file offset other has read x y = absurd x
+word_by w reads (drop_import imports imported) path file offset other has read x y = absurd x
 
-custom_once : (w : List FileOf) (path file : List ℕ) (offset other : ℕ) → IsCustomAt w path offset → IsCustomAt w file other → (path ≡ file) × (offset ≡ other)
-custom_once w path file offset other x y =
-    let reads : x.0 ≡ y.0 = read_once w x.0 y.0 x.1 y.1 in
-    let one = first_once y.0 x.2 y.2 x.3 y.3 (subst (λ (rs : List ReadOf). IsFirstCustom rs x.2 x.3) reads x.4) y.4 in (
-      x.5 ∙ ap (λ (k : ℕ). (file_at w k).path) one.0 ∙ sym y.5,
-      x.6 ∙ ap (λ (rs : List ReadOf). offset_at (read_at rs x.2).tokens x.3) reads ∙ ap₂ (λ (k t : ℕ). offset_at (read_at y.0 k).tokens t) one.0 one.1 ∙ sym y.6,
-    )
+word_once : (w : List FileOf) (e : Asked) (path file : List ℕ) (offset other : ℕ) → AreCompiled w → IsWordAt w e path offset → IsWordAt w e file other → (path ≡ file) × (offset ≡ other)
+word_once w e path file offset other has x y =
+    word_by w y.0 e path file offset other has y.1 (subst (λ (rs : List ReadOf). WordPlaceOf w rs e path offset) (read_once w x.0 y.0 x.1 y.1) x.2) y.2
 
 pub refused_once : StatementLaws → RefusedOnce
-refused_once laws w e has = (λ m n. least_once w e m n, (λ path file offset other. place_once laws w e path file offset other has, λ path file offset other. custom_once w path file offset other))
+refused_once laws w e has = (λ m n. least_once w e m n, (λ path file offset other. place_once laws w e path file offset other has, λ path file offset other. word_once w e path file offset other has))
 
 -- ---- the descriptors under its map
 

@@ -1,5 +1,5 @@
 -- A deletion, an added and a dropped import that no case refuses are mapped steps.
-use Rattle.std.proofs.Common.{◌≡◌, ℕ, ◌∙◌, List, refl, sym, Some, inl}
+use Rattle.std.proofs.Common.{◌≡◌, ℕ, ◌∙◌, List, refl, sym, Some}
 use Rattle.std.proofs.lemmas.List.Elements.{Contains-get_or}
 use Rattle.proto_files.proofs.Common.{FaultAt, HasNoFault, AreRead, ReadOf, AreWorkspaceFiles, FileOf, file_at, ReadFaults}
 use Rattle.proto_names_imports.specs.Links.{LinkFaults}
@@ -58,7 +58,7 @@ module _ (laws : StatementLaws) (files : List FileOf) (reads : List ReadOf) (com
   faultless : AreFaultless files reads
   faultless = faultless_by files reads compiled read
 
-  allowed : (name : List ℕ) (f : FieldAt) → IsFieldNamed files reads name f → IsAdmissible files (delete_field name) → IsAllowedDeletion files reads name f
+  pub allowed : (name : List ℕ) (f : FieldAt) → IsFieldNamed files reads name f → IsAdmissible files (delete_field name) → IsAllowedDeletion files reads name f
   allowed name f named admissible = record {
     are = faultless.are;
     link = faultless.links;
@@ -67,13 +67,13 @@ module _ (laws : StatementLaws) (files : List FileOf) (reads : List ReadOf) (com
     field = named.field;
     token = named.token;
     stands = named.stands;
-    admissible = λ n c. admissible n (reads, read, inl (by_name n c));
+    admissible = λ n c. admissible n (reads, read, (by_name n c));
   }
 
   pub deletion_steps : (name : List ℕ) (f : FieldAt) → IsFieldNamed files reads name f → IsAdmissible files (delete_field name)
       → (after : List FileOf) × IsMappedStep files (delete_field name) (changes_of_deletion files reads f) after × IsEntry (changes_of_deletion files reads f)
   deletion_steps name f named admissible =
-      let m = laws.deleted files reads name f (allowed name f named admissible) (λ long. admissible 16 (reads, read, inl (too_large f named long))) in
+      let m = laws.deleted files reads name f (allowed name f named admissible) (λ long. admissible 16 (reads, read, (too_large f named long))) in
       let left = m.1.2 in (
         m.1.0,
         record {
@@ -90,29 +90,29 @@ module _ (laws : StatementLaws) (files : List FileOf) (reads : List ReadOf) (com
       let m = laws.added files reads file path k (record {
         faultless = faultless;
         at = at;
-        free = λ n c. admissible n (reads, read, inl (import_by_name n c));
-        short = λ long. admissible 16 (reads, read, inl (import_too_large k at long));
+        free = λ n c. admissible n (reads, read, (import_by_name n c));
+        short = λ long. admissible 16 (reads, read, (import_too_large k at long));
       }) in
       (m.0, step_of files reads (add_import file path) (changes_of_addition files reads k path) k _ m.0 m.1 read admissible (k, at, refl) m.2 (λ ds new old later. (reads, read, (k, at, m.2.described ds new old later))), m.2.entry)
 
   pub drop_steps : (file path : List ℕ) (k : ℕ) (i : Import) → IsPlaceOf files file k → IsImportOf files reads k path i → IsAdmissible files (drop_import file path)
       → (after : List FileOf) × IsMappedStep files (drop_import file path) (changes_of_drop files reads k i) after × IsEntry (changes_of_drop files reads k i)
   drop_steps file path k i at imports admissible =
-      let m = laws.dropped files reads file path k i (record { faultless = faultless; at = at; imports = imports; free = λ n c. admissible n (reads, read, inl c) }) in
+      let m = laws.dropped files reads file path k i (record { faultless = faultless; at = at; imports = imports; free = λ n c. admissible n (reads, read, c) }) in
       (m.0, step_of files reads (drop_import file path) (changes_of_drop files reads k i) k _ m.0 m.1 read admissible (k, i, at, imports, refl) m.2 (λ ds new old later. (reads, read, (k, at, m.2.described ds new old later))), m.2.entry)
 
   -- ---- what is changed is there
 
   pub field_of : (name : List ℕ) → IsAdmissible files (delete_field name) → (f : FieldAt) × IsFieldNamed files reads name f
   field_of name admissible =
-      let f = laws.fields files reads name faultless.are faultless.links faultless.checks (λ n c. admissible n (reads, read, inl (by_name n c))) in
+      let f = laws.fields files reads name faultless.are faultless.links faultless.checks (λ n c. admissible n (reads, read, (by_name n c))) in
       (f.0, record { t = f.1.target; field = f.1.field; token = f.1.token; stands = f.1.stands })
 
   pub file_of : (file path : List ℕ) → IsAdmissible files (add_import file path) → (k : ℕ) × IsPlaceOf files file k
-  file_of file path admissible = laws.files files reads file path (λ n c. admissible n (reads, read, inl (import_by_name n c)))
+  file_of file path admissible = laws.files files reads file path (λ n c. admissible n (reads, read, (import_by_name n c)))
 
   pub import_of : (file path : List ℕ) → IsAdmissible files (drop_import file path) → (k : ℕ) × (i : Import) × IsPlaceOf files file k × IsImportOf files reads k path i
-  import_of file path admissible = laws.imports files reads file path read (λ n c. admissible n (reads, read, inl c))
+  import_of file path admissible = laws.imports files reads file path read (λ n c. admissible n (reads, read, c))
 
 -- ---- and is one
 

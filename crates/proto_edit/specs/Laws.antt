@@ -11,9 +11,12 @@ use Rattle.proto_edit_entries.specs.declared.refusal.Refusal.{Refusal}
 use Rattle.proto_edit_entries.specs.EditsAsked.{IsNotable}
 use Rattle.proto_edit_entries.specs.Entries.{ChangeOf, IsEntry}
 use Rattle.proto_edit_entries.specs.Putting.{IsPut}
+use Rattle.proto_edit_rules.specs.OptionViews.{OptionsStay}
+use Rattle.proto_edit_rules.specs.Rename.{IsNamed, Target, name_map}
+use Rattle.proto_names_rules.specs.Edits.{ren}
+use Rattle.proto_names_rules.specs.Names.{Name}
 use Rattle.proto_edit.specs.Compiled.{AreCompiled}
-use Rattle.proto_edit.specs.CustomOptions.{IsCustomAt}
-use Rattle.proto_edit.specs.Workspaces.{Asked, IsAdmissible, IsLeastCase, IsCaseAt, AreChanges, AreMapped, IsStep, IsMappedStep, IsUndo, Run, accepted, Undone}
+use Rattle.proto_edit.specs.Workspaces.{Asked, add_import, delete_field, drop_import, rename, IsAdmissible, IsLeastCase, IsCaseAt, IsWordAt, AreChanges, AreMapped, IsStep, IsMappedStep, IsUndo, Run, accepted, Undone}
 
 -- ---- workspaces
 
@@ -58,8 +61,8 @@ MappedOnce = (w : List FileOf) (e : Asked) (ds a b : List FileDesc)
     → AreMapped w e ds b
     → a ≡ b
 
--- An edit is refused by one case, and with one place where one is answered; the first custom option
--- has one place.
+-- An edit is refused by one case, and with one place where one is answered; the least word of an
+-- option that may stand for the symbol has one place.
 abbrev pub RefusedOnce : Type 0
 RefusedOnce = (w : List FileOf) (e : Asked)
     → AreCompiled w
@@ -67,7 +70,7 @@ RefusedOnce = (w : List FileOf) (e : Asked)
     × (((path file : Path) (offset other : ℕ)
     → IsCaseAt w e path offset → IsCaseAt w e file other → (path ≡ file) × (offset ≡ other))
     × ((path file : Path) (offset other : ℕ)
-    → IsCustomAt w path offset → IsCustomAt w file other → (path ≡ file) × (offset ≡ other)))
+    → IsWordAt w e path offset → IsWordAt w e file other → (path ≡ file) × (offset ≡ other)))
 
 -- Undoing what an edit answered leads back, and to no other files.
 abbrev pub StepsAreUndone : Type 0
@@ -95,6 +98,28 @@ EditsAreMade = (w : List FileOf) (e : Asked)
     × (after : List FileOf)
     × IsPut w cs after
     × AreCompiled after
+
+-- what an edit makes of full names: a rename its name map, each other edit leaves them
+abbrev pub MapsNames : List FileOf → List ReadOf → Asked → (Name → Name) → Type 0
+MapsNames files reads (rename name to) f = (t : Target) × IsNamed files reads name t
+    × ((x : Name) → f x ≡ ren (name_map files reads t to) x)
+MapsNames files reads (delete_field name) f = (x : Name) → f x ≡ x
+MapsNames files reads (add_import file path) f = (x : Name) → f x ≡ x
+MapsNames files reads (drop_import file path) f = (x : Name) → f x ≡ x
+
+-- An accepted edit leaves options: each has the same path and value, its name means what the edit
+-- makes of what it meant, and a reader who knows its words sees the same of the types that its
+-- value may fill.
+abbrev pub StepsLeaveOptions : Type 0
+StepsLeaveOptions =
+    (w after : List FileOf) (e : Asked) (cs : List ChangeOf) (reads later : List ReadOf)
+    (ds new : List FileDesc) (f : Name → Name)
+    → AreCompiled w
+    → IsMappedStep w e cs after
+    → AreRead w reads → AreRead after later
+    → AreDescribed w ds → AreDescribed after new
+    → MapsNames w reads e f
+    → OptionsStay f w after reads later ds new
 
 -- ---- runs
 

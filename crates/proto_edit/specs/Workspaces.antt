@@ -1,7 +1,7 @@
 -- A workspace under edits: when an edit is refused, what it changes, what it leaves, and runs of
 -- edits. What is particular to an edit is said by cases on the edit, over the files and what is
 -- read of them; all else speaks of changes, and of no edit.
-use Rattle.std.specs.Prelude.{◌≡◌, ◌≢◌, ◌⊎◌, ℕ, ◌<◌, List, [], ◌∷◌, Result, Ok, Err, string_bytes}
+use Rattle.std.specs.Prelude.{◌≡◌, ◌≢◌, ℕ, ◌<◌, List, [], ◌∷◌, Result, Ok, Err, string_bytes}
 use Rattle.proto_base.specs.Texts.{Path}
 use Rattle.proto_files.specs.FilesRead.{ReadOf, AreRead}
 use Rattle.proto_files.specs.GivenFiles.{FileOf}
@@ -13,14 +13,14 @@ use Rattle.proto_edit_entries.specs.Entries.{ChangeOf, inverted}
 use Rattle.proto_edit_entries.specs.Putting.{IsPut}
 use Rattle.proto_edit_entries.specs.RefusalTable.{refusal_number}
 use Rattle.proto_edit_entries.specs.declared.refusal.Refusal.TheVariants as refusal
-use Rattle.proto_edit_rules.specs.Rename.{Captures, IsFirstPlace, RenameCase, changes_of_words, Target, IsNamed, renamed_words, AreRenamed}
-use Rattle.proto_edit_rules.specs.DeleteField.{FieldAt, changes_of_deletion, mapped_deletion, IsFieldNamed, RefusesDeletion}
+use Rattle.proto_edit_rules.specs.Options.{IsFirstToken}
+use Rattle.proto_edit_rules.specs.Rename.{Captures, IsFirstPlace, IsValueWord, RenameCase, changes_of_words, Target, IsNamed, renamed_words, AreRenamed}
+use Rattle.proto_edit_rules.specs.DeleteField.{FieldAt, IsField, IsFieldWord, changes_of_deletion, mapped_deletion, IsFieldNamed, RefusesDeletion}
 use Rattle.proto_edit_rules.specs.DropImport.{IsImportOf, changes_of_drop, without_dependency, DropCase, IsNeededAt}
 use Rattle.proto_edit_rules.specs.AddImport.{changes_of_addition, with_dependency, RefusesAddition, IsOvertakenAt}
 use Rattle.proto_edit_rules.specs.Statements.{tree_at, changed_at, IsPlaceOf as IsFileAt}
 use Rattle.proto_tree.specs.declared.tree.Import.{Import}
 use Rattle.proto_edit.specs.Compiled.{AreCompiled}
-use Rattle.proto_edit.specs.CustomOptions.{HasCustom, IsCustomAt}
 
 -- ---- the cases that refuse an edit
 
@@ -31,19 +31,14 @@ CaseOf files reads (delete_field name) n = RefusesDeletion files reads name n
 CaseOf files reads (add_import file path) n = RefusesAddition files reads file path n
 CaseOf files reads (drop_import file path) n = DropCase files reads file path n
 
--- case n holds: it is one of the edit's own, or 19, where a custom option stands in some file
+-- case n holds
 abbrev pub IsCase : List FileOf → Asked → ℕ → Type 0
-IsCase w e n = (reads : List ReadOf) × AreRead w reads
-    × (CaseOf w reads e n ⊎ ((n ≡ 19) × HasCustom reads))
+IsCase w e n = (reads : List ReadOf) × AreRead w reads × CaseOf w reads e n
 
 -- case n holds, and none before it
 pub record IsLeastCase (w : List FileOf) (e : Asked) (n : ℕ) : Type 0 where
   pub is : IsCase w e n
   pub least : (k : ℕ) → k < n → IsCase w e k → ⊥
-
--- no case of the edit's own holds
-abbrev pub IsAllowed : List FileOf → Asked → Type 0
-IsAllowed w e = (n : ℕ) (reads : List ReadOf) → AreRead w reads → CaseOf w reads e n → ⊥
 
 -- no case holds
 abbrev pub IsAdmissible : List FileOf → Asked → Type 0
@@ -60,6 +55,21 @@ PlaceOf files reads (add_import file imported) path offset =
 PlaceOf files reads (drop_import file imported) path offset =
     IsNeededAt files reads file imported path offset
 
+-- the path and offset that are answered with 19: of the least word of an option that may stand for
+-- what is renamed or deleted
+abbrev pub WordPlaceOf : List FileOf → List ReadOf → Asked → Path → ℕ → Type 0
+WordPlaceOf files reads (rename name to) path offset = (t : Target) × IsNamed files reads name t
+    × IsFirstToken files reads (IsValueWord files reads t to) path offset
+WordPlaceOf files reads (delete_field name) path offset = (t : Target) × IsField files reads name t
+    × IsFirstToken files reads (IsFieldWord files reads t) path offset
+WordPlaceOf files reads (add_import file imported) path offset = ⊥
+WordPlaceOf files reads (drop_import file imported) path offset = ⊥
+
+-- this path and offset are answered with case 19
+abbrev pub IsWordAt : List FileOf → Asked → Path → ℕ → Type 0
+IsWordAt w e path offset = (reads : List ReadOf) × AreRead w reads
+    × WordPlaceOf w reads e path offset
+
 -- this path and offset are answered with the case
 abbrev pub IsCaseAt : List FileOf → Asked → Path → ℕ → Type 0
 IsCaseAt w e path offset = (reads : List ReadOf) × AreRead w reads × PlaceOf w reads e path offset
@@ -72,7 +82,7 @@ IsRefusal w e (refusal.Captured path offset) =
 IsRefusal w e (refusal.Needed path offset) =
     IsLeastCase w e 15 × IsCaseAt w e (string_bytes path) offset
 IsRefusal w e (refusal.OptionValue path offset) =
-    IsLeastCase w e 19 × IsCustomAt w (string_bytes path) offset
+    IsLeastCase w e 19 × IsWordAt w e (string_bytes path) offset
 IsRefusal w e r = IsLeastCase w e (refusal_number r)
 
 -- ---- what an edit changes

@@ -5,9 +5,8 @@ ghost use Rattle.proto_edit.specs.Answers.{asked, IsPutRefusal, IsUndoRefusal, I
 ghost use Rattle.proto_edit.specs.Compiled.{AreCompiled};
 ghost use Rattle.proto_edit_entries.specs.Entries.{change_of, AreRising};
 ghost use Rattle.proto_edit_entries.specs.Putting.{IsPut};
-ghost use Rattle.proto_edit.specs.Workspaces.{rename as rename_asked, delete_field as delete_asked, add_import as add_asked, drop_import as drop_asked, IsAdmissible, IsAllowed, AreChanges, IsRefusal, IsMappedStep, IsUndo, Run, Undone};
+ghost use Rattle.proto_edit.specs.Workspaces.{rename as rename_asked, delete_field as delete_asked, add_import as add_asked, drop_import as drop_asked, IsAdmissible, AreChanges, IsRefusal, IsMappedStep, IsUndo, Run, Undone};
 
-use crate::custom::check_custom;
 use crate::laws::statements_are_known;
 use crate::workspace::Workspace;
 use proto_base::NoMemory;
@@ -22,7 +21,7 @@ use std::alloc::Global;
 impl Workspace {
     // What a rename changes, file by file, or the least case that refuses it.
     fn changes_of_rename(&self, alloc: Global, name: &str, to: &str) -> Result<Vec<Change>, Refusal>
-        ensures ok { IfOk result (λ cs. IsAllowed self.now (rename_asked name.now to.now)
+        ensures ok { IfOk result (λ cs. IsAdmissible self.now (rename_asked name.now to.now)
             × AreChanges self.now (rename_asked name.now to.now) (map change_of cs.items)) }
         ensures err { IfErr result (IsRefusal self.now (rename_asked name.now to.now)) }
     {
@@ -32,7 +31,7 @@ impl Workspace {
     // What the deletion of a field changes, or the least case that refuses it. The numbers
     // of fields that compile are small.
     fn changes_of_deletion(&self, alloc: Global, name: &str) -> Result<Vec<Change>, Refusal>
-        ensures ok { IfOk result (λ cs. IsAllowed self.now (delete_asked name.now)
+        ensures ok { IfOk result (λ cs. IsAdmissible self.now (delete_asked name.now)
             × AreChanges self.now (delete_asked name.now) (map change_of cs.items)) }
         ensures err { IfErr result (IsRefusal self.now (delete_asked name.now)) }
     {
@@ -47,7 +46,7 @@ impl Workspace {
         file: &str,
         path: &str,
     ) -> Result<Vec<Change>, Refusal>
-        ensures ok { IfOk result (λ cs. IsAllowed self.now (add_asked file.now path.now)
+        ensures ok { IfOk result (λ cs. IsAdmissible self.now (add_asked file.now path.now)
             × AreChanges self.now (add_asked file.now path.now) (map change_of cs.items)) }
         ensures err { IfErr result (IsRefusal self.now (add_asked file.now path.now)) }
     {
@@ -56,16 +55,16 @@ impl Workspace {
 
     // What a dropped import changes, or the least case that refuses it.
     fn changes_of_drop(&self, alloc: Global, file: &str, path: &str) -> Result<Vec<Change>, Refusal>
-        ensures ok { IfOk result (λ cs. IsAllowed self.now (drop_asked file.now path.now)
+        ensures ok { IfOk result (λ cs. IsAdmissible self.now (drop_asked file.now path.now)
             × AreChanges self.now (drop_asked file.now path.now) (map change_of cs.items)) }
         ensures err { IfErr result (IsRefusal self.now (drop_asked file.now path.now)) }
     {
         drop_import(alloc, self.files(), self.link(), file, path)
     }
 
-    // What an edit changes, file by file, or the least of its own cases that refuses it.
-    fn own_change(&self, alloc: Global, edit: &Edit) -> Result<Vec<Change>, Refusal>
-        ensures ok { IfOk result (λ cs. IsAllowed self.now
+    // What an edit changes, file by file, or the least case that refuses it.
+    fn change(&self, alloc: Global, edit: &Edit) -> Result<Vec<Change>, Refusal>
+        ensures ok { IfOk result (λ cs. IsAdmissible self.now
             (asked edit.now) × AreChanges self.now (asked edit.now) (map change_of cs.items)) }
         ensures err { IfErr result (IsRefusal self.now (asked edit.now)) }
     {
@@ -83,19 +82,6 @@ impl Workspace {
                 file.as_str(),
                 path.as_str(),
             ),
-        }
-    }
-
-    // What an edit changes, file by file, or the least case that refuses it.
-    fn change(&self, alloc: Global, edit: &Edit) -> Result<Vec<Change>, Refusal>
-        ensures ok { IfOk result (λ cs. IsAdmissible self.now
-            (asked edit.now) × AreChanges self.now (asked edit.now) (map change_of cs.items)) }
-        ensures err { IfErr result (IsRefusal self.now (asked edit.now)) }
-    {
-        let changes = self.own_change(alloc, edit)?;
-        match check_custom(alloc, self.files()) {
-            Ok(()) => Ok(changes),
-            Err(refusal) => Err(refusal),
         }
     }
 

@@ -1,8 +1,9 @@
 //! What holds of the definitions, for whoever builds on them. None of these does anything.
 
 ghost use Rattle.proto_edit_entries.specs.Laws.{PutsOnce};
-ghost use Rattle.proto_edit.specs.Laws.{AcceptedAreNotable, CompiledAreRead, DescribedOnce, EditsAreMade, MappedOnce, RefusedOnce, RunsAreUndone, StepsAreUndone, StepsCompile, StepsOnce, UndoneOnce, WorkspacesAreClean};
+ghost use Rattle.proto_edit.specs.Laws.{AcceptedAreNotable, CompiledAreRead, DescribedOnce, EditsAreMade, MappedOnce, RefusedOnce, RunsAreUndone, StepsAreUndone, StepsCompile, StepsLeaveOptions, StepsOnce, UndoneOnce, WorkspacesAreClean};
 ghost use Rattle.proto_edit.specs.MappedSteps.{AdmissibleAdditionsStep, AdmissibleDeletionsStep, AdmissibleDropsStep, AdmissibleRenamesStep, RenamesAreSteps};
+ghost use Rattle.proto_edit.specs.OptionLaws.{OptionLaws};
 ghost use Rattle.proto_edit.specs.StatementLaws.{StatementLaws};
 
 use proto_edit_statement_described::laws::{
@@ -10,6 +11,10 @@ use proto_edit_statement_described::laws::{
     statements_are_found,
 };
 use proto_edit_statement_laws::laws::{fields_are_one, places_are_one, statements_are_one};
+use proto_option_laws::laws::renames_leave_options;
+use proto_option_statement_laws::laws::{
+    additions_leave_options, deletions_leave_options, drops_leave_options,
+};
 
 /// Files that compile have no fault, as a workspace that is given; and they have tokens and trees.
 pub fn compiled_is_clean()
@@ -53,12 +58,14 @@ pub fn accepted_are_notable()
 {}
 
 /// An admissible edit of a workspace can be made, and leaves files that compile to
-/// the old descriptors under its map.
+/// the old descriptors under its map; and it leaves custom options.
 pub fn edits_compile()
     ensures made { EditsAreMade }
     ensures mapped { StepsCompile }
+    ensures options { StepsLeaveOptions }
 {
     statements_are_known();
+    options_are_known();
 }
 
 /// Changes put one list of files; the accepted entries of a run, undone from the last to the first,
@@ -101,4 +108,14 @@ pub(crate) fn statements_are_known()
     drops_are_made();
     statements_are_found();
     places_are_one();
+}
+
+/// What is known of the options that an edit leaves.
+pub(crate) fn options_are_known()
+    ensures { OptionLaws }
+{
+    renames_leave_options();
+    deletions_leave_options();
+    additions_leave_options();
+    drops_leave_options();
 }

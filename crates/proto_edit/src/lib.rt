@@ -2,7 +2,6 @@
 #![tactic(auto)]
 
 mod answering;
-mod custom;
 mod editing;
 pub mod laws;
 mod workspace;

@@ -25,6 +25,7 @@ refusal_number refusal.TooLarge = 16
 refusal_number refusal.Stale = 17
 refusal_number refusal.NoMemory = 18
 refusal_number (refusal.OptionValue path offset) = 19
+refusal_number refusal.FixedName = 20
 
 -- the name of a refusal
 abbrev pub refusal_name : Refusal → Text
@@ -47,3 +48,4 @@ refusal_name refusal.TooLarge = codes "TooLarge"
 refusal_name refusal.Stale = codes "Stale"
 refusal_name refusal.NoMemory = codes "NoMemory"
 refusal_name (refusal.OptionValue path offset) = codes "OptionValue"
+refusal_name refusal.FixedName = codes "FixedName"

@@ -50,9 +50,11 @@ pub enum Refusal {
     Stale,
     /// There was no memory.
     NoMemory,
-    /// A custom option stands in a file; what its name means is not looked up. The file, and the
-    /// offset of the first token of the option's name in bytes from 0.
+    /// A word of a custom option may stand for what is renamed or deleted. Its file, and its offset
+    /// in bytes from 0.
     OptionValue { path: String, offset: u32 },
+    /// An options message of google.protobuf would have another name, or something else its name.
+    FixedName,
 }
 
 impl fmt::Display for Refusal {
@@ -87,7 +89,8 @@ impl Refusal {
             Refusal::TooLarge => "a changed file would have more than 1,048,576 bytes",
             Refusal::Stale => "the files are not as the entry left them",
             Refusal::NoMemory => "no memory",
-            Refusal::OptionValue { .. } => "a custom option stands in a file",
+            Refusal::OptionValue { .. } => "a word of an option may stand for the symbol",
+            Refusal::FixedName => "options are looked up by this name",
         }
     }
 
@@ -101,7 +104,7 @@ impl Refusal {
         }
     }
 
-    /// The number in the table of refusals, from 1 to 19.
+    /// The number in the table of refusals, from 1 to 20.
     pub fn number(&self) -> u32
         ensures { result ≡ refusal_number self.now }
     {
@@ -125,6 +128,7 @@ impl Refusal {
             Refusal::Stale => 17,
             Refusal::NoMemory => 18,
             Refusal::OptionValue { .. } => 19,
+            Refusal::FixedName => 20,
         }
     }
 
@@ -152,6 +156,7 @@ impl Refusal {
             Refusal::Stale => "Stale",
             Refusal::NoMemory => "NoMemory",
             Refusal::OptionValue { .. } => "OptionValue",
+            Refusal::FixedName => "FixedName",
         }
     }
 }

@@ -5,12 +5,17 @@ use Rattle.proto_text.specs.Words.{is_run}
 use Rattle.proto_files.proofs.Common.{ReadOf, FileOf}
 use Rattle.proto_names_rules.proofs.Common.{Collides, At, joined, Symbol, Used}
 use Rattle.proto_names_imports.specs.Links.{names_of_files, text_of}
+use Rattle.proto_edit_rules.specs.Rename.{IsValueWord, NamesOptions, fixed_name, option_value}
 use Rattle.proto_edit_rename_laws.proofs.Common.{Captures, JsonNameClashes, IsUnknown, RenameCase, ReservesWord, is_keyword_of, unknown_target, kind_not_allowed, not_an_identifier, keyword_name, same_name, collision, captured, name_reserved, json_clash, too_large, IsRewordedTooLong, Target, IsNamed, may_rename, name_map, renamed_words}
 use Rattle.proto_edit_rename.specs.Common.{IsFreeBefore, IsLeastRenameCase, IsRenameCase}
 
 module _ (files : List FileOf) (name to : List ℕ) where
-  -- none is numbered 0, and none 10 to 15
-  few : (reads : List ReadOf) (k : ℕ) → RenameCase files reads name to k → (0 < k) × ((k < 10) ⊎ (k ≡ 16))
+  -- the numbers of the cases past 9
+  abbrev IsLate : ℕ → Type 0
+  IsLate k = (k ≡ 16) ⊎ ((k ≡ 19) ⊎ (k ≡ 20))
+
+  -- none is numbered 0, none 10 to 15, and none 17 or 18
+  few : (reads : List ReadOf) (k : ℕ) → RenameCase files reads name to k → (0 < k) × ((k < 10) ⊎ IsLate k)
   few reads _ (unknown_target h) = (omega arith, inl (omega arith))
   few reads _ (kind_not_allowed s cs e h) = (omega arith, inl (omega arith))
   few reads _ (not_an_identifier h) = (omega arith, inl (omega arith))
@@ -20,7 +25,9 @@ module _ (files : List FileOf) (name to : List ℕ) where
   few reads _ (captured t u n h) = (omega arith, inl (omega arith))
   few reads _ (name_reserved t n h) = (omega arith, inl (omega arith))
   few reads _ (json_clash t n h) = (omega arith, inl (omega arith))
-  few reads _ (too_large t k n l h) = (omega arith, inr refl)
+  few reads _ (too_large t k n l h) = (omega arith, inr (inl refl))
+  few reads _ (option_value t a n h) = (omega arith, inr (inr (inl refl)))
+  few reads _ (fixed_name t n h) = (omega arith, inr (inr (inr refl)))
 
   pub first_free : IsFreeBefore files name to 1
   first_free k l h = let p = few h.0 k h.2 in let z = p.0 in absurd (omega (arith, l, z))
@@ -35,16 +42,30 @@ module _ (files : List FileOf) (name to : List ℕ) where
   pub least : (n : ℕ) → IsFreeBefore files name to n → IsRenameCase files name to n → IsLeastRenameCase files name to n
   least n free h = record { is = h; least = free }
 
-  pub last_free : IsFreeBefore files name to 10 → IsFreeBefore files name to 16
-  last_free free k l h = elim (few h.0 k h.2).1 [
+  -- no case is numbered 10 to 15
+  pub late_free : IsFreeBefore files name to 10 → IsFreeBefore files name to 16
+  late_free free k l h = elim (few h.0 k h.2).1 [
     | inl below ↦ free k below h
-    | inr same ↦ absurd (omega (arith, l, same))
+    | inr (inl e) ↦ absurd (omega (arith, l, e))
+    | inr (inr (inl e)) ↦ absurd (omega (arith, l, e))
+    | inr (inr (inr e)) ↦ absurd (omega (arith, l, e))
   ]
 
-  pub all_free : IsFreeBefore files name to 10 → (IsRenameCase files name to 16 → ⊥) → (k : ℕ) → IsRenameCase files name to k → ⊥
+  -- and none 17 or 18
+  pub option_free : IsFreeBefore files name to 16 → (IsRenameCase files name to 16 → ⊥) → IsFreeBefore files name to 19
+  option_free free none k l h = elim (few h.0 k h.2).1 [
+    | inl below ↦ free k (omega (arith, below)) h
+    | inr (inl e) ↦ none (subst (IsRenameCase files name to) e h)
+    | inr (inr (inl e)) ↦ absurd (omega (arith, l, e))
+    | inr (inr (inr e)) ↦ absurd (omega (arith, l, e))
+  ]
+
+  pub all_free : IsFreeBefore files name to 20 → (IsRenameCase files name to 20 → ⊥) → (k : ℕ) → IsRenameCase files name to k → ⊥
   all_free free none k h = elim (few h.0 k h.2).1 [
-    | inl below ↦ free k below h
-    | inr same ↦ none (subst (IsRenameCase files name to) same h)
+    | inl below ↦ free k (omega (arith, below)) h
+    | inr (inl e) ↦ free k (omega (arith, e)) h
+    | inr (inr (inl e)) ↦ free k (omega (arith, e)) h
+    | inr (inr (inr e)) ↦ none (subst (IsRenameCase files name to) e h)
   ]
 
   module _ (reads : List ReadOf) where
@@ -77,3 +98,9 @@ module _ (files : List FileOf) (name to : List ℕ) where
 
     pub from_16 : RenameCase files reads name to 16 → (t : Target) × (k : ℕ) × IsNamed files reads name t × (k < length files) × IsRewordedTooLong (renamed_words files reads t to) files reads k
     from_16 (too_large t k n l h) = (t, k, n, l, h)
+
+    pub from_19 : RenameCase files reads name to 19 → (t : Target) × (a : At) × IsNamed files reads name t × IsValueWord files reads t to a
+    from_19 (option_value t a n h) = (t, a, n, h)
+
+    pub from_20 : RenameCase files reads name to 20 → (t : Target) × IsNamed files reads name t × NamesOptions files reads t to
+    from_20 (fixed_name t n h) = (t, n, h)

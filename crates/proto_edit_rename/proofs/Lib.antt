@@ -16,6 +16,7 @@ mod NoTargets
 mod OneAim
 mod OneScene
 mod OneofItems
+mod OptionNames
 mod Placed
 mod PlacedWords
 mod ReferredKinds

@@ -11,11 +11,13 @@ use Rattle.proto_edit_entries.specs.declared.refusal.Refusal.TheVariants as refu
 use Rattle.proto_names_rules.proofs.Common.{Collides, At, at, FileNames, all_used, file_used, used_in, Used, symbol_of}
 use Rattle.proto_names_imports.specs.Links.{LinkFaults, link_skeleton, names_in, names_of_files, text_of}
 use Rattle.proto_names.specs.Linking.{RefId}
+use Rattle.proto_edit_rules.specs.Rename.{IsValueWord, NamesOptions, fixed_name, option_value}
+use Rattle.proto_option_values.specs.OptionValues.{IsOptionValue}
 use Rattle.proto_edit_captures.proofs.Common.{IsCapturedPlace, IsTargetOf, IsFoundTarget, IsNoTarget}
 use Rattle.proto_edit_captures.specs.FirstCaptured.{IsFirstCaptured}
-use Rattle.proto_edit_rename_laws.proofs.Common.{JsonNameClashes, ReservesWord, is_keyword_of, unknown_target, kind_not_allowed, not_an_identifier, keyword_name, same_name, collision, captured, name_reserved, json_clash, too_large, Target, name_map}
-use Rattle.proto_edit_rename.specs.Common.{IsFreeBefore, AreChangesOf, IsChangesFault, IsFaultIn, IsLeastRenameCase, IsRenameCase, IsRenameRefusal, IsRenamed, RewordFault}
-use Rattle.proto_edit_rename.proofs.LeastCases.{all_free, first_free, from_1, from_16, from_2, from_3, from_4, from_5, from_6, from_7, from_8, from_9, last_free, least, next_free}
+use Rattle.proto_edit_rename_laws.proofs.Common.{JsonNameClashes, ReservesWord, is_keyword_of, unknown_target, kind_not_allowed, not_an_identifier, keyword_name, same_name, collision, captured, name_reserved, json_clash, too_large, Target, IsNamed, name_map}
+use Rattle.proto_edit_rename.specs.Common.{IsFreeBefore, AreChangesOf, AreChangesOfRename, IsChangesFault, IsFaultIn, IsLeastRenameCase, IsRenameCase, IsRenameRefusal, RewordFault}
+use Rattle.proto_edit_rename.proofs.LeastCases.{all_free, first_free, from_1, from_16, from_19, from_2, from_20, from_3, from_4, from_5, from_6, from_7, from_8, from_9, late_free, least, next_free, option_free}
 use Rattle.proto_edit_rename.proofs.OneAim.{aimed_one, same_kind}
 use Rattle.proto_edit_rename.specs.declared.changing.RewordFault.TheVariants as fault
 use Rattle.proto_edit_captures.specs.declared.rename_target.RenameTarget.{RenameTarget}
@@ -147,16 +149,44 @@ module _ (files : List FileOf) (clean : HasNoFault (LinkFaults files)) (a : Rena
   large_refused reads r h free =
       let t = aim reads r in
       let k = h reads r t.0 t.1 in
-      least files a.name.now to 16 (last_free files a.name.now to free) (reads, r, too_large t.0 k.0 t.1.named k.1 k.2)
+      least files a.name.now to 16 (late_free files a.name.now to free) (reads, r, too_large t.0 k.0 t.1.named k.1 k.2)
 
-  pub is_renamed : (reads : List ReadOf) → AreRead files reads → (cs : List ChangeOf) → AreChangesOf files a to cs → IsFreeBefore files a.name.now to 10 → IsRenamed files a.name.now to cs
-  is_renamed reads r cs h free =
-      let t = aim reads r in
-      record {
-        admissible = all_free files a.name.now to free (λ k.
-            (let t = from_16 files a.name.now to k.0 k.2 in (h k.0 k.1 t.0 (aimed_one files k.0 k.1 clean a aim t.0 t.2)).short t.1 t.3 t.4));
-        changes = (reads, r, (t.0, t.1.named, (h reads r t.0 t.1).changes));
-      }
+  module _ (cs : List ChangeOf) (h : AreChangesOf files a to cs) where
+    pub large_free : IsFreeBefore files a.name.now to 10 → IsFreeBefore files a.name.now to 19
+    large_free free = option_free files a.name.now to (late_free files a.name.now to free) (λ k.
+        (let t = from_16 files a.name.now to k.0 k.2 in (h k.0 k.1 t.0 (aimed_one files k.0 k.1 clean a aim t.0 t.2)).short t.1 t.3 t.4))
+
+    pub changes_are : (reads : List ReadOf) → AreRead files reads → AreChangesOfRename files a.name.now to cs
+    changes_are reads r = let t = aim reads r in (reads, r, (t.0, t.1.named, (h reads r t.0 t.1).changes))
+
+  -- ---- case 19
+
+  abbrev pub IsAnswer : Option Refusal → Type 0
+  IsAnswer answer = (reads : List ReadOf) → AreRead files reads → (t : Target) → IsFoundTarget files reads a t → IsOptionValue files reads (IsValueWord files reads t to) answer
+
+  pub value_free : IsAnswer None → IsFreeBefore files a.name.now to 19 → IsFreeBefore files a.name.now to 20
+  value_free none free = next_free files a.name.now to 19 20 (omega arith) free (λ k.
+      (let t = from_19 files a.name.now to k.0 k.2 in none k.0 k.1 t.0 (aimed_one files k.0 k.1 clean a aim t.0 t.2) t.1 t.3))
+
+  pub value_refused : (reads : List ReadOf) → AreRead files reads → (e : Refusal) → IsAnswer (Some e) → IsFreeBefore files a.name.now to 19 → IsRenameRefusal files a.name.now to e
+  value_refused reads r e answer free = let t = aim reads r in by t.0 t.1.named e (answer reads r t.0 t.1)
+    where
+      by : (t : Target) → IsNamed files reads a.name.now t → (g : Refusal) → IsOptionValue files reads (IsValueWord files reads t to) (Some g) → IsRenameRefusal files a.name.now to g
+      by t named (refusal.OptionValue path offset) place = (
+        least files a.name.now to 19 free (reads, r, option_value t place.a named place.holds),
+        (reads, r, (t, named, place)),
+      )
+      by t named _ place = absurd place
+
+  -- ---- case 20
+
+  module _ (b : Bool) (test : Tests b (λ reads t. NamesOptions files reads t to)) where
+    pub fixed_refused : b ≡ true → (reads : List ReadOf) → AreRead files reads → IsFreeBefore files a.name.now to 20 → IsLeastRenameCase files a.name.now to 20
+    fixed_refused e reads r free = let t = aim reads r in least files a.name.now to 20 free (reads, r, fixed_name t.0 t.1.named ((test reads r t.0 t.1).0 e))
+
+    pub fixed_free : b ≡ false → IsFreeBefore files a.name.now to 20 → (k : ℕ) → IsRenameCase files a.name.now to k → ⊥
+    fixed_free e free = all_free files a.name.now to free (λ k.
+        (let t = from_20 files a.name.now to k.0 k.2 in true≢false (sym ((test k.0 k.1 t.0 (aimed_one files k.0 k.1 clean a aim t.0 t.1)).1 t.2) ∙ e)))
 
 -- ---- a reference stands in one of the files
 

@@ -8,7 +8,8 @@ use Rattle.proto_edit_entries.specs.declared.refusal.Refusal.{Refusal}
 use Rattle.proto_edit_entries.specs.declared.refusal.Refusal.TheVariants as refusal
 use Rattle.proto_edit_entries.specs.Entries.{ChangeOf}
 use Rattle.proto_edit_entries.specs.RefusalTable.{refusal_number}
-use Rattle.proto_edit_rules.specs.Rename.{Captures, IsFirstPlace, RenameCase, changes_of_words, Target, IsNamed, renamed_words}
+use Rattle.proto_edit_rules.specs.Options.{IsFirstToken}
+use Rattle.proto_edit_rules.specs.Rename.{Captures, IsFirstPlace, IsValueWord, RenameCase, changes_of_words, Target, IsNamed, renamed_words}
 
 -- case n refuses the rename
 abbrev pub IsRenameCase : List FileOf → Text → Text → ℕ → Type 0
@@ -29,21 +30,34 @@ IsCapturedAt files name to path offset = (reads : List ReadOf)
     × IsNamed files reads name t
     × IsFirstPlace files reads (Captures files reads t to) path offset)
 
--- The least case, with its place where a reference is captured;
--- out of memory may be answered instead.
+-- the path and offset of the least word of an option that may stand for what is renamed
+abbrev pub IsValueWordAt : List FileOf → Text → Text → Path → ℕ → Type 0
+IsValueWordAt files name to path offset = (reads : List ReadOf)
+    × AreRead files reads
+    × ((t : Target)
+    × IsNamed files reads name t
+    × IsFirstToken files reads (IsValueWord files reads t to) path offset)
+
+-- The least case, with its place where a reference is captured, or a word of an option may stand
+-- for what is renamed; out of memory may be answered instead.
 abbrev pub IsRenameRefusal : List FileOf → Text → Text → Refusal → Type 0
 IsRenameRefusal files name to refusal.NoMemory = Unit {0}
 IsRenameRefusal files name to (refusal.Captured path offset) = IsLeastRenameCase files name to 7
     × IsCapturedAt files name to (string_bytes path) offset
 IsRenameRefusal files name to (refusal.Needed path offset) = ⊥
-IsRenameRefusal files name to (refusal.OptionValue path offset) = ⊥
+IsRenameRefusal files name to (refusal.OptionValue path offset) = IsLeastRenameCase files name to 19
+    × IsValueWordAt files name to (string_bytes path) offset
 IsRenameRefusal files name to r = IsLeastRenameCase files name to (refusal_number r)
+
+-- these are the changes of its new words
+abbrev pub AreChangesOfRename : List FileOf → Text → Text → List ChangeOf → Type 0
+AreChangesOfRename files name to cs = (reads : List ReadOf)
+    × AreRead files reads
+    × ((t : Target)
+    × IsNamed files reads name t
+    × (cs ≡ changes_of_words (renamed_words files reads t to) files reads))
 
 -- no case refuses it, and these are the changes of its new words
 pub record IsRenamed (files : List FileOf) (name to : Text) (cs : List ChangeOf) : Type 0 where
   pub admissible : (n : ℕ) → IsRenameCase files name to n → ⊥
-  pub changes : (reads : List ReadOf)
-      × AreRead files reads
-      × ((t : Target)
-      × IsNamed files reads name t
-      × (cs ≡ changes_of_words (renamed_words files reads t to) files reads))
+  pub changes : AreChangesOfRename files name to cs

@@ -12,6 +12,7 @@ mod file_occurrences;
 mod found_target;
 mod json_names;
 mod members;
+mod option_checks;
 mod places;
 mod renaming;
 mod reserved;

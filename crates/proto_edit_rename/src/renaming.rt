@@ -7,13 +7,14 @@ ghost use Rattle.proto_names_imports.specs.Links.{LinkFaults};
 ghost use Rattle.proto_names.specs.LinkOfFiles.{IsLinkOf};
 ghost use Rattle.proto_edit_rename.specs.Cases.{IsFreeBefore};
 ghost use Rattle.proto_edit_rename.specs.Changes.{IsChangesFault};
-ghost use Rattle.proto_edit_rename.specs.Renames.{IsRenamed, IsRenameRefusal};
+ghost use Rattle.proto_edit_rename.specs.Renames.{AreChangesOfRename, IsRenamed, IsRenameRefusal};
 ghost use Rattle.proto_edit_captures.specs.FoundTargets.{IsTargetOf};
 
 use crate::changes::changes;
 use crate::changing::RewordFault;
 use crate::checks::{check_members, check_names, check_word};
 use crate::found_target::target_of_name;
+use crate::option_checks::{check_fixed, check_values};
 use proto_edit_captures::RenameTarget;
 use proto_edit_entries::{Change, Refusal};
 use proto_files::Files;
@@ -40,7 +41,7 @@ fn refusal_of(
     }
 }
 
-/// What the rename of the target changes, where no case but the last may refuse it.
+/// What the rename of the target changes, or case 16, where no case before it refuses it.
 fn changes_or_refusal(
     alloc: Global,
     linked: &CleanLinked<'_>,
@@ -50,8 +51,10 @@ fn changes_or_refusal(
     requires target { IsTargetOf linked.now.files target }
     requires file { target.file < length linked.now.files }
     requires before { IsFreeBefore linked.now.files target.name.now to.now 10 }
-    ensures ok { IfOk result (λ cs.
-        IsRenamed linked.now.files target.entry.name.now to.now (map change_of cs.items)) }
+    ensures free { IfOk result (λ _.
+        IsFreeBefore linked.now.files target.entry.name.now to.now 19) }
+    ensures changes { IfOk result (λ cs.
+        AreChangesOfRename linked.now.files target.entry.name.now to.now (map change_of cs.items)) }
     ensures err { IfErr result (IsRenameRefusal linked.now.files target.entry.name.now to.now) }
 {
     linked.files();
@@ -79,13 +82,17 @@ fn changes_of_rename<'a>(
     check_word(linked, target, to)?;
     check_names(alloc, linked, target, to)?;
     check_members(alloc, linked, target, to)?;
-    changes_or_refusal(alloc, linked, target, to)
+    let changes = changes_or_refusal(alloc, linked, target, to)?;
+    check_values(alloc, linked, target, to)?;
+    check_fixed(alloc, linked, target, to)?;
+    Ok(changes)
 }
 
 /// What the rename of a full name, without a leading dot, to a new simple name changes, file by
 /// file; or the least case that refuses it, by number: UnknownTarget, KindNotAllowed,
 /// NotAnIdentifier, KeywordName, SameName, Collision, Captured (with its place), NameReserved,
-/// JsonClash, TooLarge. `NoMemory` may come in place of any answer.
+/// JsonClash, TooLarge, OptionValue (with its place), FixedName. `NoMemory` may come in place of any
+/// answer.
 pub fn rename(
     alloc: Global,
     files: &Files,

@@ -3,6 +3,7 @@ pub mod Captures
 pub mod ChangesEntry
 pub mod ChangesPut
 pub mod Common
+pub mod CustomTokens
 pub mod Declarations
 pub mod DefaultTokens
 mod EntryFields

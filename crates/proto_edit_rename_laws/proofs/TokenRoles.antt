@@ -54,7 +54,7 @@ parts_of_map {A} {B} f (a ∷ es) (x ∷ xs) ys b e =
     head q = cc
 
 -- a file past the last has nothing
-there : {A : Type 0} (part : Tree → List A) → part End ≡ [] → (rs : List ReadOf) (k : ℕ) (x : A) → Contains (part (read_at rs k).tree) x → k < length rs
+pub there : {A : Type 0} (part : Tree → List A) → part End ≡ [] → (rs : List ReadOf) (k : ℕ) (x : A) → Contains (part (read_at rs k).tree) x → k < length rs
 there part none [] k x c = let d = subst (λ xs. Contains xs x) none c in absurd (omega (arith, d.1))
 there part none (r ∷ rs) zero x c = omega arith
 there part none (r ∷ rs) (suc k) x c = let m = there part none rs k x c in omega (arith, m)
@@ -108,15 +108,15 @@ no_use_value : ◌≡◌ {A = Role} refers is_value → ⊥
 no_use_value e = cc
 
 -- a role of no name, word of a reference or value
-record IsOther (role : Role) : Type 0 where
-  no_name : role ≡ names → ⊥
-  no_use : role ≡ refers → ⊥
-  no_value : role ≡ is_value → ⊥
+pub record IsOther (role : Role) : Type 0 where
+  pub no_name : role ≡ names → ⊥
+  pub no_use : role ≡ refers → ⊥
+  pub no_value : role ≡ is_value → ⊥
 
-number_is_other : IsOther is_number
+pub number_is_other : IsOther is_number
 number_is_other = record { no_name = λ e. cc; no_use = λ e. cc; no_value = λ e. cc }
 
-option_is_other : IsOther names_option
+pub option_is_other : IsOther names_option
 option_is_other = record { no_name = λ e. cc; no_use = λ e. cc; no_value = λ e. cc }
 
 -- ---- tokens that a rename does not change
@@ -162,18 +162,18 @@ module _ (files : List FileOf) (reads : List ReadOf) (r : AreRead files reads) w
   one_role : (i : At) (a b : Role) → RoleAt a i → RoleAt b i → a ≡ b
   one_role i a b x y = roles_are_one_in (file_at files i.file).profile (read_at reads i.file).tree (lexemes_of files reads i.file) a b i.token (spelled i.file (mark_inside i.file x.0 x.1)) x y
 
-  name_role : (i : At) → Names (link_skeleton files reads) i → RoleAt names i
+  pub name_role : (i : At) → Names (link_skeleton files reads) i → RoleAt names i
   name_role i n =
       let o = name_of_file files reads i n in
       declared_tokens_are_names (file_at files i.file).profile (read_at reads i.file).tree (lexemes_of files reads i.file) (spelled i.file o.inside) o.p o.within i.token o.last
 
-  use_role : (i : At) → Uses (link_skeleton files reads) i → RoleAt refers i
+  pub use_role : (i : At) → Uses (link_skeleton files reads) i → RoleAt refers i
   use_role i u =
       let o = word_of_file files reads i u in
       used_tokens_refer (file_at files i.file).profile (read_at reads i.file).tree (lexemes_of files reads i.file) (spelled i.file o.inside) o.v o.within i.token o.word
 
   module _ (enum : Option (List (List ℕ))) (old : List ℕ) where
-    default_here : (i : At) → Contains (renamed_defaults files reads enum old) i → IsDefaultOf files reads enum old (read_at reads i.file).tree i
+    pub default_here : (i : At) → Contains (renamed_defaults files reads enum old) i → IsDefaultOf files reads enum old (read_at reads i.file).tree i
     default_here i c =
         let d = default_of_file files reads enum old 0 reads i c in
         let e : d.0 ≡ 0 + d.0 = omega arith in
@@ -182,7 +182,7 @@ module _ (files : List FileOf) (reads : List ReadOf) (r : AreRead files reads) w
     value_has : (k : ℕ) → k < length reads → (b : BlockOf) (f : FieldOf) (o : OptionOf) (w : ℕ) → Contains (blocks_in (read_at reads k).tree) b → Contains (fields_in b.within) f → Contains f.options o → o.value ≡ constant.Word w → HasRole (read_at reads k).tree is_value w × (o.name + 2 ≡ w)
     value_has k l b f o w cb cf co q = subst (λ v. ValueHasRole (read_at reads k).tree o.name v) q (field_options_have_roles (file_at files k).profile (read_at reads k).tree (lexemes_of files reads k) (spelled k l) b f o cb cf co).1
 
-    default_role : (i : At) → Contains (renamed_defaults files reads enum old) i → RoleAt is_value i
+    pub default_role : (i : At) → Contains (renamed_defaults files reads enum old) i → RoleAt is_value i
     default_role i c = let d = default_here i c in (value_has i.file (block_inside i.file d.b d.block) d.b d.f d.o i.token d.block d.field d.option d.value).0
 
     -- ---- names, words of references and defaults are apart

@@ -6,6 +6,7 @@ pub mod FirstPlaces
 pub mod Inside
 pub mod NoLinkFault
 pub mod OneTarget
+pub mod OptionTexts
 pub mod Places
 pub mod PlacesSuit
 pub use Rattle.proto_desc_checks_laws.specs.Imports

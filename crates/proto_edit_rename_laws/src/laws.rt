@@ -7,6 +7,7 @@ ghost use Rattle.proto_edit_rename_laws.specs.FirstPlaces.{FirstPlacesAreOne, Fi
 ghost use Rattle.proto_edit_rename_laws.specs.Inside.{TargetsAreInside, TokensAreInside};
 ghost use Rattle.proto_edit_rename_laws.specs.NoLinkFault.{FilesAreLinked, FilesAreWoven, NoLinkFaultComesIn, ReadFilesAreClean};
 ghost use Rattle.proto_edit_rename_laws.specs.OneTarget.{TargetsAreOne, TargetsAreThere};
+ghost use Rattle.proto_edit_rename_laws.specs.OptionTexts.{OptionTextsStay, OptionTokensStay};
 ghost use Rattle.proto_edit_rename_laws.specs.PlacesSuit.{PlacesSuit};
 ghost use Rattle.proto_edit_rename_laws.specs.Respelling.{PlacesRespell};
 ghost use Rattle.proto_edit_rename_laws.specs.Rewording.{FilesAreReworded, OtherTextsStay, SkeletonsStay, TextsAreChanged};
@@ -94,4 +95,10 @@ pub fn changes_are_entry()
 /// changes stands where such words are wanted.
 pub fn tokens_have_roles()
     ensures { AllTokensHaveRoles }
+{}
+
+/// A rename leaves the paths and the values of custom options as they are.
+pub fn option_texts_stay()
+    ensures tokens { OptionTokensStay }
+    ensures texts { OptionTextsStay }
 {}

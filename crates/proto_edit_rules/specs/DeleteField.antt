@@ -1,10 +1,11 @@
 -- A deleted field: the cases that refuse it, what it changes, and what the descriptors become.
 use Rattle.std.specs.Fmt.{decimal}
 use Rattle.std.specs.List.{Contains, list_any}
-use Rattle.std.specs.Prelude.{◌≡◌, ℕ, Option, Some, None, ◌+◌, List, ◌++◌, codes, suc, ◌<◌, length, [], ◌∷◌, map, ◌≢◌, ◌==◌, Bool, flat_map, if◌then◌else◌}
+use Rattle.std.specs.Prelude.{◌≡◌, ℕ, Option, Some, None, ◌+◌, List, ◌++◌, codes, suc, ◌<◌, length, [], ◌∷◌, map, ◌≢◌, ◌==◌, Bool, true, flat_map, if◌then◌else◌}
 use Rattle.proto_ast.specs.Numbers.{number_value}
 use Rattle.proto_ast.specs.Parts.{BlockOf, blocks_in, fields_in, FieldOf, statement_fields, statements, reserved_names, reserved_ranges}
 use Rattle.proto_base.specs.Texts.{Text}
+use Rattle.proto_case.specs.Camel.{entry_name}
 use Rattle.proto_descriptors.specs.Descriptors.{FieldDesc, MessageDesc, Messages, NoMessages, Message, FileDesc}
 use Rattle.proto_descriptors.specs.declared.message.NumberRange.{NumberRange}
 use Rattle.proto_edit_entries.specs.Entries.{ChangeOf}
@@ -14,6 +15,7 @@ use Rattle.proto_names_imports.specs.Links.{names_of_files, text_of}
 use Rattle.proto_names_rules.specs.Grown.{At, at}
 use Rattle.proto_names_rules.specs.Joined.{joined}
 use Rattle.proto_names_rules.specs.Names.{Symbol}
+use Rattle.proto_names_rules.specs.Skeleton.{name_of}
 use Rattle.proto_names_rules.specs.declared.kind.Kind.TheVariants.{Field}
 use Rattle.proto_text.specs.Edits.{Edit}
 use Rattle.proto_text.specs.Segments.{quoted, bytes_between, end_before}
@@ -24,6 +26,7 @@ use Rattle.proto_tree.specs.declared.piece.Header.TheVariants as header
 use Rattle.proto_tree.specs.declared.piece.Heading.{Heading}
 use Rattle.proto_tree.specs.declared.piece.Statement.{Statement}
 use Rattle.proto_tree.specs.declared.piece.Statement.TheVariants as statement
+use Rattle.proto_edit_rules.specs.Options.{HasWritten, IsOptionWord, is_fixed}
 use Rattle.proto_edit_rules.specs.Rename.{IsNamed, Target, IsUnknown}
 use Rattle.proto_edit_rules.specs.Statements.{StandsIn, begins, ends, splice, change_by, IsTooLong, places_before, at_place, with_more, without_place}
 
@@ -119,6 +122,11 @@ pub record IsAlone (reads : List ReadOf) (a : At) : Type 0 where
   pub oneof : b.header ≡ header.Oneof h
   pub only : map (λ f. f.name) (fields_in b.within) ≡ a.token ∷ []
 
+-- the token is a word of an option that may stand for the field
+abbrev pub IsFieldWord : List FileOf → List ReadOf → Target → At → Type 0
+IsFieldWord files reads t a =
+    IsOptionWord files reads t.token.file (text_of files reads t.token ∷ []) a
+
 -- Case n refuses the deletion; of several the least is answered.
 pub data DeletionCase (files : List FileOf) (reads : List ReadOf) (name : Text) : ℕ → Type 0 where
   unknown_target : IsUnknown files reads name → DeletionCase files reads name 1
@@ -126,6 +134,12 @@ pub data DeletionCase (files : List FileOf) (reads : List ReadOf) (name : Text) 
       → joined s.name ≡ name → s.kind ≢ Field → DeletionCase files reads name 2
   last_of_oneof : (t : Target) → IsField files reads name t
       → IsAlone reads t.token → DeletionCase files reads name 10
+  option_value : (t : Target) (a : At) → IsField files reads name t
+      → IsFieldWord files reads t a → DeletionCase files reads name 19
+  -- the field is one of an options message, or of what is in one
+  fixed_name : (t : Target) → IsField files reads name t → HasWritten files
+      → is_fixed (name_of (text_of files reads) entry_name t.aim.path) ≡ true
+      → DeletionCase files reads name 20
 
 -- the statement of the field of this full name
 pub record IsFieldNamed

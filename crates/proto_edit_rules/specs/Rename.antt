@@ -2,7 +2,7 @@
 -- changes, and what the descriptors become.
 use Rattle.std.specs.List.{list_any, Contains}
 use Rattle.std.specs.Option.{option_and_then}
-use Rattle.std.specs.Prelude.{Option, ℕ, Bool, ◌==◌, ◌&&◌, if◌then◌else◌, List, [], ◌∷◌, ◌++◌, flat_map, Some, None, codes, find, false, suc, map, true, ◌≡◌, ◌≢◌, ◌+◌, ◌<◌, length, ◌-◌, not, ◌⊎◌, option_map, is_some}
+use Rattle.std.specs.Prelude.{Option, ℕ, Bool, ◌==◌, ◌&&◌, ◌||◌, if◌then◌else◌, List, [], ◌∷◌, ◌++◌, flat_map, Some, None, codes, find, false, suc, map, true, ◌≡◌, ◌≢◌, ◌+◌, ◌<◌, length, ◌-◌, not, ◌⊎◌, option_map, is_some}
 use Rattle.std.specs.Str.{bytes_eq}
 use Rattle.proto_ast.specs.JsonNames.{json_name_of}
 use Rattle.proto_ast.specs.Options.{is_named, text_option}
@@ -39,6 +39,7 @@ use Rattle.proto_tree.specs.declared.piece.Header.{Header}
 use Rattle.proto_tree.specs.declared.piece.Header.TheVariants as header
 use Rattle.proto_tree.specs.declared.tree.FieldType.{FieldType}
 use Rattle.proto_tree.specs.declared.tree.FieldType.TheVariants as field_type
+use Rattle.proto_edit_rules.specs.Options.{HasWritten, IsOptionWord, is_fixed, is_named_in_values}
 pub use Rattle.proto_edit_rules.specs.Statements.{change_by}
 
 -- ---- new words of tokens
@@ -316,6 +317,20 @@ pub record Captures
   pub captured : IsCaptured (name_map files reads t to) (names_of_files files reads)
       (reference_of (text_of files reads) entry_name u)
 
+-- the token is a word of an option that may stand for what is renamed, under its old or its new name
+abbrev pub IsValueWord : List FileOf → List ReadOf → Target → Text → At → Type 0
+IsValueWord files reads t to a =
+    (is_named_in_values t.aim.kind ≡ true)
+    × IsOptionWord files reads t.token.file (text_of files reads t.token ∷ to ∷ []) a
+
+-- the old or the new full name is that of an options message, or of what is in one or around it
+abbrev pub NamesOptions : List FileOf → List ReadOf → Target → Text → Type 0
+NamesOptions files reads t to =
+    HasWritten files
+    × ((is_fixed (target (name_map files reads t to))
+    || is_fixed ((name_map files reads t to).parent ++ to ∷ []))
+    ≡ true)
+
 -- before, by file and token
 abbrev pub StandsBefore : At → At → Type 0
 StandsBefore a b = (a.file < b.file) ⊎ ((a.file ≡ b.file) × (a.token < b.token))
@@ -358,6 +373,10 @@ pub data RenameCase
   too_large : (t : Target) (k : ℕ) → IsNamed files reads name t → k < length files
       → IsRewordedTooLong (renamed_words files reads t to) files reads k
       → RenameCase files reads name to 16
+  option_value : (t : Target) (a : At) → IsNamed files reads name t
+      → IsValueWord files reads t to a → RenameCase files reads name to 19
+  fixed_name : (t : Target) → IsNamed files reads name t
+      → NamesOptions files reads t to → RenameCase files reads name to 20
 
 -- ---- the descriptors
 

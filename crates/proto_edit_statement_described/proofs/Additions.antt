@@ -80,7 +80,7 @@ module _ (laws : Laws) (files : List FileOf) (reads : List ReadOf) (after : List
 
   -- ---- descriptors
 
-  addition : IsFileAddition files reads after seen place path
+  pub addition : IsFileAddition files reads after seen place path
   addition = record {
     others = record {
       read = may.faultless.are.read;

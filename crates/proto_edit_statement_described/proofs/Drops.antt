@@ -97,7 +97,7 @@ module _ (laws : Laws) (files : List FileOf) (reads : List ReadOf) (after : List
       not_twice files reads may.faultless.are.read may.faultless.links place u (wanted_by i) behind
       (sym (path_of u there) ∙ scenes.same.strings v.path ∙ sym (word_from_same (value (scene_at files reads place) i.path) (value (scene_at after seen place) v.path) t) ∙ path_of (wanted_by i) imported))
 
-  drop : IsDrop files reads after seen place path
+  pub drop : IsDrop files reads after seen place path
   drop = record {
     others = record {
       read = may.faultless.are.read;

@@ -1,4 +1,4 @@
-mod Additions
+pub mod Additions
 mod Apart
 pub mod ChangedFile
 pub mod Common
@@ -10,7 +10,7 @@ mod DeletedExtensions
 mod DeletedFlaws
 pub mod DeletedHeads
 mod DeletedScenes
-mod Drops
+pub mod Drops
 mod Enums
 pub mod ExtensionLists
 mod FieldNamed

@@ -8,7 +8,7 @@ use Rattle.proto_names_rules.specs.declared.kind.Kind.TheVariants.{Package, Fiel
 use Rattle.proto_names_rules.proofs.Common.{joined, Symbol, symbol_of, joined_apart, one_symbol}
 use Rattle.proto_names_imports.proofs.Common.{LinkFaults, link_skeleton, names_of_files, text_of, names_are_plain}
 use Rattle.proto_edit_rename_laws.proofs.Common.{IsUnknown, RenameCase, unknown_target as unknown_renamed, kind_not_allowed as kind_not_renamed, Target, may_rename, files_are_linked, targets_are_one, targets_are_there}
-use Rattle.proto_edit_rules.specs.DeleteField.{DeletionCase, IsField, kind_not_allowed, last_of_oneof, unknown_target}
+use Rattle.proto_edit_rules.specs.DeleteField.{DeletionCase, IsField, kind_not_allowed, unknown_target}
 use Rattle.proto_edit_statement_laws.specs.Fields.{NamedFieldsAreOne, NamedFieldsAreThere, FieldsMayGo}
 
 field_or : (k : Kind) → (k ≡ Field) ⊎ (k ≢ Field)
@@ -42,7 +42,7 @@ says_rename files reads name to _ _ = tt
 says_deletion : (files : List FileOf) (reads : List ReadOf) (name : List ℕ) (n : ℕ) → DeletionCase files reads name n → SaysDeletion files reads name n
 says_deletion files reads name _ (unknown_target h) = h
 says_deletion files reads name _ (kind_not_allowed s c n k) = (s, c, n, k)
-says_deletion files reads name _ (last_of_oneof t f a) = tt
+says_deletion files reads name _ _ = tt
 
 -- ---- the laws
 

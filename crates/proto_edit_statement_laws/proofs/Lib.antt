@@ -19,6 +19,7 @@ mod ImportPlaces
 mod Imports
 pub mod Kept
 mod LastOf
+pub mod LeadingWalks
 pub mod Less
 pub mod LexemesMoved
 pub mod Lists
@@ -28,6 +29,7 @@ pub mod NamesCommon
 pub mod NamesOut
 pub mod NewStatements
 pub mod OneFile
+pub mod OptionsMoved
 pub mod Paths
 pub mod Places
 pub use Rattle.proto_edit_rename_laws.proofs.Declarations

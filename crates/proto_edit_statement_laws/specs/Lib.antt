@@ -13,6 +13,7 @@ pub mod Less
 pub mod Lists
 pub mod NamesCommon
 pub mod OneFile
+pub mod Options
 pub mod Places
 pub use Rattle.proto_edit_rename_laws.specs.Targets
 pub mod Reading

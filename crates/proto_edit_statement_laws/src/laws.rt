@@ -9,6 +9,7 @@ ghost use Rattle.proto_edit_statement_laws.specs.ImportChanges.{AdditionsAreChan
 ghost use Rattle.proto_edit_statement_laws.specs.Fields.{NamedFieldsAreOne, NamedFieldsAreThere, FieldsMayGo};
 ghost use Rattle.proto_edit_statement_laws.specs.Files.{DeletionsHaveLess, ImportsAreMore};
 ghost use Rattle.proto_edit_statement_laws.specs.Kept.{AdditionsKeepLinks, AdditionsKeepMeanings, DeletionsKeepLinks, DeletionsKeepMeanings, DropsKeepLinks, DropsKeepMeanings};
+ghost use Rattle.proto_edit_statement_laws.specs.Options.{DeletionsKeepOptions, ImportsMoveOptions, NoOptionsComeIn, OptionsComeIn, OptionsMoveTokens, TreesMoveOptions};
 ghost use Rattle.proto_edit_statement_laws.specs.Less.{LessIsLinked, LessMeans};
 ghost use Rattle.proto_edit_statement_laws.specs.Places.{NeededMeansElse, NeededPlacesAreOne, NeededPlacesAreThere, OvertakenMeansElse, OvertakenPlacesAreOne, OvertakenPlacesAreThere};
 ghost use Rattle.proto_edit_statement_laws.specs.Trees.{ImportsMoveNames, TreesMoveImports, TreesMoveNames};
@@ -109,6 +110,17 @@ pub fn trees_move_names()
     ensures names { TreesMoveNames }
     ensures imports { TreesMoveImports }
     ensures apart { ImportsMoveNames }
+{}
+
+/// A tree whose tokens are moved has the custom options that it had, by moved tokens; so has one
+/// where imports come in or go, and after a deletion no option is new.
+pub fn trees_move_options()
+    ensures tokens { OptionsMoveTokens }
+    ensures options { TreesMoveOptions }
+    ensures imports { ImportsMoveOptions }
+    ensures more { OptionsComeIn }
+    ensures same { NoOptionsComeIn }
+    ensures deleted { DeletionsKeepOptions }
 {}
 
 /// The names of files of which one has a field less are the names before, without

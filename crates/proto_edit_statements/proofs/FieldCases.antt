@@ -1,4 +1,4 @@
--- Case 10 of a deletion, and where the field is.
+-- Cases 10 and 16 of a deletion, and where the field is.
 use Rattle.std.proofs.Common.{◌≡◌, ℕ, ◌<◌, true, false, List, length, sym, ap, subst, ◌∙◌, inl, inr, arith}
 use Rattle.std.proofs.lemmas.Bool.{both_ways}
 use Rattle.proto_tree.specs.declared.context.Context.TheVariants as context
@@ -11,7 +11,7 @@ use Rattle.proto_edit_statement_laws.proofs.ChangesCommon.{FieldAt, FieldsAreOne
 use Rattle.proto_edit_statement_laws.proofs.NamesCommon.{IsAlone, last_of_oneof, fields_are_one}
 use Rattle.proto_edit_statements.specs.Common.{alone_in, IsDeletionCase, IsDeletionRefusal, IsFieldNamed, RefusesDeletion, by_name, too_large, IsFieldToken, FieldName}
 use Rattle.proto_edit_statements.proofs.AloneTrees.{HoldsAlone, alone_holds, holds_alone}
-use Rattle.proto_edit_statements.proofs.FieldNamed.{IsFree, IsWhich, which}
+use Rattle.proto_edit_statements.proofs.FieldNamed.{IsFree, IsWhich, late, which}
 
 module _ (files : List FileOf) (reads : List ReadOf) (are : AreRead files reads) (name : List ℕ) (field : FieldName) (is : IsFieldToken files reads name field) where
   -- its file is there
@@ -22,7 +22,7 @@ module _ (files : List FileOf) (reads : List ReadOf) (are : AreRead files reads)
       let e = ap (λ (z : At). z.file) is.2 in
       omega (arith, inside, e)
 
-  cased : (n : ℕ) → IsDeletionCase files name n → IsWhich files reads name n
+  pub cased : (n : ℕ) → IsDeletionCase files name n → IsWhich files reads name n
   cased n h = which files reads name n (subst (λ rs. RefusesDeletion files rs name n) (read_once files h.0 reads h.1 are) h.2)
 
   alone_at : HoldsAlone field.token (read_at reads field.file).tree → IsAlone reads (at field.file field.token)
@@ -43,7 +43,7 @@ module _ (files : List FileOf) (reads : List ReadOf) (are : AreRead files reads)
         let here : x.1.0.token ≡ at field.file field.token = ap (λ (z : Target). z.token) same ∙ is.2 in
         let holds = holds_at (subst (IsAlone reads) here x.1.2) in
         both_ways (alone_in field.token (read_at reads field.file).tree) h (holds_alone field.token context.Start (read_at reads field.file).tree (are.trees field.file file_there).spells.well_formed holds))
-    | inr (inr (inr x)) ↦ (let e = x.0 in omega (arith, l, e))
+    | inr (inr (inr x)) ↦ (let e = late files reads name n x in omega (arith, l, e))
   ]
 
   -- ---- case 16
@@ -56,18 +56,20 @@ module _ (files : List FileOf) (reads : List ReadOf) (are : AreRead files reads)
         | inl x ↦ (let e = x.0 in free n (omega (arith, e)) k)
         | inr (inl x) ↦ (let e = x.0 in free n (omega (arith, e)) k)
         | inr (inr (inl x)) ↦ (let e = x.0 in free n (omega (arith, e)) k)
-        | inr (inr (inr x)) ↦ (let e = x.0 in omega (arith, l, e))
+        | inr (inr (inr x)) ↦ (let e = late files reads name n x in omega (arith, l, e))
       ]
 
-  pub free_16 : FieldsAreOne → HasNoFault (LinkFaults files) → IsFree files name 11 → (f : FieldAt) → IsFieldNamed files reads name f → (IsTooLong (file_at files f.file) (splice_of_deletion files reads f) → ⊥) → (n : ℕ) → IsDeletionCase files name n → ⊥
-  free_16 law clean free f named none n k = elim (cased n k) [
+  pub free_16 : FieldsAreOne → HasNoFault (LinkFaults files) → IsFree files name 11 → (f : FieldAt) → IsFieldNamed files reads name f → (IsTooLong (file_at files f.file) (splice_of_deletion files reads f) → ⊥) → IsFree files name 17
+  free_16 law clean free f named none n l k = elim (cased n k) [
     | inl x ↦ (let e = x.0 in free n (omega (arith, e)) k)
     | inr (inl x) ↦ (let e = x.0 in free n (omega (arith, e)) k)
     | inr (inr (inl x)) ↦ (let e = x.0 in free n (omega (arith, e)) k)
-    | inr (inr (inr x)) ↦ (
+    | inr (inr (inr (inl x))) ↦ (
         let g = x.1.0 in
         let same = fields_are_one files reads name x.1.1.t named.t are clean x.1.1.field named.field in
         let place : at g.file g.name ≡ at f.file f.name = sym x.1.1.token ∙ ap (λ (z : Target). z.token) same ∙ named.token in
         let one : g ≡ f = law files reads g f are x.1.1.stands named.stands (ap (λ (z : At). z.file) place) (ap (λ (z : At). z.token) place) in
         none (subst (λ (z : FieldAt). IsTooLong (file_at files z.file) (splice_of_deletion files reads z)) one x.1.2))
+    | inr (inr (inr (inr (inl x)))) ↦ (let e = x.0 in omega (arith, l, e))
+    | inr (inr (inr (inr (inr x)))) ↦ (let e = x.0 in omega (arith, l, e))
   ]

@@ -1,14 +1,17 @@
 -- Cases 1 and 2 of a deletion, by what a link has of the name.
-use Rattle.std.proofs.Common.{◌≡◌, ◌≢◌, ◌⊎◌, ℕ, ◌<◌, true, false, List, get_or, Option, Some, None, option_map, refl, sym, ap, subst, ◌∙◌, inl, inr, arith, Contains, option_and_then}
+use Rattle.std.proofs.Common.{◌≡◌, ◌≢◌, ◌⊎◌, ℕ, ◌<◌, ◌≤◌, true, false, List, get_or, Option, Some, None, option_map, refl, sym, ap, subst, ◌∙◌, inl, inr, arith, Contains, option_and_then}
 use Rattle.proto_base.proofs.Common.{both_ways, cond-false, get_or_default, none-some, same_Some}
 use Rattle.proto_files.proofs.Common.{HasNoFault, ReadOf, AreRead, FileOf, file_at as file_of_place, read_once}
 use Rattle.proto_edit_entries.specs.declared.refusal.Refusal.TheVariants as refusal
-use Rattle.proto_names_imports.specs.Links.{LinkFaults, names_of_files}
+use Rattle.proto_names_imports.specs.Links.{LinkFaults, names_of_files, text_of}
 use Rattle.proto_names_rules.specs.declared.kind.Kind.{Kind}
 use Rattle.proto_names_rules.specs.declared.kind.Kind.TheVariants.{Field, Package}
-use Rattle.proto_names_rules.proofs.Common.{place_from, place_of, at, joined, is_package, Symbol}
+use Rattle.proto_names_rules.proofs.Common.{At, place_from, place_of, at, joined, is_package, name_of, Symbol}
 use Rattle.proto_names.proofs.Common.{HoldsNames, IsLinkOf, LinkOf, NameOf, declaring_file, name_at, own_file, own_token, name_text, declaring_token}
 use Rattle.proto_edit_captures.proofs.Common.{IsUnknown, Target, place_last}
+use Rattle.proto_case.specs.Camel.{entry_name}
+use Rattle.proto_edit_rules.specs.DeleteField.{IsFieldWord, fixed_name, option_value}
+use Rattle.proto_edit_rules.specs.Options.{HasWritten, is_fixed}
 use Rattle.proto_edit_statement_laws.proofs.ChangesCommon.{FieldAt, splice_of_deletion, IsTooLong}
 use Rattle.proto_edit_statement_laws.proofs.NamesCommon.{DeletionCase, IsAlone, IsField, kind_not_allowed, last_of_oneof, unknown_target, fields_are_there}
 use Rattle.proto_edit_statements.specs.Common.{IsDeletionCase, IsDeletionRefusal, IsFieldNamed, RefusesDeletion, by_name, too_large, is_field, is_field_kind}
@@ -26,18 +29,37 @@ module _ (files : List FileOf) (reads : List ReadOf) (name : List ℕ) where
   abbrev pub IsLong : Type 0
   IsLong = (f : FieldAt) × IsFieldNamed files reads name f × IsTooLong (file_of_place files f.file) (splice_of_deletion files reads f)
 
+  -- a word of an option may stand for the field
+  abbrev pub IsSeen : Type 0
+  IsSeen = (t : Target) × (a : At) × IsField files reads name t × IsFieldWord files reads t a
+
+  -- the field is one of an options message, or of what is in one
+  abbrev pub IsOfOptions : Type 0
+  IsOfOptions = (t : Target) × IsField files reads name t × HasWritten files × (is_fixed (name_of (text_of files reads) entry_name t.aim.path) ≡ true)
+
+  -- it is one of the cases from 16 on
+  abbrev pub IsLate : ℕ → Type 0
+  IsLate n = ((n ≡ 16) × IsLong) ⊎ (((n ≡ 19) × IsSeen) ⊎ ((n ≡ 20) × IsOfOptions))
+
+  pub late : (n : ℕ) → IsLate n → 16 ≤ n
+  late n (inl x) = let e = x.0 in omega (arith, e)
+  late n (inr (inl x)) = let e = x.0 in omega (arith, e)
+  late n (inr (inr x)) = let e = x.0 in omega (arith, e)
+
   -- which case it is
   abbrev pub IsWhich : ℕ → Type 0
-  IsWhich n = ((n ≡ 1) × IsUnknown files reads name) ⊎ (((n ≡ 2) × IsNoField) ⊎ (((n ≡ 10) × IsLast) ⊎ ((n ≡ 16) × IsLong)))
+  IsWhich n = ((n ≡ 1) × IsUnknown files reads name) ⊎ (((n ≡ 2) × IsNoField) ⊎ (((n ≡ 10) × IsLast) ⊎ IsLate n))
 
   which_case : (n : ℕ) → DeletionCase files reads name n → IsWhich n
   which_case _ (unknown_target h) = inl (refl, h)
   which_case _ (kind_not_allowed s c e k) = inr (inl (refl, (s, c, e, k)))
   which_case _ (last_of_oneof t f a) = inr (inr (inl (refl, (t, f, a))))
+  which_case _ (option_value t a f w) = inr (inr (inr (inr (inl (refl, (t, a, f, w))))))
+  which_case _ (fixed_name t f written fixed) = inr (inr (inr (inr (inr (refl, (t, f, written, fixed))))))
 
   pub which : (n : ℕ) → RefusesDeletion files reads name n → IsWhich n
   which _ (by_name n c) = which_case n c
-  which _ (too_large f h k) = inr (inr (inr (refl, (f, h, k))))
+  which _ (too_large f h k) = inr (inr (inr (inl (refl, (f, h, k)))))
 
 abbrev pub IsFree : List FileOf → List ℕ → ℕ → Type 0
 IsFree files name bound = (n : ℕ) → n < bound → IsDeletionCase files name n → ⊥
@@ -72,7 +94,7 @@ module _ (files : List FileOf) (reads : List ReadOf) (are : AreRead files reads)
         | inl x ↦ (let e = x.0 in omega (arith, lt, e))
         | inr (inl x) ↦ (let e = x.0 in omega (arith, lt, e))
         | inr (inr (inl x)) ↦ (let e = x.0 in omega (arith, lt, e))
-        | inr (inr (inr x)) ↦ (let e = x.0 in omega (arith, lt, e))
+        | inr (inr (inr x)) ↦ (let e = late files reads name n x in omega (arith, lt, e))
       ]
 
   -- ---- a name of the link
@@ -106,7 +128,7 @@ module _ (files : List FileOf) (reads : List ReadOf) (are : AreRead files reads)
           | inl x ↦ x.1 symbol.0 symbol.1 symbol.2
           | inr (inl x) ↦ (let e = x.0 in omega (arith, lt, e))
           | inr (inr (inl x)) ↦ (let e = x.0 in omega (arith, lt, e))
-          | inr (inr (inr x)) ↦ (let e = x.0 in omega (arith, lt, e))
+          | inr (inr (inr x)) ↦ (let e = late files reads name n x in omega (arith, lt, e))
         ]
 
     module _ (h : is_field kind_told ≡ true) where
@@ -132,7 +154,7 @@ module _ (files : List FileOf) (reads : List ReadOf) (are : AreRead files reads)
           | inl x ↦ x.1 symbol.0 symbol.1 symbol.2
           | inr (inl x) ↦ (let e = x.0 in omega (arith, e))
           | inr (inr (inl x)) ↦ (let e = x.0 in omega (arith, e))
-          | inr (inr (inr x)) ↦ (let e = x.0 in omega (arith, e))
+          | inr (inr (inr x)) ↦ (let e = late files reads name 1 x in omega (arith, e))
         ]
 
         allowed : DeletionCase files reads name 2 → ⊥
@@ -145,7 +167,7 @@ module _ (files : List FileOf) (reads : List ReadOf) (are : AreRead files reads)
               let both : has.0 ≡ n.1 = same_Some has.0 n.1 (sym has.1 ∙ ap (name_at l) one ∙ n.2) in
               x.1.3 (sym n.4 ∙ sym (ap (λ (z : NameOf). z.kind) both) ∙ field))
           | inr (inr (inl x)) ↦ (let e = x.0 in omega (arith, e))
-          | inr (inr (inr x)) ↦ (let e = x.0 in omega (arith, e))
+          | inr (inr (inr x)) ↦ (let e = late files reads name 2 x in omega (arith, e))
         ]
 
         target : (t : Target) × IsField files reads name t
@@ -171,5 +193,5 @@ module _ (files : List FileOf) (reads : List ReadOf) (are : AreRead files reads)
           | inl x ↦ x.1 symbol.0 symbol.1 symbol.2
           | inr (inl x) ↦ allowed (kind_not_allowed x.1.0 x.1.1 x.1.2 x.1.3)
           | inr (inr (inl x)) ↦ (let e = x.0 in omega (arith, lt, e))
-          | inr (inr (inr x)) ↦ (let e = x.0 in omega (arith, lt, e))
+          | inr (inr (inr x)) ↦ (let e = late files reads name n x in omega (arith, lt, e))
         ]

@@ -16,6 +16,7 @@ mod MoreOrLess
 mod NamedImports
 mod Needed
 mod NoImportFault
+mod OptionCases
 mod SeenMore
 mod SeenThen
 mod Spliced

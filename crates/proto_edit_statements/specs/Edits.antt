@@ -9,8 +9,10 @@ use Rattle.proto_edit_entries.specs.declared.refusal.Refusal.TheVariants as refu
 use Rattle.proto_edit_entries.specs.Entries.{ChangeOf}
 use Rattle.proto_edit_entries.specs.RefusalTable.{refusal_number}
 use Rattle.proto_tree.specs.declared.tree.Import.{Import}
-use Rattle.proto_edit_rules.specs.DeleteField.{FieldAt, IsFieldAt, changes_of_deletion, field_number_value, IsFieldNamed, RefusesDeletion}
+use Rattle.proto_edit_rules.specs.DeleteField.{FieldAt, IsField, IsFieldAt, IsFieldWord, changes_of_deletion, field_number_value, IsFieldNamed, RefusesDeletion}
 use Rattle.proto_edit_rules.specs.DropImport.{IsImportOf, changes_of_drop, DropCase, IsNeededAt}
+use Rattle.proto_edit_rules.specs.Options.{IsFirstToken}
+use Rattle.proto_edit_rules.specs.Rename.{Target}
 use Rattle.proto_edit_rules.specs.AddImport.{changes_of_addition, IsOvertakenAt, RefusesAddition}
 use Rattle.proto_edit_rules.specs.Statements.{IsPlaceOf}
 
@@ -29,12 +31,21 @@ SomeReading files P = (reads : List ReadOf) × AreRead files reads × P reads
 abbrev pub IsDeletionCase : List FileOf → Text → ℕ → Type 0
 IsDeletionCase files name n = SomeReading files (λ reads. RefusesDeletion files reads name n)
 
--- the least case; out of memory may be answered instead
+-- the path and offset of the least word of an option that may stand for the field
+abbrev pub IsFieldWordAt : List FileOf → Text → Path → ℕ → Type 0
+IsFieldWordAt files name path offset = SomeReading files (λ reads.
+    (t : Target) × IsField files reads name t
+    × IsFirstToken files reads (IsFieldWord files reads t) path offset)
+
+-- the least case, with its place where a word of an option may stand for the field; out of memory
+-- may be answered instead
 abbrev pub IsDeletionRefusal : List FileOf → Text → Refusal → Type 0
 IsDeletionRefusal files name refusal.NoMemory = Unit {0}
 IsDeletionRefusal files name (refusal.Captured path offset) = ⊥
 IsDeletionRefusal files name (refusal.Needed path offset) = ⊥
-IsDeletionRefusal files name (refusal.OptionValue path offset) = ⊥
+IsDeletionRefusal files name (refusal.OptionValue path offset) =
+    IsLeastOf (IsDeletionCase files name) 19
+    × IsFieldWordAt files name (string_bytes path) offset
 IsDeletionRefusal files name r = IsLeastOf (IsDeletionCase files name) (refusal_number r)
 
 -- no case refuses it, and these are the changes

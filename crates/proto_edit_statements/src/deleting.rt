@@ -14,11 +14,12 @@ ghost use Rattle.proto_text.specs.Texts.{offset_at};
 ghost use Rattle.proto_text.specs.Tokens.{AreTokens};
 ghost use Rattle.proto_text.specs.declared.lexer.Token.{Token};
 ghost use Rattle.proto_edit_rules.specs.DeleteField.{reservation_text};
-ghost use Rattle.proto_edit_statements.specs.Spliced.{IsChangeOfDeletion};
+ghost use Rattle.proto_edit_statements.specs.Spliced.{AreChangesOfDeletion, IsChangeOfDeletion};
 
 use crate::alone::is_alone;
 use crate::fields::{FieldPlace, field_at};
 use crate::only::only;
+use crate::options::{check_fixed, check_values};
 use crate::splicing::splice_change;
 use proto_ast::number_of;
 use proto_base::NoMemory;
@@ -174,8 +175,10 @@ fn changes_of_deletion(
     requires place { (reads : List ReadOf) → AreRead files.now reads
         → IsPlaceOfField files.now reads field place }
     requires before { (n : ℕ) → n < 11 → IsDeletionCase files.now name.now n → ⊥ }
-    ensures ok { IfOk result (λ cs. HasDeletionChanges files.now name.now
+    ensures changes { IfOk result (λ cs. AreChangesOfDeletion files.now name.now
         (map change_of cs.items)) }
+    ensures free { IfOk result (λ _. (n : ℕ) → n < 17
+        → IsDeletionCase files.now name.now n → ⊥) }
     ensures err { IfErr result (IsDeletionRefusal files.now name.now) }
 {
     are_read(files);
@@ -203,7 +206,8 @@ pub fn delete_field(
 {
     are_read(files);
     statements_are_one();
-    let field = field_named(&CleanLinked::new(files, link), name)?;
+    let linked = CleanLinked::new(files, link);
+    let field = field_named(&linked, name)?;
     let tree = files.tree(field.file);
     if is_alone(tree, field.token) {
         return Err(Refusal::LastOfOneof);
@@ -212,5 +216,8 @@ pub fn delete_field(
     let Some(place) = field_at(tree, field.token) else {
         unreachable!();
     };
-    changes_of_deletion(alloc, files, name, field, place)
+    let changes = changes_of_deletion(alloc, files, name, field, place)?;
+    check_values(alloc, &linked, name, field)?;
+    check_fixed(&linked, name)?;
+    Ok(changes)
 }

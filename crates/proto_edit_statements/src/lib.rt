@@ -12,6 +12,7 @@ mod imports;
 mod leading;
 mod needing;
 mod only;
+mod options;
 mod paths;
 mod seeing;
 mod splicing;

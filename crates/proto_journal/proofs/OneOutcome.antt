@@ -18,7 +18,7 @@ use Rattle.proto_journal_records.proofs.Comebacks.{same_ends}
 use Rattle.proto_store.specs.Stores.{Held}
 use Rattle.proto_journal.specs.Common.{CommitOutcome, IsCommitted, IsFull, Stays, CommitsAreOne, IsSameAnswer, IsSameRefusal, UndosAreOne, EndsIn, IsStale, IsUndone, UndoOutcome}
 use Rattle.proto_journal.proofs.Recorded.{last_of}
-use Rattle.proto_edit.specs.CustomOptions.{IsCustomAt}
+use Rattle.proto_edit.specs.Workspaces.{IsWordAt}
 
 -- ---- refusals
 
@@ -39,14 +39,15 @@ plain n =
     else (if n == 13 then refusal.NotImported
     else (if n == 14 then refusal.Cycle
     else (if n == 16 then refusal.TooLarge
-    else refusal.Stale)))))))))))))
+    else (if n == 20 then refusal.FixedName
+    else refusal.Stale))))))))))))))
 
 -- a refusal has no place, and its number tells it; or it has the place that the edit is refused with
 data IsTold (from : List FileOf) (e : Asked) : Refusal → Type 0 where
   by_number : (r : Refusal) → plain (refusal_number r) ≡ r → (refusal_number r == 7) ≡ false → (refusal_number r == 15) ≡ false → (refusal_number r == 19) ≡ false → IsTold from e r
   captured : (path : String Global) (offset : ℕ) → IsCaseAt from e (string_bytes path) offset → IsTold from e (refusal.Captured path offset)
   needed : (path : String Global) (offset : ℕ) → IsCaseAt from e (string_bytes path) offset → IsTold from e (refusal.Needed path offset)
-  custom : (path : String Global) (offset : ℕ) → IsCustomAt from (string_bytes path) offset → IsTold from e (refusal.OptionValue path offset)
+  word : (path : String Global) (offset : ℕ) → IsWordAt from e (string_bytes path) offset → IsTold from e (refusal.OptionValue path offset)
 
 -- a refused edit: the store was ready, and the refusal is the least case
 record IsRefused (e : Asked) (from to : List FileOf) (old : Held) (new : Option Held) (r : Refusal) : Type 0 where
@@ -60,7 +61,7 @@ unfolding plain
 is_refused e from to old new refusal.NoMemory o = absurd o
 is_refused e from to old new (refusal.Captured path offset) o = record { stay = o.0; ready = o.1; least = o.2.0; is = captured path offset o.2.1 }
 is_refused e from to old new (refusal.Needed path offset) o = record { stay = o.0; ready = o.1; least = o.2.0; is = needed path offset o.2.1 }
-is_refused e from to old new (refusal.OptionValue path offset) o = record { stay = o.0; ready = o.1; least = o.2.0; is = custom path offset o.2.1 }
+is_refused e from to old new (refusal.OptionValue path offset) o = record { stay = o.0; ready = o.1; least = o.2.0; is = word path offset o.2.1 }
 is_refused e from to old new r o = record { stay = o.0; ready = o.1; least = o.2; is = by_number r refl refl refl refl }
 
 same_itself : (r : Refusal) → IsSameRefusal r r
@@ -78,19 +79,19 @@ told_alike : RefusedOnce → (from : List FileOf) (e : Asked) (r s : Refusal) �
 told_alike refused_once from e r s has same (by_number x p a b z) (by_number y q c d w) = subst (λ (z : Refusal). IsSameRefusal r z) (sym p ∙ ap plain same ∙ q) (same_itself r)
 told_alike refused_once from e r s has same (by_number x p a b z) (captured path offset there) = numbered (refusal_number r) 7 same refl a
 told_alike refused_once from e r s has same (by_number x p a b z) (needed path offset there) = numbered (refusal_number r) 15 same refl b
-told_alike refused_once from e r s has same (by_number x p a b z) (custom path offset there) = numbered (refusal_number r) 19 same refl z
+told_alike refused_once from e r s has same (by_number x p a b z) (word path offset there) = numbered (refusal_number r) 19 same refl z
 told_alike refused_once from e r s has same (captured path offset there) (by_number y q c d w) = numbered (refusal_number s) 7 (sym same) refl c
 told_alike refused_once from e r s has same (captured path offset x) (captured file other y) = ((refused_once from e has).1).0 (string_bytes path) (string_bytes file) offset other x y
 told_alike refused_once from e r s has same (captured path offset x) (needed file other y) = numbered 7 15 same refl refl
-told_alike refused_once from e r s has same (captured path offset x) (custom file other y) = numbered 7 19 same refl refl
+told_alike refused_once from e r s has same (captured path offset x) (word file other y) = numbered 7 19 same refl refl
 told_alike refused_once from e r s has same (needed path offset there) (by_number y q c d w) = numbered (refusal_number s) 15 (sym same) refl d
 told_alike refused_once from e r s has same (needed path offset x) (captured file other y) = numbered 15 7 same refl refl
 told_alike refused_once from e r s has same (needed path offset x) (needed file other y) = ((refused_once from e has).1).0 (string_bytes path) (string_bytes file) offset other x y
-told_alike refused_once from e r s has same (needed path offset x) (custom file other y) = numbered 15 19 same refl refl
-told_alike refused_once from e r s has same (custom path offset there) (by_number y q c d w) = numbered (refusal_number s) 19 (sym same) refl w
-told_alike refused_once from e r s has same (custom path offset x) (captured file other y) = numbered 19 7 same refl refl
-told_alike refused_once from e r s has same (custom path offset x) (needed file other y) = numbered 19 15 same refl refl
-told_alike refused_once from e r s has same (custom path offset x) (custom file other y) = ((refused_once from e has).1).1 (string_bytes path) (string_bytes file) offset other x y
+told_alike refused_once from e r s has same (needed path offset x) (word file other y) = numbered 15 19 same refl refl
+told_alike refused_once from e r s has same (word path offset there) (by_number y q c d w) = numbered (refusal_number s) 19 (sym same) refl w
+told_alike refused_once from e r s has same (word path offset x) (captured file other y) = numbered 19 7 same refl refl
+told_alike refused_once from e r s has same (word path offset x) (needed file other y) = numbered 19 15 same refl refl
+told_alike refused_once from e r s has same (word path offset x) (word file other y) = ((refused_once from e has).1).1 (string_bytes path) (string_bytes file) offset other x y
 
 -- ---- stores
 

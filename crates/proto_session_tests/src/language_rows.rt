@@ -19,9 +19,13 @@ pub(crate) const A_CUSTOM_OPTION: &str = r#"# a custom option
 > {"jsonrpc":"2.0","id":6,"method":"textDocument/definition","params":{"textDocument":{"uri":"file:///w/p/v1/a.proto"},"position":{"line":0,"character":111}}}
 < {"id":6,"jsonrpc":"2.0","result":null}
 > {"jsonrpc":"2.0","id":7,"method":"textDocument/rename","params":{"textDocument":{"uri":"file:///w/p/v1/a.proto"},"position":{"line":0,"character":104},"newName":"z"}}
-< {"error":{"code":-32803,"message":"refused: 19 OptionValue p/v1/a.proto:1:89"},"id":7,"jsonrpc":"2.0"}
+< {"id":7,"jsonrpc":"2.0","result":{"documentChanges":[{"edits":[{"newText":"z","range":{"end":{"character":118,"line":0},"start":{"character":117,"line":0}}}],"textDocument":{"uri":"file:///w/google/protobuf/d.proto","version":1}},{"edits":[{"newText":"z","range":{"end":{"character":105,"line":0},"start":{"character":104,"line":0}}}],"textDocument":{"uri":"file:///w/p/v1/a.proto","version":2}}]}}
 > {"jsonrpc":"2.0","id":8,"method":"textDocument/rename","params":{"textDocument":{"uri":"file:///w/p/v1/b.proto"},"position":{"line":0,"character":68},"newName":"C"}}
-< {"error":{"code":-32803,"message":"refused: 19 OptionValue p/v1/a.proto:1:89"},"id":8,"jsonrpc":"2.0"}
+< {"id":8,"jsonrpc":"2.0","result":{"documentChanges":[{"edits":[{"newText":"C","range":{"end":{"character":76,"line":0},"start":{"character":75,"line":0}}}],"textDocument":{"uri":"file:///w/p/v1/a.proto","version":2}},{"edits":[{"newText":"C","range":{"end":{"character":69,"line":0},"start":{"character":68,"line":0}}}],"textDocument":{"uri":"file:///w/p/v1/b.proto","version":null}}]}}
+> {"jsonrpc":"2.0","id":9,"method":"textDocument/rename","params":{"textDocument":{"uri":"file:///w/google/protobuf/d.proto"},"position":{"line":0,"character":156},"newName":"c"}}
+< {"error":{"code":-32803,"message":"refused: 19 OptionValue p/v1/a.proto:1:112"},"id":9,"jsonrpc":"2.0"}
+> {"jsonrpc":"2.0","id":10,"method":"textDocument/rename","params":{"textDocument":{"uri":"file:///w/google/protobuf/d.proto"},"position":{"line":0,"character":52},"newName":"F"}}
+< {"error":{"code":-32803,"message":"refused: 20 FixedName"},"id":10,"jsonrpc":"2.0"}
 > {"jsonrpc":"2.0","method":"textDocument/didChange","params":{"textDocument":{"uri":"file:///w/p/v1/a.proto","version":3},"contentChanges":[{"text":"message A { option (x) = 1 }"}]}}
 < {"jsonrpc":"2.0","method":"textDocument/publishDiagnostics","params":{"diagnostics":[{"code":"Syntax","message":"8 Syntax","range":{"end":{"character":18,"line":0},"start":{"character":12,"line":0}},"severity":1,"source":"protoref"}],"uri":"file:///w/p/v1/a.proto","version":3}}
 < {"jsonrpc":"2.0","method":"textDocument/publishDiagnostics","params":{"diagnostics":[],"uri":"file:///w/google/protobuf/d.proto"}}

@@ -6,8 +6,8 @@ pub(crate) const PROGRAM: &str =
 the edit or the journal; 2 with a line on standard error.
 What the numbers mean stands in the help of each command: protoref rename --help
 
-With --as-written as the first word custom options are read, and `extend` in proto3;
-an edit is then refused where a custom option stands: protoref --as-written lint schemas
+With --as-written as the first word custom options are read, and `extend` in proto3:
+protoref --as-written lint schemas
 
 protoref --version prints the version; the file's checksum (sha256sum) tells one build from
 another.";
@@ -110,7 +110,8 @@ Refusals:
    8 NameReserved    the new name is reserved
    9 JsonClash       two fields would have one JSON name
   16 TooLarge        a changed file would have more than 1,048,576 bytes
-  19 OptionValue     a custom option stands in a file
+  19 OptionValue     a word of an option may stand for the symbol
+  20 FixedName       options are looked up by this name
 
 Journal:
    1 BadJournal  the journal is damaged
@@ -130,7 +131,8 @@ Refusals:
    2 KindNotAllowed the edit is not for a symbol of this kind
   10 LastOfOneof    the field is the only one of its oneof
   16 TooLarge       a changed file would have more than 1,048,576 bytes
-  19 OptionValue    a custom option stands in a file
+  19 OptionValue    a word of an option may stand for the field
+  20 FixedName      options are looked up by this name
 
 Journal:
    1 BadJournal  the journal is damaged
@@ -151,7 +153,6 @@ Refusals:
   12 AlreadyImported the file imports the path
   14 Cycle           an import cycle would be closed
   16 TooLarge        a changed file would have more than 1,048,576 bytes
-  19 OptionValue     a custom option stands in a file
 
 Journal:
    1 BadJournal  the journal is damaged
@@ -170,7 +171,6 @@ Refusals:
   11 UnknownFile the file is not in the workspace
   13 NotImported the file does not import the path
   15 Needed      a reference means a symbol that would no longer be seen
-  19 OptionValue a custom option stands in a file
 
 Journal:
    1 BadJournal  the journal is damaged

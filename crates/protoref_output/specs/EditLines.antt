@@ -27,7 +27,7 @@ place_text files path offset =
     ++ (codes ":" ++ (decimal (line_at (text_of_path path files) offset)
     ++ (codes ":" ++ decimal (column_at (text_of_path path files) offset)))))
 
--- the place of the reference that is captured or needed, or of the custom option
+-- the place of the reference that is captured or needed, or of the word of an option
 abbrev pub reference_text : List FileOf → Refusal → Text
 reference_text files (refusal.Captured path offset) = place_text files (string_bytes path) offset
 reference_text files (refusal.Needed path offset) = place_text files (string_bytes path) offset

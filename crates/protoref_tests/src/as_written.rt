@@ -8,11 +8,12 @@ use std::process::Abort;
 /// Files, what is asked of them, what is printed, and whether all is well.
 type Row = (&'static str, &'static str, &'static str, bool);
 
-/// Files with custom options and their extensions; the name of the first option begins at the offset 56 of its file.
+/// Files with custom options and their extensions; the first word of a value begins at the offset
+/// 63 of its file.
 const CUSTOM: &str =
     "a.proto syntax = \"proto3\"; package p; import \"d.proto\"; option (x) = { a: 1 }; message A { int32 f = 1 [(p.y).a = 2]; } extend google.protobuf.FileOptions { V x = 1000; } extend google.protobuf.FieldOptions { V y = 1000; } message V { int32 a = 1; } | d.proto syntax = \"proto2\"; package google.protobuf; message FileOptions { extensions 1000; } message FieldOptions { extensions 1000; }";
 
-/// Two files, the second of which has one, at its offset 141.
+/// Two files, the second of which has one.
 const SECOND: &str =
     "a.proto syntax = \"proto3\"; message A { int32 f = 1; } | b.proto syntax = \"proto2\"; package google.protobuf; message FileOptions { extensions 1000; } extend FileOptions { optional int32 x = 1000; } option (x) = 1;";
 
@@ -51,31 +52,34 @@ const ROWS: &[Row] = &[
         "a.proto:1:75: 14 Unresolved\n",
         false,
     ),
-    // Each edit is refused, that of an extension too, where no case of its own refuses it.
-    (
-        CUSTOM,
-        "rename p.A B",
-        "refused: 19 OptionValue a.proto:1:57\n",
-        false,
-    ),
-    (
-        CUSTOM,
-        "rename p.x z",
-        "refused: 19 OptionValue a.proto:1:57\n",
-        false,
-    ),
+    // Files with them are edited, and one that the value of an option may see is refused.
+    (CUSTOM, "rename p.A B", "changed a.proto\n", true),
+    (CUSTOM, "rename p.x z", "changed a.proto\n", true),
     (CUSTOM, "rename p.B C", "refused: 1 UnknownTarget\n", false),
+    (CUSTOM, "delete-field p.A.f", "changed a.proto\n", true),
     (
         CUSTOM,
-        "delete-field p.A.f",
-        "refused: 19 OptionValue a.proto:1:57\n",
+        "rename p.V.a b",
+        "refused: 19 OptionValue a.proto:1:64\n",
+        false,
+    ),
+    (
+        CUSTOM,
+        "rename p.A.f a",
+        "refused: 19 OptionValue a.proto:1:64\n",
+        false,
+    ),
+    (
+        CUSTOM,
+        "rename google.protobuf.FieldOptions F",
+        "refused: 20 FixedName\n",
         false,
     ),
     (
         SECOND,
         "add-import a.proto b.proto",
-        "refused: 19 OptionValue b.proto:1:142\n",
-        false,
+        "changed a.proto\n",
+        true,
     ),
     (
         SECOND,
@@ -86,16 +90,16 @@ const ROWS: &[Row] = &[
     (
         "a.proto syntax = \"proto3\"; import \"b.proto\"; message A { int32 f = 1; } | b.proto syntax = \"proto2\"; package google.protobuf; message FileOptions { extensions 1000; } extend FileOptions { optional int32 x = 1000; } option (x) = 1;",
         "drop-import a.proto b.proto",
-        "refused: 19 OptionValue b.proto:1:142\n",
-        false,
+        "changed a.proto\n",
+        true,
     ),
     (
         BESIDE,
         "rename google.protobuf.A.m y",
-        "refused: 19 OptionValue a.proto:1:171\n",
-        false,
+        "changed a.proto\n",
+        true,
     ),
-    // So is one by which a name would mean something else, or nothing.
+    // So is one by which an option's name would mean something else, or nothing.
     (
         BESIDE,
         "rename google.protobuf.A.m x",
@@ -135,15 +139,36 @@ fn prints_what_is_so_as_written(rt: HostRuntime) {
     }
 }
 
+// One after another, each of which is done.
+fn expect_done<R: AllocGlobal + Abort>(rt: &R, files: &str, rows: &[(&str, &str)]) {
+    let mut store = store_of(rt, files);
+    for (asked, text) in rows {
+        let end = (Ok(Status::Done), *text, text.len());
+        expect_end(rt, &mut store, command_of(rt, asked), WIDE, end, 0);
+    }
+}
+
 // An edit of files as written is logged and undone.
 #[test]
 fn undoes_an_edit_as_written(rt: HostRuntime) {
-    let mut store = store_of(&rt, OLD);
     let logged = "1 done a.proto rename A.b_c d_e\n";
-    for (asked, text) in &[(RENAME, CHANGED), ("log", logged), ("undo", CHANGED)] {
-        let end = (Ok(Status::Done), *text, text.len());
-        expect_end(&rt, &mut store, command_of(&rt, asked), WIDE, end, 0);
-    }
+    let rows = &[(RENAME, CHANGED), ("log", logged), ("undo", CHANGED)];
+    expect_done(&rt, OLD, rows);
+}
+
+// So is that of an extension, by which the names of its options change.
+#[test]
+fn undoes_the_rename_of_an_extension(rt: HostRuntime) {
+    let logged = "1 done a.proto rename p.x z\n";
+    let rows = &[
+        ("rename p.x z", CHANGED),
+        ("log", logged),
+        ("rename p.z w", CHANGED),
+        ("undo", CHANGED),
+        ("undo", CHANGED),
+        ("rename p.x v", CHANGED),
+    ];
+    expect_done(&rt, CUSTOM, rows);
 }
 
 /// Files, and what the rule of unused imports finds in them.
@@ -153,8 +178,13 @@ const IMPORTS: &[(&str, &str, Status)] = &[
         "a.proto:1:20: IMPORT_USED b.proto\n",
         Status::Problem,
     ),
-    // An option's name uses it.
+    // An option's name uses the one, and nothing the other.
     (USING, "", Status::Done),
+    (
+        "a.proto syntax = \"proto3\"; import \"b.proto\"; import \"c.proto\"; option (google.protobuf.x) = 1; | b.proto syntax = \"proto2\"; package google.protobuf; message FileOptions { extensions 1000; } extend FileOptions { optional int32 x = 1000; } | c.proto syntax = \"proto3\";",
+        "a.proto:1:38: IMPORT_USED c.proto\n",
+        Status::Problem,
+    ),
 ];
 
 #[test]

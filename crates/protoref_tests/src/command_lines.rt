@@ -309,11 +309,11 @@ const HELPS: &[Row] = &[
     ),
     (
         "protoref rename -h",
-        "help|  19 OptionValue     a custom option stands in a file",
+        "help|  19 OptionValue     a word of an option may stand for the symbol",
     ),
     (
-        "protoref drop-import -h",
-        "help|  19 OptionValue a custom option stands in a file",
+        "protoref delete-field -h",
+        "help|  20 FixedName      options are looked up by this name",
     ),
     (
         "protoref compile -h",

@@ -1,7 +1,7 @@
 """The answers to edits in a model of schemas: what a command prints, the bytes that change, and the lines of the journal and the log."""
 
 from described import text
-from guards import first_option, guarded_word, is_fixed
+from guards import guarded_word, is_fixed
 from renames import rename_of
 from statements import addition_of, deletion_of, drop_of
 
@@ -34,12 +34,12 @@ KEYS = {"rename": ("name", "to"), "delete-field": ("name",), "add-import": ("fil
 def answer(workspace, command, *words):
     """The number of what refuses an edit, the place that it reports, as a file and an offset, and the edit where nothing refuses it."""
     number, use, edit = EDITS[command](workspace, *words)
-    if number or workspace.is_ahead and command not in ("rename", "delete-field"):
+    if number or command not in ("rename", "delete-field"):
         return number, use and (use.file, use.reference.first.start), edit
-    word = guarded_word(workspace, edit) if workspace.is_ahead else first_option(workspace)
+    word = guarded_word(workspace, edit)
     if word:
         return 19, word, None
-    return (20, None, None) if workspace.is_ahead and is_fixed(workspace, edit) else (0, None, edit)
+    return (20, None, None) if is_fixed(workspace, edit) else (0, None, edit)
 
 
 def printed(workspace, command, *words):

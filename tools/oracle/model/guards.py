@@ -6,11 +6,6 @@ from faults import OPTIONS_MESSAGES
 from schemas import OPTION
 
 
-def first_option(workspace):
-    """The file and the offset of the first name of a custom option, or nothing."""
-    return next(((use.file, use.reference.first.start) for use in workspace.uses if use.wants is OPTION), None)
-
-
 def guarded_word(workspace, edit):
     """The file and the offset of the first word of an option that may stand for what is renamed or deleted, or nothing."""
     if edit.target.kind not in ("field", "value"):

@@ -440,18 +440,6 @@ WRITTEN_EDITS = [
     ({"a.proto": "message M {} option ruby_package = ':';"}, ("rename", "M", "N"), "changed a.proto\n"),
     (EXTENDED_IN_PROTO3, ("rename", "x", "foo_bar"), "changed a.proto\n"),
     (EXTENDED_IN_PROTO3, ("rename", "N.y", "foo_bar"), "refused: 9 JsonClash\n"),
-]
-# Edits that the program refuses for the first custom option, which may stand in another file.
-REFUSED_EDITS = [
-    (WITH_CUSTOM, ("rename", "p.A", "Q"), "refused: 19 OptionValue a.proto:1:186\n"),
-    (WITH_CUSTOM, ("rename", "p.x", "y"), "refused: 19 OptionValue a.proto:1:186\n"),
-    (WITH_CUSTOM, ("delete-field", "p.A.f"), "refused: 19 OptionValue a.proto:1:186\n"),
-    (OF_X, ("rename", "x", "z"), "refused: 19 OptionValue y.proto:1:58\n"),
-    ({**OF_X, "z.proto": ""}, ("add-import", "x.proto", "z.proto"), "refused: 19 OptionValue y.proto:1:58\n"),
-    ({**OF_X, "y.proto": OF_X["y.proto"].replace("(x)", "(.x)")}, ("rename", "M", "N"), "refused: 19 OptionValue y.proto:1:58\n"),
-]
-# Edits in a workspace that is ahead, with what is printed.
-AHEAD_EDITS = [
     (WITH_CUSTOM, ("rename", "p.T.a", "c"), "refused: 19 OptionValue a.proto:1:193\n"),
     (WITH_CUSTOM, ("delete-field", "p.T.a"), "refused: 19 OptionValue a.proto:1:193\n"),
     (WITH_CUSTOM, ("rename", "p.U.b", "c"), "refused: 19 OptionValue a.proto:1:202\n"),
@@ -467,8 +455,8 @@ AHEAD_EDITS = [
     ("package google; message protobuf { message OneofOptions {} }", ("rename", "google.protobuf", "p"), "refused: 20 FixedName\n"),
 ]
 WITHIN = {"a.proto": INSIDE % "A.x", "d.proto": MESSAGE_OPTIONS}
-# The same of edits that are accepted there, with their splices.
-AHEAD_SPLICES = [
+# Edits that are accepted, with their splices.
+WRITTEN_SPLICES = [
     (WITH_CUSTOM, ("rename", "p.x", "y"), ["a.proto 90 x y", "a.proto 185 x y", "a.proto 246 x y"]),
     (WITH_CUSTOM, ("rename", "p.T", "V"), ["a.proto 88 T V", "a.proto 110 T V"]),
     (WITH_CUSTOM, ("rename", "p.A", "Q"), ["a.proto 173 A Q"]),

@@ -46,7 +46,7 @@ class Workspace:
     """Schemas by their paths, with their names. Texts are bytes read as Latin-1; files are given where they are read already.
 
     A workspace that is ahead has the rules of custom options that the program does not have yet: 31 NotInProto3 and 39 NotAnOption by
-    what an extension extends, and 19 OptionValue and 20 FixedName by what an edit concerns."""
+    what an extension extends."""
 
     def __init__(self, texts, as_written=False, files=None, is_ahead=False):
         self.texts, self.as_written, self.is_ahead = dict(texts), as_written, is_ahead

@@ -1,0 +1,5 @@
+mod CoreCustoms
+pub mod CustomLists
+pub mod EachCustom
+pub mod RisingCustoms
+pub mod Stretches

@@ -1,0 +1,10 @@
+use Rattle.std.proofs.Common.{codes, arith}
+use Rattle.proto_tree.specs.File.{method_item_tree}
+use Rattle.proto_custom_options.proofs.CustomLists.{all_customs, customs_turn}
+use Rattle.proto_custom_options.proofs.custom_options.push_method_items.Goals as goal
+
+pub loop-item-preserved : goal.loop-item-preserved
+loop-item-preserved c = customs_turn (codes "MethodOptions") method_item_tree c.args.items.now c.loop-item.item-index c.item-item.result _ _ _ c.loop-item-test.true c.item-item.is c.in_ok-push_method_item.ensures c.loop-item.invariant
+
+pub returns : goal.returns
+returns c = all_customs (codes "MethodOptions") method_item_tree c.args.items.now c.loop-item.item-index _ _ (omega arith) c.loop-item.invariant

@@ -1,0 +1,2 @@
+pub mod CustomOptions
+pub mod Views

@@ -1,0 +1,3 @@
+pub mod Declared
+pub mod Filled
+pub mod Renames

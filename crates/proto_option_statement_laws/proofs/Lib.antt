@@ -1,0 +1,14 @@
+mod DeletedMessages
+mod DeletedOptions
+mod DeletedTypes
+mod DeletedViews
+mod Deletions
+mod Imported
+mod ImportedTypes
+mod Lists
+mod Made
+mod Messages
+mod NamesMeant
+mod NotDeclared
+mod SameOptions
+mod Views

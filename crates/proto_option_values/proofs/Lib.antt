@@ -1,0 +1,9 @@
+mod Declaring
+mod FirstWord
+mod FixedNames
+mod ImportsBack
+mod LeastOf
+mod OptionsRead
+mod Turns
+mod WordsOfFile
+mod WrittenFiles

@@ -1,0 +1,5 @@
+pub mod Extensions
+pub mod FileWords
+pub mod FixedNames
+pub mod OptionValues
+pub mod Words
