@@ -1,12 +1,12 @@
 -- The numbers, names and phases of the faults of schemas: the table of this product.
 use Rattle.std.specs.Prelude.{ℕ, codes}
 use Rattle.proto_base.specs.declared.fault.FaultKind.{FaultKind}
-use Rattle.proto_base.specs.declared.fault.FaultKind.TheVariants.{TooLarge, NotUtf8, BadChar, OpenComment, OpenString, BadEscape, BadNumber, Syntax, TooDeep, UnknownImport, DoubleImport, ImportCycle, DuplicateName, Unresolved, WrongKind, MapEntryRef, NumberRange, DuplicateNumber, ReservedNumber, ReservedName, RangeOverlap, EmptyEnum, FirstNotZero, ClosedEnum, Label, BadMap, BadOption, BadDefault, EmptyOneof, JsonClash, NotInProto3, AliasNotAllowed, BadPath, DoublePath, TooManyFiles, NotExtendable, DuplicateExtension, RequiredExtension}
+use Rattle.proto_base.specs.declared.fault.FaultKind.TheVariants.{TooLarge, NotUtf8, BadChar, OpenComment, OpenString, BadEscape, BadNumber, Syntax, TooDeep, UnknownImport, DoubleImport, ImportCycle, DuplicateName, Unresolved, WrongKind, MapEntryRef, NumberRange, DuplicateNumber, ReservedNumber, ReservedName, RangeOverlap, EmptyEnum, FirstNotZero, ClosedEnum, Label, BadMap, BadOption, BadDefault, EmptyOneof, JsonClash, NotInProto3, AliasNotAllowed, BadPath, DoublePath, TooManyFiles, NotExtendable, DuplicateExtension, RequiredExtension, NotAnOption}
 use Rattle.proto_base.specs.declared.fault.SchemaFault.{SchemaFault}
 use Rattle.proto_base.specs.declared.fault.SchemaFault.TheVariants as answer
 use Rattle.proto_base.specs.Texts.{Text}
 
--- the number of each fault: 1 to 38, no two the same
+-- the number of each fault: 1 to 39, no two the same
 abbrev pub kind_number : FaultKind → ℕ
 kind_number TooLarge = 1
 kind_number NotUtf8 = 2
@@ -46,6 +46,7 @@ kind_number TooManyFiles = 35
 kind_number NotExtendable = 36
 kind_number DuplicateExtension = 37
 kind_number RequiredExtension = 38
+kind_number NotAnOption = 39
 
 -- the word that stands for each fault where one is printed
 abbrev pub kind_name : FaultKind → Text
@@ -87,6 +88,7 @@ kind_name TooManyFiles = codes "TooManyFiles"
 kind_name NotExtendable = codes "NotExtendable"
 kind_name DuplicateExtension = codes "DuplicateExtension"
 kind_name RequiredExtension = codes "RequiredExtension"
+kind_name NotAnOption = codes "NotAnOption"
 
 -- the phase that finds each fault: 0 paths, 1 text, 2 grammar, 3 imports, 4 names, 5 references,
 -- 6 checks
@@ -129,10 +131,11 @@ phase_of TooManyFiles = 0
 phase_of NotExtendable = 6
 phase_of DuplicateExtension = 6
 phase_of RequiredExtension = 6
+phase_of NotAnOption = 6
 
 -- ---- what is answered in place of files, a link, descriptors or a schema
 
--- the number of the fault, from 1 to 38; when out of memory, which is no fault of a schema, 0
+-- the number of the fault, from 1 to 39; when out of memory, which is no fault of a schema, 0
 abbrev pub answer_number : SchemaFault → ℕ
 answer_number (answer.Schema fault) = kind_number fault.kind
 answer_number answer.NoMemory = 0

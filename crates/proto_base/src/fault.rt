@@ -87,6 +87,8 @@ pub enum FaultKind {
     DuplicateExtension,
     /// 38: an extension with the label `required`.
     RequiredExtension,
+    /// 39: a custom option whose extension is one of another element.
+    NotAnOption,
 }
 
 impl fmt::Display for FaultKind {
@@ -142,10 +144,11 @@ impl FaultKind {
             FaultKind::DuplicateExtension =>
                 "an extension's number that an earlier one of the same message has",
             FaultKind::RequiredExtension => "a required extension",
+            FaultKind::NotAnOption => "a custom option whose extension is one of another element",
         }
     }
 
-    /// The number of the fault, from 1 to 38.
+    /// The number of the fault, from 1 to 39.
     pub fn number(self) -> u32
         ensures { result ≡ kind_number self }
     {
@@ -188,6 +191,7 @@ impl FaultKind {
             FaultKind::NotExtendable => 36,
             FaultKind::DuplicateExtension => 37,
             FaultKind::RequiredExtension => 38,
+            FaultKind::NotAnOption => 39,
         }
     }
 
@@ -234,6 +238,7 @@ impl FaultKind {
             FaultKind::NotExtendable => "NotExtendable",
             FaultKind::DuplicateExtension => "DuplicateExtension",
             FaultKind::RequiredExtension => "RequiredExtension",
+            FaultKind::NotAnOption => "NotAnOption",
         }
     }
 
@@ -281,6 +286,7 @@ impl FaultKind {
             FaultKind::NotExtendable => 6,
             FaultKind::DuplicateExtension => 6,
             FaultKind::RequiredExtension => 6,
+            FaultKind::NotAnOption => 6,
         }
     }
 }
@@ -298,7 +304,7 @@ pub struct Fault {
 }
 
 impl Fault {
-    /// The number of the fault, from 1 to 38.
+    /// The number of the fault, from 1 to 39.
     pub fn number(&self) -> u32
         ensures { result ≡ kind_number self.now.kind }
     {
@@ -326,7 +332,7 @@ pub enum SchemaFault {
 }
 
 impl SchemaFault {
-    /// The number of the fault, from 1 to 38, or 0 when out of memory.
+    /// The number of the fault, from 1 to 39, or 0 when out of memory.
     pub fn number(&self) -> u32
         ensures { result ≡ answer_number self.now }
     {

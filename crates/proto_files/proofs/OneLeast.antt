@@ -2,12 +2,12 @@
 use Rattle.std.proofs.Common.{◌≡◌, ℕ, ◌-◌, List, [], ◌∷◌, get_or, refl, sym, ap, ◌∙◌, nat_cmp}
 use Rattle.proto_base.proofs.Common.{Ordering, Less, Equal, Greater, IsTotalOrder, ordering_then, ordering_reverse, ranked, nat_cmp_total, nat_list_cmp_total, on_total, then_total, kind_number, phase_of}
 use Rattle.proto_base.specs.declared.fault.FaultKind.{FaultKind}
-use Rattle.proto_base.specs.declared.fault.FaultKind.TheVariants.{TooLarge, NotUtf8, BadChar, OpenComment, OpenString, BadEscape, BadNumber, Syntax, TooDeep, UnknownImport, DoubleImport, ImportCycle, DuplicateName, Unresolved, WrongKind, MapEntryRef, NumberRange, DuplicateNumber, ReservedNumber, ReservedName, RangeOverlap, EmptyEnum, FirstNotZero, ClosedEnum, Label, BadMap, BadOption, BadDefault, EmptyOneof, JsonClash, NotInProto3, AliasNotAllowed, BadPath, DoublePath, TooManyFiles, NotExtendable, DuplicateExtension, RequiredExtension}
+use Rattle.proto_base.specs.declared.fault.FaultKind.TheVariants.{TooLarge, NotUtf8, BadChar, OpenComment, OpenString, BadEscape, BadNumber, Syntax, TooDeep, UnknownImport, DoubleImport, ImportCycle, DuplicateName, Unresolved, WrongKind, MapEntryRef, NumberRange, DuplicateNumber, ReservedNumber, ReservedName, RangeOverlap, EmptyEnum, FirstNotZero, ClosedEnum, Label, BadMap, BadOption, BadDefault, EmptyOneof, JsonClash, NotInProto3, AliasNotAllowed, BadPath, DoublePath, TooManyFiles, NotExtendable, DuplicateExtension, RequiredExtension, NotAnOption}
 use Rattle.proto_files.specs.Common.{path_cmp, FaultAt, ComesBefore, fault_cmp, IsLeastFault}
 use Rattle.proto_files.proofs.PathOrder.{same_from_equal}
 
 abbrev kinds : List FaultKind
-kinds = TooLarge ∷ NotUtf8 ∷ BadChar ∷ OpenComment ∷ OpenString ∷ BadEscape ∷ BadNumber ∷ Syntax ∷ TooDeep ∷ UnknownImport ∷ DoubleImport ∷ ImportCycle ∷ DuplicateName ∷ Unresolved ∷ WrongKind ∷ MapEntryRef ∷ NumberRange ∷ DuplicateNumber ∷ ReservedNumber ∷ ReservedName ∷ RangeOverlap ∷ EmptyEnum ∷ FirstNotZero ∷ ClosedEnum ∷ Label ∷ BadMap ∷ BadOption ∷ BadDefault ∷ EmptyOneof ∷ JsonClash ∷ NotInProto3 ∷ AliasNotAllowed ∷ BadPath ∷ DoublePath ∷ TooManyFiles ∷ NotExtendable ∷ DuplicateExtension ∷ RequiredExtension ∷ []
+kinds = TooLarge ∷ NotUtf8 ∷ BadChar ∷ OpenComment ∷ OpenString ∷ BadEscape ∷ BadNumber ∷ Syntax ∷ TooDeep ∷ UnknownImport ∷ DoubleImport ∷ ImportCycle ∷ DuplicateName ∷ Unresolved ∷ WrongKind ∷ MapEntryRef ∷ NumberRange ∷ DuplicateNumber ∷ ReservedNumber ∷ ReservedName ∷ RangeOverlap ∷ EmptyEnum ∷ FirstNotZero ∷ ClosedEnum ∷ Label ∷ BadMap ∷ BadOption ∷ BadDefault ∷ EmptyOneof ∷ JsonClash ∷ NotInProto3 ∷ AliasNotAllowed ∷ BadPath ∷ DoublePath ∷ TooManyFiles ∷ NotExtendable ∷ DuplicateExtension ∷ RequiredExtension ∷ NotAnOption ∷ []
 
 -- the fault of a number
 abbrev kind_at : ℕ → FaultKind
@@ -52,6 +52,7 @@ kind_at-number_of TooManyFiles = refl
 kind_at-number_of NotExtendable = refl
 kind_at-number_of DuplicateExtension = refl
 kind_at-number_of RequiredExtension = refl
+kind_at-number_of NotAnOption = refl
 
 -- A number is that of one fault.
 pub kinds_by_number : (j k : FaultKind) → kind_number j ≡ kind_number k → j ≡ k

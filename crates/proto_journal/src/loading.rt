@@ -25,7 +25,7 @@ pub enum LoadFault {
 }
 
 impl LoadFault {
-    /// The number of the schema fault, from 1 to 38, or 0 for another fault.
+    /// The number of the schema fault, from 1 to 39, or 0 for another fault.
     pub fn number(&self) -> u32
         ensures { result ≡ load_fault_number self.now }
     {
