@@ -1,5 +1,4 @@
 pub mod Common
-pub mod CustomTrees
 mod Digits
 pub mod ItemBlocks
 pub mod JoinedTrees

@@ -1,5 +1,4 @@
 pub mod Common
-pub mod CustomNames
 pub mod JsonNames
 pub mod Labels
 pub mod Numbers

@@ -2,7 +2,6 @@
 //! and what references mean.
 #![tactic(auto)]
 
-mod custom_names;
 mod enum_values;
 mod fields;
 mod json_names;
@@ -18,7 +17,6 @@ mod separated;
 mod value_names;
 mod version;
 
-pub use custom_names::custom_name;
 pub use enum_values::values;
 pub use fields::{FieldAt, OptionAt, extension_fields, fields_of, next_field, options_between};
 pub use json_names::{json_digest, json_name};
