@@ -17,6 +17,7 @@ use Rattle.proto_resolved.specs.SceneOf.{scene_of}
 use Rattle.proto_desc_checks.specs.FileFlaws.{file_flaws}
 use Rattle.proto_names.specs.Following.{WasMadeOf}
 use Rattle.proto_names.specs.Linking.{LinkOf}
+use Rattle.proto_desc_extensions.specs.Extensions.{custom_flaws}
 use Rattle.proto_desc_extensions.proofs.NoExtensions.{no_flaw}
 use Rattle.proto_desc_affected.specs.Checked.{AreKeptOf, FileSummaryOf, KeptFilesTellUnaffected, StaysKept, file_summary, nothing_kept}
 use Rattle.proto_desc_affected.specs.Extended.{ExtendsAreUnaffected, HasNoExtend, UnaffectedFilesStayFlawless}
@@ -166,9 +167,14 @@ module _ (tells : KeptFilesTellUnaffected) (places : List ℕ) (before : List Fi
         let own = from_map (λ (m : Made). m.file) all file (marked_made file marked) in
         subst (λ k. file_flaws (scene_of None files reads k) (read_at reads k).tree ≡ []) own.2 ((made_is own.0 own.1).flawless reads sound.edited.are_read)
 
+    options_made : (file : ℕ) → get_or marks file false ≡ true → custom_flaws files reads file ≡ []
+    options_made file marked =
+        let own = from_map (λ (m : Made). m.file) all file (marked_made file marked) in
+        subst (λ k. custom_flaws files reads k ≡ []) own.2 ((made_is own.0 own.1).options reads sound.edited.are_read)
+
     flawless : UnaffectedFilesStayFlawless → HasNoFault (CheckFaults before) → (file : ℕ) → file < length files → flaws_of files reads file ≡ []
     flawless stay clean_before file within = elim (cases_Bool (get_or marks file false)) [
-      | inl marked ↦ ap₂ (λ (own others : List Flaw). own ++ others) (flawless_made file marked) (no_flaw None files reads file (has_none file within marked).1)
+      | inl marked ↦ ap₂ (λ (own others : List Flaw). own ++ others) (flawless_made file marked) (ap₂ (λ (own others : List Flaw). own ++ others) (no_flaw None files reads file (has_none file within marked).1) (options_made file marked))
       | inr unmarked ↦ stay places before was files reads sound extends_are_unaffected file (stays file within unmarked).unaffected (clean_file before clean_before was were file (was_within file within))
     ]
 

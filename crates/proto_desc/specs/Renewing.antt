@@ -2,6 +2,7 @@
 use Rattle.std.specs.Prelude.{◌≡◌, ℕ, List, [], length, map, slice_get, Some, None}
 use Rattle.std.specs.List.{All, Contains}
 use Rattle.proto_desc_checks.specs.FileFlaws.{file_flaws}
+use Rattle.proto_desc_extensions.specs.Extensions.{custom_flaws}
 use Rattle.proto_desc.specs.declared.descriptors.Descriptors.{Descriptors}
 use Rattle.proto_desc.specs.declared.renewing.Made.{Made}
 use Rattle.proto_desc_build.specs.Described.{file_described}
@@ -12,10 +13,13 @@ use Rattle.proto_desc_affected.specs.Checked.{IsKeptOf}
 use Rattle.proto_resolved.specs.SceneOf.{scene_of}
 use Rattle.proto_desc_affected.specs.Kept.{file_summary_of}
 
--- nothing is wrong with the file alone, and this is its descriptor, with what is kept of it
+-- nothing is wrong with the file alone, nor with its custom options, and this is its descriptor,
+-- with what is kept of it
 pub record IsMade (files : List FileOf) (m : Made) : Type 0 where
   pub flawless : (reads : List ReadOf) → AreRead files reads
       → file_flaws (scene_of None files reads m.file) (read_at reads m.file).tree ≡ []
+  pub options : (reads : List ReadOf) → AreRead files reads
+      → custom_flaws files reads m.file ≡ []
   pub described : (reads : List ReadOf) → AreRead files reads
       → file_desc m.descriptor
       ≡ file_described (scene_of None files reads m.file) (file_at files m.file).path

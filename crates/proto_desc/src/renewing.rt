@@ -22,6 +22,7 @@ use proto_desc_affected::marks::{
     files_of_enums, files_to_check, has_no_marked_extends, told_files_to_check,
 };
 use proto_desc_checks::file_flaws;
+use proto_desc_extensions::option_flaws;
 use proto_descriptors::FileDescriptor;
 use proto_file_sets::FileSet;
 use proto_names_update::NotUpdated;
@@ -57,6 +58,10 @@ fn check_again(
     let tree = files.tree(file);
     let flaws = file_flaws(alloc, &scene, tree)?;
     if !flaws.is_empty() {
+        return Err(NotUpdated::NeedsRebuild);
+    }
+    let of_options = option_flaws(alloc, linked, file)?;
+    if !of_options.is_empty() {
         return Err(NotUpdated::NeedsRebuild);
     }
     let descriptor = file_descriptor(alloc, &scene, files.path(file), tree)?;

@@ -1,12 +1,15 @@
 -- What is wrong with a proto3 file is the same without the names of values.
-use Rattle.std.proofs.Common.{◌≡◌, ℕ, Bool, true, not, ◌&&◌, ◌||◌, if◌then◌else◌, List, [], ◌++◌, map, flat_map, find, Option, Some, None, option_map, is_some, codes, refl, sym, ap, ◌∙◌}
+use Rattle.std.proofs.Common.{◌≡◌, ℕ, Bool, true, not, ◌&&◌, ◌||◌, if◌then◌else◌, List, [], ◌++◌, map, flat_map, find, Option, Some, None, option_map, is_some, codes, refl, sym, ap, ap₂, ◌∙◌}
 use Rattle.proto_base.specs.declared.fault.FaultKind.TheVariants as kind
+use Rattle.proto_base.specs.declared.profile.Profile.{Profile}
+use Rattle.proto_base.specs.declared.profile.Profile.TheVariants as profile
 use Rattle.proto_tree.specs.declared.piece.Header.{Header}
 use Rattle.proto_tree.specs.declared.piece.Header.TheVariants as header
 use Rattle.proto_tree.specs.declared.tree.FieldType.{FieldType}
 use Rattle.proto_tree.specs.declared.tree.FieldType.TheVariants as field_type
+use Rattle.proto_tree.specs.declared.tree.Reference.{Reference}
 use Rattle.proto_tree.specs.Tree.{Tree}
-use Rattle.proto_ast.proofs.Common.{is_named, FieldOf, OptionOf, BlockOf, statements, fields_in, closed_ranges, reserved_names_in, options_in, blocks_in, EnumOf, Scene, text, has_label}
+use Rattle.proto_ast.proofs.Common.{is_named, FieldOf, OptionOf, BlockOf, statements, fields_in, closed_ranges, reserved_names_in, options_in, blocks_in, EnumOf, MeantOf, Scene, meant_by, text, has_label}
 use Rattle.proto_ast.specs.declared.options.Element.{Element}
 use Rattle.proto_ast.specs.declared.options.Element.TheVariants as element
 use Rattle.proto_desc_numbers.specs.declared.flaw.Flaw.{Flaw}
@@ -14,8 +17,8 @@ use Rattle.proto_desc_numbers.proofs.Common.{flaw_if, number_of_field, range_of,
 use Rattle.proto_desc_checks.specs.FieldFlaws.{asks_js_type, asks_lazy, default_flaws, enum_of_type, field_flaws, flaws_of_extension, is_message_type, is_of_proto2, is_packable_type, is_past_zero, lacks_label, map_key_flaws, may_have_js_type, misfit_flaws, option_flaws, proto3_defaults, required_extensions, required_flaws, type_flaws, type_token, wrong_default}
 use Rattle.proto_desc_checks.specs.FileFlaws.{bars_extend, block_flaws, extend_flaws, extension_flaws, file_flaws, json_clashes, message_flaws, name_flaws}
 use Rattle.proto_desc_checks.proofs.KnownNames.{flat_map_same}
-use Rattle.proto_desc_affected.specs.Values.{ValueNamesMatterToNoProto3Flaws, enum_without_names, without_value_names}
-use Rattle.proto_desc_affected.proofs.ValueNames.{enum_nameless, some_nameless}
+use Rattle.proto_desc_affected.specs.Values.{ValueNamesMatterToNoProto3Flaws, enum_without_names, meant_without_names, without_value_names}
+use Rattle.proto_desc_affected.proofs.ValueNames.{enum_nameless, meant_nameless, some_nameless}
 
 past_zero_nameless : (o : Option EnumOf) → is_past_zero (option_map enum_without_names o) ≡ is_past_zero o
 past_zero_nameless None = refl
@@ -87,14 +90,22 @@ module _ (scene : Scene) (proto3 : scene.is_proto3 ≡ true) where
   extension_same : (f : FieldOf) → flaws_of_extension bare f ≡ flaws_of_extension scene f
   extension_same f = ap (λ (l : List Flaw). required_extensions scene f.label ++ l) (field_same element.Extension f)
 
-  extend_same : (keyword : ℕ) (within : Tree) → extend_flaws bare keyword within ≡ extend_flaws scene keyword within
-  extend_same keyword within =
-      ap (λ (l : List Flaw). flaw_if (bars_extend scene.profile scene.is_proto3) kind.NotInProto3 keyword ++ (outside is_field_number (map (number_of_field scene) (fields_in within)) ++ l))
+  bars_same : (r : Reference) → bars_extend scene.profile scene.is_proto3 (meant_by bare r) ≡ bars_extend scene.profile scene.is_proto3 (meant_by scene r)
+  bars_same r = ap (bars_extend scene.profile scene.is_proto3) (meant_nameless scene r) ∙ through scene.profile (meant_by scene r)
+    where
+      through : (p : Profile) (o : Option MeantOf) → bars_extend p scene.is_proto3 (option_map meant_without_names o) ≡ bars_extend p scene.is_proto3 o
+      through profile.Core o = refl
+      through profile.AsWritten None = refl
+      through profile.AsWritten (Some m) = refl
+
+  extend_same : (keyword : ℕ) (r : Reference) (within : Tree) → extend_flaws bare keyword r within ≡ extend_flaws scene keyword r within
+  extend_same keyword r within =
+      ap₂ (λ (v : Bool) (l : List Flaw). flaw_if v kind.NotInProto3 keyword ++ (outside is_field_number (map (number_of_field scene) (fields_in within)) ++ l)) (bars_same r)
       (flat_map_same (flaws_of_extension bare) (flaws_of_extension scene) extension_same (fields_in within))
 
   block_same : (h : Header) (within : Tree) → block_flaws bare h within ≡ block_flaws scene h within
   block_same (header.Message h) within = message_same within
-  block_same (header.Extend e) within = extend_same e.keyword within
+  block_same (header.Extend e) within = extend_same e.keyword e.extendee within
   block_same whole within = refl
 
   pub file_same : (tree : Tree) → file_flaws bare tree ≡ file_flaws scene tree

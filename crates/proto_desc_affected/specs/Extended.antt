@@ -1,5 +1,6 @@
 -- What is wrong with files that an edit of other files does not affect. The numbers of extensions
--- depend on other files: on the ranges of what they extend, and on the extensions before them.
+-- depend on other files: on the ranges of what they extend, and on the extensions before them. So
+-- do custom options: on what the extensions that they mean extend.
 use Rattle.std.specs.Prelude.{◌≡◌, ◌⊎◌, ℕ, ◌<◌, false, List, [], length, Option, Some, None}
 use Rattle.std.specs.List.{Contains}
 use Rattle.proto_base.specs.Texts.{Text}
@@ -55,14 +56,3 @@ UnaffectedFilesStayFlawless =
     → ExtendsAreUnaffected places before was files reads
     → (file : ℕ) → IsUnaffectedFile places before was files reads file
     → all_flaws None before was file ≡ [] → all_flaws None files reads file ≡ []
-
--- what is wrong with an unaffected file that has no `extend` block is what was, whatever the other
--- files have
-abbrev pub UnaffectedFlawsStay : Type 0
-UnaffectedFlawsStay =
-    (places : List ℕ) (before : List FileOf) (was : List ReadOf)
-    → (files : List FileOf) (reads : List ReadOf)
-    → AreSoundlyEdited places before was files reads
-    → (file : ℕ) → IsUnaffectedFile places before was files reads file
-    → has_extend (read_at reads file).tree ≡ false
-    → (cap : Option ℕ) → all_flaws cap files reads file ≡ all_flaws cap before was file

@@ -1,7 +1,7 @@
 //! The laws, as functions that do nothing.
 
 ghost use Rattle.proto_desc_affected.specs.Checked.{KeptFilesTellUnaffected, LinksHaveEnumsKept, LinksHaveWhatIsKept, LinksListReferences, MarksTellKept, MeantMessagesAreNoEnums};
-ghost use Rattle.proto_desc_affected.specs.Extended.{UnaffectedFilesStayFlawless, UnaffectedFlawsStay, UnaffectedFlawsOfFilesStay};
+ghost use Rattle.proto_desc_affected.specs.Extended.{UnaffectedFilesStayFlawless, UnaffectedFlawsOfFilesStay};
 ghost use Rattle.proto_desc_affected.specs.Unaffected.{CleanEditsAreSound, UnaffectedDescriptorsStay, UnaffectedScenesStay};
 ghost use Rattle.proto_desc_affected.specs.Values.{ValueNamesMatterToNoDescriptor, ValueNamesMatterToNoExtension, ValueNamesMatterToNoProto3Flaws};
 ghost use Rattle.proto_desc_affected.specs.Marks.{WantedEnumsAreThere};
@@ -15,14 +15,14 @@ pub fn clean_edits_are_sound()
 
 /// Of a file that an edit does not affect the scene is what it was, with any cap, and of a proto3
 /// file but for the names of enums' values (`scenes`). So are the descriptor (`descriptors`) and
-/// what is wrong with the file alone (`own`), and all that is wrong with one without an `extend`
-/// block (`flaws`). Where each file that has one is unaffected, and refers to what stood in files
-/// that are not edited, an unaffected file without a flaw has none still (`flawless`).
+/// what is wrong with the file alone (`own`). Where each file that has an `extend` block is
+/// unaffected, and refers to what stood in files that are not edited, an unaffected file without a
+/// flaw has none still (`flawless`): its custom options, too, are right, wherever the extensions
+/// that they mean stand.
 pub fn unaffected_files_stay()
     ensures scenes { UnaffectedScenesStay }
     ensures descriptors { UnaffectedDescriptorsStay }
     ensures own { UnaffectedFlawsOfFilesStay }
-    ensures flaws { UnaffectedFlawsStay }
     ensures flawless { UnaffectedFilesStayFlawless }
 {}
 

@@ -12,8 +12,9 @@ use Rattle.proto_tree.specs.declared.tree.FieldType.TheVariants as field_type
 use Rattle.proto_tree.specs.declared.tree.Range.{Range}
 use Rattle.proto_tree.specs.declared.tree.Signed.{Signed}
 use Rattle.proto_tree.specs.declared.tree.Value.{Value}
+use Rattle.proto_tree.specs.declared.tree.Reference.{Reference}
 use Rattle.proto_tree.specs.Tree.{Tree}
-use Rattle.proto_ast.proofs.Common.{is_named, is_one_of, FieldOf, OptionOf, BlockOf, statements, fields_in, values_in, closed_ranges, enum_ranges, reserved_names_in, options_in, blocks_in, Scene, text, number_at, signed_value, uncapped, has_label}
+use Rattle.proto_ast.proofs.Common.{is_named, is_one_of, FieldOf, OptionOf, BlockOf, statements, fields_in, values_in, closed_ranges, enum_ranges, reserved_names_in, options_in, blocks_in, Scene, meant_by, text, number_at, signed_value, uncapped, has_label}
 use Rattle.proto_ast.specs.declared.options.Element.{Element}
 use Rattle.proto_ast.specs.declared.options.Element.TheVariants as element
 use Rattle.proto_desc_numbers.specs.declared.flaw.Flaw.{Flaw}
@@ -259,10 +260,10 @@ module _ (scene : Scene) (c d : Option ℕ) (caps : AlikeCaps c d) where
   extension_same : (f : FieldOf) → flaws_of_extension one f ≡ flaws_of_extension two f
   extension_same f = ap (λ l. required_extensions one f.label ++ l) (field_same element.Extension f)
 
-  extend_same : (keyword : ℕ) (within : Tree) → extend_flaws one keyword within ≡ extend_flaws two keyword within
-  extend_same keyword within =
+  extend_same : (keyword : ℕ) (r : Reference) (within : Tree) → extend_flaws one keyword r within ≡ extend_flaws two keyword r within
+  extend_same keyword r within =
       let fs : List FieldOf = fields_in within in
-      let wrong : List Flaw = flaw_if (bars_extend scene.profile scene.is_proto3) kind.NotInProto3 keyword in
+      let wrong : List Flaw = flaw_if (bars_extend scene.profile scene.is_proto3 (meant_by scene r)) kind.NotInProto3 keyword in
       ap (λ l. wrong ++ (l ++ flat_map (flaws_of_extension one) fs))
       (outside_same is_field_number field_limit (λ x. x.number) (λ (f : FieldOf). number_at one f.number) (λ (f : FieldOf). number_at two f.number) (λ f. alike_at scene c d caps f.number) fs)
       ∙ ap (λ l. wrong ++ (outside is_field_number (map (number_of_field two) fs) ++ l)) (flat_map_same (flaws_of_extension one) (flaws_of_extension two) extension_same fs)
@@ -273,7 +274,7 @@ module _ (scene : Scene) (c d : Option ℕ) (caps : AlikeCaps c d) where
   covered_block (header.Message h) within = covered_message within
   covered_block (header.Oneof h) within = covered_equal (block_flaws two (header.Oneof h) within) (block_flaws one (header.Oneof h) within) (block_flaws two (header.Oneof h) within) refl
   covered_block (header.Enum h) within = covered_enum h.name within
-  covered_block (header.Extend e) within = covered_equal (block_flaws two (header.Extend e) within) (block_flaws one (header.Extend e) within) (block_flaws two (header.Extend e) within) (extend_same e.keyword within)
+  covered_block (header.Extend e) within = covered_equal (block_flaws two (header.Extend e) within) (block_flaws one (header.Extend e) within) (block_flaws two (header.Extend e) within) (extend_same e.keyword e.extendee within)
   covered_block whole within = covered_equal (block_flaws two whole within) (block_flaws one whole within) (block_flaws two whole within) refl
 
   pub covered_file : (tree : Tree) → Covered (file_flaws two tree) (file_flaws one tree) (file_flaws two tree)

@@ -26,7 +26,7 @@ use Rattle.proto_tree.specs.declared.tree.Settings.{Settings}
 use Rattle.proto_tree.specs.declared.tree.Signed.{Signed}
 use Rattle.proto_tree.specs.declared.tree.Value.{Value}
 use Rattle.proto_tree.proofs.Common.{Mark, flat_all, flat_behind, flat_header, flat_number, flat_option, flat_range, flat_reserved_list, flat_separated, flat_setting, flat_settings, flat_signed, flat_statement, flat_type, flat_up_to, flat_value, one as one_mark, only, text_mark, name, ReadsIn, Tree, End, Leaf, Block, flat, marks_fit_in}
-use Rattle.proto_ast.proofs.Common.{is_allowed, is_named, FieldOf, OptionOf, BlockOf, blocks_in, closed_ranges, enum_ranges, extension_words, fields_from, fields_in, map_field, reserved_names_of, options_in, setting_options, plain_field, ranges_of, reserved_names, reserved_names_in, separated, settings_of, statement_fields, statement_options, statement_values, statements, values_in, Scene, text, value, json_name_of}
+use Rattle.proto_ast.proofs.Common.{is_allowed, is_named, FieldOf, OptionOf, BlockOf, blocks_in, closed_ranges, enum_ranges, extension_words, fields_from, fields_in, map_field, reserved_names_of, options_in, setting_options, plain_field, ranges_of, reserved_names, reserved_names_in, separated, settings_of, statement_fields, statement_options, statement_values, statements, values_in, Scene, meant_by, text, value, json_name_of}
 use Rattle.proto_ast.specs.declared.options.Element.{Element}
 use Rattle.proto_ast.specs.declared.options.Element.TheVariants as element
 use Rattle.proto_desc_numbers.specs.declared.flaw.Flaw.{Flaw}
@@ -36,6 +36,7 @@ use Rattle.proto_desc_numbers.proofs.Common.{after_earlier, flaw_if, marked, bro
 use Rattle.proto_desc_checks.specs.Common.{bars_extend, extend_flaws, flaws_of_extension, required_extensions, default_flaws, field_flaws, has_closed_enum, lacks_label, map_key_flaws, misplaced_options, option_flaws, misfit_flaws, proto3_defaults, repeated_options, required_flaws, starts_wrong, type_flaws, type_token, wrong_default, alias_flaws, allows_alias, block_flaws, enum_flaws, extension_flaws, file_flaws, first_value_flaws, is_empty, json_clashes, message_flaws, name_flaws, reserved_again, value_number_flaws, value_option_flaws, with_reserved_name}
 use Rattle.proto_tree.specs.declared.tree.Setting.{Setting}
 use Rattle.proto_tree.specs.declared.tree.Setting.TheVariants as setting
+use Rattle.proto_tree.specs.declared.tree.Reference.{Reference}
 use Rattle.proto_base.specs.declared.profile.Profile.{Profile}
 
 -- ---- lists
@@ -442,11 +443,11 @@ module _ (Here : ℕ → Type 0) where
     extension_stands : (f : FieldOf) → FieldHere f → Stand (flaws_of_extension scene f)
     extension_stands f h = join (required_extensions scene f.label) _ (required_extension_stands f.label h.of_label) (field_stands element.Extension f h)
 
-    extend_stands : (keyword : ℕ) (within : Tree) → Here keyword → Marks (flat within) → Stand (extend_flaws scene keyword within)
-    extend_stands keyword within here m =
+    extend_stands : (keyword : ℕ) (r : Reference) (within : Tree) → Here keyword → Marks (flat within) → Stand (extend_flaws scene keyword r within)
+    extend_stands keyword r within here m =
         let fs : List FieldOf = fields_in within in
         let f = all_fields_here 0 within m in
-        join (flaw_if (bars_extend scene.profile scene.is_proto3) kind.NotInProto3 keyword) _ (flaw_here (bars_extend scene.profile scene.is_proto3) kind.NotInProto3 keyword here)
+        join (flaw_if (bars_extend scene.profile scene.is_proto3 (meant_by scene r)) kind.NotInProto3 keyword) _ (flaw_here (bars_extend scene.profile scene.is_proto3 (meant_by scene r)) kind.NotInProto3 keyword here)
         (join (outside is_field_number (map (number_of_field scene) fs)) _ (outside_here is_field_number (map (number_of_field scene) fs) (all_mapped FieldHere (λ x. Here x.token) (number_of_field scene) (λ x h. h.of_number) fs f))
         (each FieldHere (flaws_of_extension scene) extension_stands fs f))
 
@@ -459,7 +460,7 @@ module _ (Here : ℕ → Type 0) where
         go (header.Enum x) m = enum_stands x.name b.within m.1.0 h.of_within
         go (header.Service x) m = options_stand element.Service (options_in b.within) (parts_here (λ o. Here o.name) statement_options option_here b.within h.of_within)
         go (header.Method s) m = options_stand element.Method (options_in b.within) (parts_here (λ o. Here o.name) statement_options option_here b.within h.of_within)
-        go (header.Extend e) m = extend_stands e.keyword b.within m.0 h.of_within
+        go (header.Extend e) m = extend_stands e.keyword e.extendee b.within m.0 h.of_within
 
     file_stands : (tree : Tree) → Marks (flat tree) → Stand (file_flaws scene tree)
     file_stands tree m =

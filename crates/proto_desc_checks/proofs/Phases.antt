@@ -7,8 +7,9 @@ use Rattle.proto_base.specs.declared.fault.FaultKind.TheVariants as kind
 use Rattle.proto_tree.specs.declared.tree.Value.{Value}
 use Rattle.proto_tree.specs.declared.piece.Header.{Header}
 use Rattle.proto_tree.specs.declared.piece.Header.TheVariants as header
+use Rattle.proto_tree.specs.declared.tree.Reference.{Reference}
 use Rattle.proto_tree.specs.Tree.{Tree}
-use Rattle.proto_ast.proofs.Common.{is_allowed, is_named, is_one_of, FieldOf, OptionOf, statements, fields_in, values_in, closed_ranges, enum_ranges, reserved_names_in, extension_words, options_in, settings_of, BlockOf, blocks_in, Scene, text, value, json_name_of}
+use Rattle.proto_ast.proofs.Common.{is_allowed, is_named, is_one_of, FieldOf, OptionOf, statements, fields_in, values_in, closed_ranges, enum_ranges, reserved_names_in, extension_words, options_in, settings_of, BlockOf, blocks_in, Scene, meant_by, text, value, json_name_of}
 use Rattle.proto_ast.specs.declared.options.Element.{Element}
 use Rattle.proto_ast.specs.declared.options.Element.TheVariants as element
 use Rattle.proto_desc_numbers.specs.declared.flaw.Flaw.{Flaw}
@@ -171,9 +172,9 @@ of_required_extension : (scene : Scene) (label : Option ℕ) → AreOfChecks (re
 of_required_extension scene None = none
 of_required_extension scene (Some t) = one_if (bytes_eq (text scene t) (codes "required")) kind.RequiredExtension t refl
 
-of_extend : (scene : Scene) (keyword : ℕ) (within : Tree) → AreOfChecks (extend_flaws scene keyword within)
-of_extend scene keyword within =
-    both (one_if (bars_extend scene.profile scene.is_proto3) kind.NotInProto3 keyword refl)
+of_extend : (scene : Scene) (keyword : ℕ) (r : Reference) (within : Tree) → AreOfChecks (extend_flaws scene keyword r within)
+of_extend scene keyword r within =
+    both (one_if (bars_extend scene.profile scene.is_proto3 (meant_by scene r)) kind.NotInProto3 keyword refl)
     (both (of_limits is_field_number (map (number_of_field scene) (fields_in within)))
     (each (flaws_of_extension scene) (fields_in within) (λ f. both (of_required_extension scene f.label) (of_field scene element.Extension f))))
 
@@ -185,7 +186,7 @@ of_block scene (header.Oneof h) within = one_if (is_empty (fields_in within)) ki
 of_block scene (header.Enum h) within = of_enum scene h.name within
 of_block scene (header.Service h) within = of_options scene element.Service (options_in within)
 of_block scene (header.Method s) within = of_options scene element.Method (options_in within)
-of_block scene (header.Extend e) within = of_extend scene e.keyword within
+of_block scene (header.Extend e) within = of_extend scene e.keyword e.extendee within
 
 of_file : (scene : Scene) (tree : Tree) → AreOfChecks (file_flaws scene tree)
 of_file scene tree =

@@ -1,5 +1,5 @@
 -- What is wrong with a file as written is wrong with it in the core language, too (for the crates above).
-use Rattle.std.proofs.Common.{◌≡◌, ℕ, Bool, true, false, not, List, [], ◌∷◌, ◌++◌, map, flat_map, Option, Some, None, refl, sym, inl, inr, arith, true≢false, Contains}
+use Rattle.std.proofs.Common.{◌≡◌, ℕ, Bool, true, false, not, ◌&&◌, List, [], ◌∷◌, ◌++◌, map, flat_map, Option, Some, None, refl, sym, inl, inr, arith, true≢false, Contains}
 use Rattle.proto_base.proofs.Common.{Contains-append_cases, Contains-append_left, Contains-append_right}
 use Rattle.std.specs.Option.{option_or}
 use Rattle.proto_base.specs.declared.fault.FaultKind.{FaultKind}
@@ -9,15 +9,16 @@ use Rattle.proto_tree.specs.declared.piece.Header.{Header}
 use Rattle.proto_tree.specs.declared.piece.Header.TheVariants as header
 use Rattle.proto_tree.specs.declared.tree.Constant.{Constant}
 use Rattle.proto_tree.specs.declared.tree.Value.{Value}
+use Rattle.proto_tree.specs.declared.tree.Reference.{Reference}
 use Rattle.proto_tree.specs.Tree.{Tree}
-use Rattle.proto_ast.proofs.Common.{fits_kind, is_allowed, FieldOf, OptionOf, BlockOf, blocks_in, closed_ranges, enum_ranges, fields_in, options_in, reserved_names_in, settings_of, statements, values_in, Scene, text}
+use Rattle.proto_ast.proofs.Common.{fits_kind, is_allowed, FieldOf, OptionOf, BlockOf, blocks_in, closed_ranges, enum_ranges, fields_in, options_in, reserved_names_in, settings_of, statements, values_in, Scene, meant_by, text}
 use Rattle.proto_ast.specs.Options.{value_kind_of, written_kind_of}
 use Rattle.proto_ast.specs.declared.options.Element.{Element}
 use Rattle.proto_ast.specs.declared.options.Element.TheVariants as element
 use Rattle.proto_ast.specs.declared.options.ValueKind.{ValueKind}
 use Rattle.proto_desc_numbers.specs.declared.flaw.Flaw.{Flaw}
 use Rattle.proto_desc_numbers.proofs.Common.{flaw_if, enum_range_of, field_number_flaws, is_field_number, number_of_field, number_of_value, outside, range_of}
-use Rattle.proto_desc_checks.specs.Common.{block_flaws, default_flaws, enum_flaws, extend_flaws, extension_flaws, field_flaws, file_flaws, flaws_of_extension, is_empty, json_clashes, message_flaws, name_flaws, option_flaws, misfit_flaws, proto3_defaults, repeated_options, required_extensions, type_flaws, value_number_flaws, value_option_flaws}
+use Rattle.proto_desc_checks.specs.Common.{block_flaws, default_flaws, enum_flaws, extend_flaws, extension_flaws, field_flaws, file_flaws, flaws_of_extension, is_empty, is_of_options, json_clashes, message_flaws, name_flaws, option_flaws, misfit_flaws, proto3_defaults, repeated_options, required_extensions, type_flaws, value_number_flaws, value_option_flaws}
 use Rattle.proto_desc_checks.specs.Written.{FlawsAsWrittenAreOfCore, in_language}
 
 -- each of these is one of those (a record, so that the lists are found from it)
@@ -43,6 +44,10 @@ pub one_if : (b c : Bool) (k : FaultKind) (t : ℕ) → (b ≡ true → c ≡ tr
 one_if false c k t h = record { within = λ f d. absurd (omega (arith, d.1)) }
 one_if true true k t h = same
 one_if true false k t h = absurd (true≢false (sym (h refl)))
+
+first_true : (a b : Bool) → a && b ≡ true → a ≡ true
+first_true true b e = refl
+first_true false b e = e
 
 -- what is at fault of a kind or another is at fault of the first
 wrong_less : (text : ℕ → List ℕ) (kind other : Option ValueKind) (c : Constant) → not (fits_kind text (option_or kind other) c) ≡ true → not (fits_kind text kind c) ≡ true
@@ -88,9 +93,9 @@ module _ (scene : Scene) where
   extension_less : (f : FieldOf) → Within (flaws_of_extension now f) (flaws_of_extension was f)
   extension_less f = join (same {xs = required_extensions scene f.label}) (field_less element.Extension f)
 
-  extend_less : (keyword : ℕ) (within : Tree) → Within (extend_flaws now keyword within) (extend_flaws was keyword within)
-  extend_less keyword within =
-      join (one_if false scene.is_proto3 kind.NotInProto3 keyword (λ e. absurd (true≢false (sym e))))
+  extend_less : (keyword : ℕ) (r : Reference) (within : Tree) → Within (extend_flaws now keyword r within) (extend_flaws was keyword r within)
+  extend_less keyword r within =
+      join (one_if (scene.is_proto3 && not (is_of_options (meant_by scene r))) scene.is_proto3 kind.NotInProto3 keyword (first_true scene.is_proto3 (not (is_of_options (meant_by scene r)))))
       (join (same {xs = outside is_field_number (map (number_of_field scene) (fields_in within))})
       (each (flaws_of_extension now) (flaws_of_extension was) extension_less (fields_in within)))
 
@@ -100,7 +105,7 @@ module _ (scene : Scene) where
   block_less (header.Enum h) within = enum_less h.name within
   block_less (header.Service h) within = options_less element.Service (options_in within)
   block_less (header.Method s) within = options_less element.Method (options_in within)
-  block_less (header.Extend e) within = extend_less e.keyword within
+  block_less (header.Extend e) within = extend_less e.keyword e.extendee within
 
   pub file_less : (tree : Tree) → Within (file_flaws now tree) (file_flaws was tree)
   file_less tree =

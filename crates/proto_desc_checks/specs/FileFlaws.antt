@@ -1,20 +1,22 @@
 -- What is wrong with a file, block by block: its messages, oneofs, enums, services, methods and
 -- `extend` blocks, and its own options.
-use Rattle.std.specs.Prelude.{ℕ, pos, Bool, true, false, not, ◌&&◌, if◌then◌else◌, List, [], ◌∷◌, ◌++◌, map, flat_map, codes}
+use Rattle.std.specs.Prelude.{ℕ, pos, Bool, true, false, not, ◌&&◌, if◌then◌else◌, List, [], ◌∷◌, ◌++◌, map, flat_map, codes, Option, Some, None}
 use Rattle.std.specs.List.{list_any}
 use Rattle.std.specs.Ordering.{int_eq}
 use Rattle.std.specs.Str.{bytes_eq}
 use Rattle.proto_base.specs.declared.fault.FaultKind.TheVariants as kind
 use Rattle.proto_base.specs.declared.profile.Profile.{Profile}
 use Rattle.proto_base.specs.declared.profile.Profile.TheVariants as profile
+use Rattle.proto_tree.specs.declared.tree.Reference.{Reference}
 use Rattle.proto_tree.specs.declared.tree.Value.{Value}
 use Rattle.proto_tree.specs.declared.piece.Header.{Header}
 use Rattle.proto_tree.specs.declared.piece.Header.TheVariants as header
 use Rattle.proto_tree.specs.Tree.{Tree}
+use Rattle.proto_custom_options.specs.CustomOptions.{is_options_message}
 use Rattle.proto_ast.specs.JsonNames.{json_name_of}
 use Rattle.proto_ast.specs.Options.{is_named, is_one_of, truth_of, is_true}
 use Rattle.proto_ast.specs.Parts.{FieldOf, OptionOf, statements, fields_in, values_in, closed_ranges, enum_ranges, reserved_names_in, extension_words, options_in, settings_of, blocks_in}
-use Rattle.proto_ast.specs.Scenes.{Scene, text, value}
+use Rattle.proto_ast.specs.Scenes.{MeantOf, Scene, meant_by, text, value}
 use Rattle.proto_ast.specs.declared.options.Element.TheVariants as element
 use Rattle.proto_desc_numbers.specs.declared.flaw.Flaw.{Flaw}
 use Rattle.proto_desc_numbers.specs.declared.numbers.NumberAt.{NumberAt}
@@ -123,18 +125,24 @@ enum_flaws scene name within =
 
 -- ---- `extend` blocks
 
--- whether a file, which is proto3 or not, may have no `extend` block: in the core language a proto3
--- file may have none
-abbrev pub bars_extend : Profile → Bool → Bool
-bars_extend profile.Core proto3 = proto3
-bars_extend profile.AsWritten proto3 = false
+-- a reference means one of the nine options messages
+abbrev pub is_of_options : Option MeantOf → Bool
+is_of_options None = false
+is_of_options (Some m) = is_options_message m.name
 
--- what is wrong with an `extend` block, the token of whose keyword is given: 31 NotInProto3 there
--- in a file that may have none, the numbers of its extensions that no field may have, and each
--- extension
-abbrev pub extend_flaws : Scene → ℕ → Tree → List Flaw
-extend_flaws scene keyword within =
-    flaw_if (bars_extend scene.profile scene.is_proto3) kind.NotInProto3 keyword
+-- whether a file, which is proto3 or not, may have no `extend` block of what means this: in the core
+-- language a proto3 file may have none, as written only those of options messages
+abbrev pub bars_extend : Profile → Bool → Option MeantOf → Bool
+bars_extend profile.Core proto3 extended = proto3
+bars_extend profile.AsWritten proto3 extended = proto3 && not (is_of_options extended)
+
+-- what is wrong with an `extend` block, by its keyword and what it extends: 31 NotInProto3 at the
+-- keyword in a file that may not have it, the numbers of its extensions that no field may have, and
+-- each extension
+abbrev pub extend_flaws : Scene → ℕ → Reference → Tree → List Flaw
+extend_flaws scene keyword extendee within =
+    flaw_if (bars_extend scene.profile scene.is_proto3 (meant_by scene extendee))
+    kind.NotInProto3 keyword
     ++ (outside is_field_number (map (number_of_field scene) (fields_in within))
     ++ flat_map (flaws_of_extension scene) (fields_in within))
 
@@ -148,7 +156,7 @@ block_flaws scene (header.Oneof h) within =
 block_flaws scene (header.Enum h) within = enum_flaws scene h.name within
 block_flaws scene (header.Service h) within = option_flaws scene element.Service (options_in within)
 block_flaws scene (header.Method s) within = option_flaws scene element.Method (options_in within)
-block_flaws scene (header.Extend e) within = extend_flaws scene e.keyword within
+block_flaws scene (header.Extend e) within = extend_flaws scene e.keyword e.extendee within
 
 -- what is wrong with all blocks of a tree
 abbrev pub flaws_in_blocks : Scene → Tree → List Flaw

@@ -1,19 +1,21 @@
-//! What is wrong with an `extend` block: its keyword in a proto3 file of the core language, and its
+//! What is wrong with an `extend` block: its keyword in a proto3 file that may not have it, and its
 //! extensions.
 
 ghost use Rattle.std.specs.Prelude.{◌≡◌, ◌++◌, flat_map, map, OnOk};
 ghost use Rattle.proto_tree.specs.File.{extension_tree, trees};
 ghost use Rattle.proto_ast.specs.Parts.{fields_in};
+ghost use Rattle.proto_ast.specs.Scenes.{meant_by};
 ghost use Rattle.proto_ast.specs.Views.{field_of};
 ghost use Rattle.proto_desc_numbers.specs.NumberFlaws.{is_field_number, number_of_field, outside};
 ghost use Rattle.proto_desc_checks.specs.FieldFlaws.{flaws_of_extension, required_extensions};
-ghost use Rattle.proto_desc_checks.specs.FileFlaws.{bars_extend, extend_flaws};
+ghost use Rattle.proto_desc_checks.specs.FileFlaws.{bars_extend, extend_flaws, is_of_options};
 
 use crate::fields::add_field_flaws;
 use proto_ast::{Element, FieldAt, Scene, extension_fields};
 use proto_base::{FaultKind, NoMemory, Profile};
+use proto_custom_options::is_options_message;
 use proto_desc_numbers::{Flaw, add_if, add_outside_fields, field_numbers};
-use proto_tree::Extend;
+use proto_tree::{Extend, Reference};
 use std::alloc::Global;
 
 fn add_required(found: &mut Vec<Flaw>, scene: &Scene, label: Option<u32>) -> Result<(), NoMemory>
@@ -70,13 +72,24 @@ fn add_numbers(
     add_outside_fields(found, &numbers)
 }
 
-// Whether the file may have no `extend` block.
-fn bars_extend(scene: &Scene) -> bool
-    ensures { result ≡ bars_extend scene.now.profile scene.now.is_proto3 }
+// Whether a reference means one of the nine options messages.
+fn is_of_options(scene: &Scene, reference: &Reference) -> bool
+    ensures { result ≡ is_of_options (meant_by scene.now reference.now) }
+{
+    match scene.meaning(reference) {
+        Some(meant) => is_options_message(meant.name),
+        None => false,
+    }
+}
+
+// Whether the file may have no `extend` block of this message.
+fn bars_extend(scene: &Scene, extendee: &Reference) -> bool
+    ensures { result ≡ bars_extend scene.now.profile scene.now.is_proto3
+        (meant_by scene.now extendee.now) }
 {
     match scene.profile() {
         Profile::Core => scene.is_proto3(),
-        Profile::AsWritten => false,
+        Profile::AsWritten => scene.is_proto3() && !is_of_options(scene, extendee),
     }
 }
 
@@ -91,10 +104,10 @@ fn add_flaws_with_fields(
     requires { map field_of fields.now
         ≡ fields_in (trees extension_tree extend.now.fields.items) }
     ensures { OnOk result (found.new.items ≡ found.old.items
-        ++ extend_flaws scene.now extend.now.keyword
+        ++ extend_flaws scene.now extend.now.keyword extend.now.extendee
         (trees extension_tree extend.now.fields.items)) }
 {
-    let is_barred = bars_extend(scene);
+    let is_barred = bars_extend(scene, &extend.extendee);
     add_if(found, is_barred, FaultKind::NotInProto3, extend.keyword)?;
     add_numbers(alloc, found, scene, fields)?;
     add_extensions(alloc, found, scene, fields)
@@ -108,7 +121,7 @@ pub(crate) fn add_extend_flaws(
     extend: &Extend,
 ) -> Result<(), NoMemory>
     ensures { OnOk result (found.new.items ≡ found.old.items
-        ++ extend_flaws scene.now extend.now.keyword
+        ++ extend_flaws scene.now extend.now.keyword extend.now.extendee
         (trees extension_tree extend.now.fields.items)) }
 {
     let fields = extension_fields(alloc, &extend.fields)?;

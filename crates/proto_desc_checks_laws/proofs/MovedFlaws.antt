@@ -3,6 +3,8 @@ use Rattle.std.proofs.Common.{◌≡◌, ℕ, ℤ, pos, neg_ℤ, Bool, true, fal
 use Rattle.proto_base.proofs.Common.{list_any, map-append}
 use Rattle.proto_base.specs.declared.fault.FaultKind.{FaultKind}
 use Rattle.proto_base.specs.declared.fault.FaultKind.TheVariants as kind
+use Rattle.proto_base.specs.declared.profile.Profile.{Profile}
+use Rattle.proto_base.specs.declared.profile.Profile.TheVariants as language
 use Rattle.proto_tree.specs.declared.piece.Header.{Header}
 use Rattle.proto_tree.specs.declared.piece.Header.TheVariants as header
 use Rattle.proto_tree.specs.declared.tree.Constant.{Constant}
@@ -12,11 +14,12 @@ use Rattle.proto_tree.specs.declared.tree.FieldType.TheVariants as field_type
 use Rattle.proto_tree.specs.declared.tree.Range.{Range}
 use Rattle.proto_tree.specs.declared.tree.RangeEnd.{RangeEnd}
 use Rattle.proto_tree.specs.declared.tree.RangeEnd.TheVariants as range_end
+use Rattle.proto_tree.specs.declared.tree.Reference.{Reference}
 use Rattle.proto_tree.specs.declared.tree.Signed.{Signed}
 use Rattle.proto_tree.specs.declared.tree.UpTo.{UpTo}
 use Rattle.proto_tree.specs.declared.tree.Value.{Value}
-use Rattle.proto_tree.proofs.Common.{Move, move_constant, move_header, move_option, move_range, move_range_end, move_separated, move_signed, move_tree, move_type, move_up_to, move_value, Tree, first_of}
-use Rattle.proto_ast.proofs.Common.{c_types, number_value, fits_kind, idempotency_levels, is_allowed, is_named, is_one_of, is_text_value, is_word_of, js_types, optimize_modes, text_of_constant, truth_named, value_kind_as, word_of, is_true, FieldOf, OptionOf, blocks_in, closed_ranges, enum_ranges, extension_words, fields_in, options_in, reserved_names_in, settings_of, statements, values_in, Scene, number_at, signed_value, text, up_to_cap, value, is_label_word, json_name_of, written_or}
+use Rattle.proto_tree.proofs.Common.{Move, move_constant, move_header, move_option, move_range, move_range_end, move_reference, move_separated, move_signed, move_tree, move_type, move_up_to, move_value, Tree, first_of}
+use Rattle.proto_ast.proofs.Common.{c_types, number_value, fits_kind, idempotency_levels, is_allowed, is_named, is_one_of, is_text_value, is_word_of, js_types, optimize_modes, text_of_constant, truth_named, value_kind_as, word_of, is_true, FieldOf, OptionOf, blocks_in, closed_ranges, enum_ranges, extension_words, fields_in, options_in, reserved_names_in, settings_of, statements, values_in, Scene, meant_by, number_at, signed_value, text, up_to_cap, value, is_label_word, json_name_of, written_or}
 use Rattle.proto_ast.specs.declared.options.Element.{Element}
 use Rattle.proto_ast.specs.declared.options.Element.TheVariants as element
 use Rattle.proto_ast.specs.declared.options.ValueKind.{ValueKind}
@@ -384,11 +387,19 @@ module _ (g : Move) (a b : Scene) (is : IsMoved g a b) where
   extension_moved : (f : FieldOf) → Moves g (flaws_of_extension b (move_field_of g f)) (flaws_of_extension a f)
   extension_moved f = join (required_extension_moved f.label) (field_moved element.Extension f)
 
-  extend_moved : (keyword : ℕ) (within : Tree) → Moves g (extend_flaws b (g keyword) (move_tree g within)) (extend_flaws a keyword within)
-  extend_moved keyword within =
+  -- a file may have an `extend` block in both scenes or in neither
+  bars_moved : (r : Reference) → bars_extend b.profile b.is_proto3 (meant_by b (move_reference g r)) ≡ bars_extend a.profile a.is_proto3 (meant_by a r)
+  bars_moved r = ap₂ (λ p v. bars_extend p v (meant_by b (move_reference g r))) (sym is.profile) version ∙ go a.profile
+    where
+      go : (p : Profile) → bars_extend p a.is_proto3 (meant_by b (move_reference g r)) ≡ bars_extend p a.is_proto3 (meant_by a r)
+      go language.Core = refl
+      go language.AsWritten = ap (λ v. a.is_proto3 && not v) (is.options r)
+
+  extend_moved : (keyword : ℕ) (r : Reference) (within : Tree) → Moves g (extend_flaws b (g keyword) (move_reference g r) (move_tree g within)) (extend_flaws a keyword r within)
+  extend_moved keyword r within =
       let fs : List FieldOf = fields_in within in
       let f : fields_in (move_tree g within) ≡ map (move_field_of g) fs = fields_moved g 0 within in
-      join (if_moved g kind.NotInProto3 keyword (ap₂ bars_extend (sym is.profile) version))
+      join (if_moved g kind.NotInProto3 keyword (bars_moved r))
       (join (outside_moved g is_field_number (map (number_of_field a) fs)
       (ap (map (number_of_field b)) f ∙ maps_moved (move_field_of g) (move_number_at g) (number_of_field a) (number_of_field b) field_number_moved fs))
       (each g (move_field_of g) (flaws_of_extension a) (flaws_of_extension b) extension_moved fs f))
@@ -401,7 +412,7 @@ module _ (g : Move) (a b : Scene) (is : IsMoved g a b) where
   block_moved (header.Enum h) within = enum_flaws_moved h.name within
   block_moved (header.Service h) within = option_flaws_moved element.Service (options_in within) (options_moved g within)
   block_moved (header.Method s) within = option_flaws_moved element.Method (options_in within) (options_moved g within)
-  block_moved (header.Extend e) within = extend_moved e.keyword within
+  block_moved (header.Extend e) within = extend_moved e.keyword e.extendee within
 
   file_moved : (s t : Tree) → options_in t ≡ map (move_option_of g) (options_in s) → blocks_in t ≡ map (move_block_of g) (blocks_in s) → Moves g (file_flaws b t) (file_flaws a s)
   file_moved s t os bs = join (option_flaws_moved element.File (options_in s) os) (each g (move_block_of g) _ _ (λ x. block_moved x.header x.within) (blocks_in s) bs)

@@ -5,8 +5,9 @@ use Rattle.proto_base.specs.declared.fault.FaultKind.{FaultKind}
 use Rattle.proto_base.specs.declared.fault.FaultKind.TheVariants as kind
 use Rattle.proto_tree.specs.declared.piece.Header.{Header}
 use Rattle.proto_tree.specs.declared.piece.Header.TheVariants as header
+use Rattle.proto_tree.specs.declared.tree.Reference.{Reference}
 use Rattle.proto_tree.specs.Tree.{Tree}
-use Rattle.proto_ast.proofs.Common.{is_allowed, is_named, BlockOf, FieldOf, OptionOf, blocks_in, closed_ranges, enum_ranges, extension_words, fields_in, options_in, reserved_names_in, settings_of, statements, values_in, Scene, text, value, json_name_of}
+use Rattle.proto_ast.proofs.Common.{is_allowed, is_named, BlockOf, FieldOf, OptionOf, blocks_in, closed_ranges, enum_ranges, extension_words, fields_in, options_in, reserved_names_in, settings_of, statements, values_in, Scene, meant_by, text, value, json_name_of}
 use Rattle.proto_ast.specs.declared.options.Element.{Element}
 use Rattle.proto_ast.specs.declared.options.Element.TheVariants as element
 use Rattle.proto_desc_numbers.specs.declared.flaw.Flaw.{Flaw}
@@ -163,9 +164,9 @@ module _ (s : Scene) where
   required_extension_none None = nothing
   required_extension_none (Some t) = if_none kind.RequiredExtension refl _ t
 
-  extend_leaves : (keyword : ℕ) (within : Tree) → Leaves (extend_flaws s keyword within) (flat_map (default_flaws s) (fields_in within))
-  extend_leaves keyword within =
-      none_before (if_none kind.NotInProto3 refl (bars_extend s.profile s.is_proto3) keyword)
+  extend_leaves : (keyword : ℕ) (r : Reference) (within : Tree) → Leaves (extend_flaws s keyword r within) (flat_map (default_flaws s) (fields_in within))
+  extend_leaves keyword r within =
+      none_before (if_none kind.NotInProto3 refl (bars_extend s.profile s.is_proto3 (meant_by s r)) keyword)
       (none_before (outside_none is_field_number (map (number_of_field s) (fields_in within)))
       (each (flaws_of_extension s) (default_flaws s) (λ f. none_before (required_extension_none f.label) (field_leaves element.Extension f)) (fields_in within)))
 
@@ -175,7 +176,7 @@ module _ (s : Scene) where
   block_leaves (header.Oneof h) within = if_none kind.EmptyOneof refl _ h.name
   block_leaves (header.Service h) within = options_none element.Service (options_in within)
   block_leaves (header.Method x) within = options_none element.Method (options_in within)
-  block_leaves (header.Extend e) within = extend_leaves e.keyword within
+  block_leaves (header.Extend e) within = extend_leaves e.keyword e.extendee within
 
 pub flaws_of_names : FlawsOfNames
 flaws_of_names s tree =

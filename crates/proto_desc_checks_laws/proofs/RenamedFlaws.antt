@@ -14,11 +14,12 @@ use Rattle.proto_tree.specs.declared.tree.FieldType.TheVariants as field_type
 use Rattle.proto_tree.specs.declared.tree.Range.{Range}
 use Rattle.proto_tree.specs.declared.tree.RangeEnd.{RangeEnd}
 use Rattle.proto_tree.specs.declared.tree.RangeEnd.TheVariants as range_end
+use Rattle.proto_tree.specs.declared.tree.Reference.{Reference}
 use Rattle.proto_tree.specs.declared.tree.Signed.{Signed}
 use Rattle.proto_tree.specs.declared.tree.UpTo.{UpTo}
 use Rattle.proto_tree.specs.declared.tree.Value.{Value}
 use Rattle.proto_tree.specs.Tree.{Tree}
-use Rattle.proto_ast.proofs.Common.{c_types, number_value, fits_kind, idempotency_levels, is_allowed, is_named, is_word_of, js_types, optimize_modes, truth_named, truth_of, value_kind_as, word_of, is_true, BlockOf, FieldOf, OptionOf, blocks_in, closed_ranges, enum_ranges, extension_words, fields_in, options_in, reserved_names_in, settings_of, statements, values_in, EnumOf, Scene, enum_meant, number_at, signed_value, text, up_to_cap, value, is_label_word, json_name_of, is_one_of}
+use Rattle.proto_ast.proofs.Common.{c_types, number_value, fits_kind, idempotency_levels, is_allowed, is_named, is_word_of, js_types, optimize_modes, truth_named, truth_of, value_kind_as, word_of, is_true, BlockOf, FieldOf, OptionOf, blocks_in, closed_ranges, enum_ranges, extension_words, fields_in, options_in, reserved_names_in, settings_of, statements, values_in, EnumOf, Scene, enum_meant, meant_by, number_at, signed_value, text, up_to_cap, value, is_label_word, json_name_of, is_one_of}
 use Rattle.proto_ast.specs.declared.options.Element.{Element}
 use Rattle.proto_ast.specs.declared.options.Element.TheVariants as element
 use Rattle.proto_ast.specs.declared.options.ValueKind.{ValueKind}
@@ -28,7 +29,7 @@ use Rattle.proto_desc_numbers.specs.declared.numbers.NumberAt.{NumberAt}
 use Rattle.proto_ast.specs.declared.ranges.RangeAt.{RangeAt}
 use Rattle.proto_desc_numbers.proofs.Common.{after_earlier, flaw, flaw_if, marked, bound_of, broken_ranges, end_of, enum_range_of, first_of_signed, is_field_number, is_value_number, least_value, most_field, most_value, number_of_field, number_of_value, outside, overlaps, range_of, repeated_numbers, reserved_numbers, field_number_flaws}
 use Rattle.proto_desc_checks.proofs.Common.{bars_extend, default_flaws, enum_of_type, extend_flaws, field_flaws, flaws_of_extension, is_packable_type, is_unpackable, map_key_flaws, may_default, no_map_keys, option_flaws, required_extensions, required_flaws, type_flaws, type_token, wrong_default, block_flaws, enum_flaws, file_flaws, first_value_flaws, json_clashes, message_flaws, name_flaws, value_number_flaws, value_option_flaws, aft, fore, asks_js_type, asks_lazy, is_long_type, is_message_type, long_types, other_js_types, lazy_options, is_misfit}
-use Rattle.proto_desc_checks_laws.specs.Renamed.{DifferInNames, NamesDecideThreeKinds, SameButValues, asked_tokens, block_tokens, but_names, constant_tokens, end_tokens, enum_tokens, field_tokens, header_tokens, is_of_names, message_tokens, option_tokens, range_tokens, scalar_tokens, up_to_tokens, value_tokens}
+use Rattle.proto_desc_checks_laws.specs.Renamed.{DifferInNames, NamesDecideThreeKinds, OptionsMessagesStay, SameButValues, asked_tokens, block_tokens, but_names, constant_tokens, end_tokens, enum_tokens, field_tokens, header_tokens, is_of_names, message_tokens, option_tokens, range_tokens, scalar_tokens, up_to_tokens, value_tokens}
 
 -- ---- flaws that are the same but for those of names
 
@@ -101,7 +102,7 @@ seen_same none some (Some d) (Some e) h = ap₂ some h.0 h.1
 seen_same none some None (Some e) h = absurd h
 seen_same none some (Some d) None h = absurd h
 
-module _ (named : ℕ → Bool) (a b : Scene) (differ : DifferInNames named a b) where
+module _ (named : ℕ → Bool) (a b : Scene) (differ : DifferInNames named a b) (stay : OptionsMessagesStay a b) where
   -- none of the tokens is renamed
   abbrev Kept : List ℕ → Type 0
   Kept ts = AllByRecursion (λ t. named t ≡ false) ts
@@ -339,10 +340,18 @@ module _ (named : ℕ → Bool) (a b : Scene) (differ : DifferInNames named a b)
   extension_same : (f : FieldOf) → Kept (field_tokens a f) → SameBut (flaws_of_extension a f) (flaws_of_extension b f)
   extension_same f k = join (equal (required_extension_same f.label (field_kept f k).0)) (field_same element.Extension f k)
 
-  extend_same : (keyword : ℕ) (within : Tree) → Kept (flat_map (field_tokens a) (fields_in within)) → SameBut (extend_flaws a keyword within) (extend_flaws b keyword within)
-  extend_same keyword within k =
+  -- a file may have an `extend` block in both scenes or in neither
+  bars_same : (r : Reference) → bars_extend a.profile a.is_proto3 (meant_by a r) ≡ bars_extend b.profile b.is_proto3 (meant_by b r)
+  bars_same r = go a.profile refl ∙ ap₂ (λ p v. bars_extend p v (meant_by b r)) differ.profile differ.version
+    where
+      go : (p : Profile) → a.profile ≡ p → bars_extend p a.is_proto3 (meant_by a r) ≡ bars_extend p a.is_proto3 (meant_by b r)
+      go language.Core e = refl
+      go language.AsWritten e = ap (λ v. a.is_proto3 && not v) (stay e r)
+
+  extend_same : (keyword : ℕ) (r : Reference) (within : Tree) → Kept (flat_map (field_tokens a) (fields_in within)) → SameBut (extend_flaws a keyword r within) (extend_flaws b keyword r within)
+  extend_same keyword r within k =
       let fs : List FieldOf = fields_in within in
-      join (equal (ap₂ (λ p v. flaw_if (bars_extend p v) kind.NotInProto3 keyword) differ.profile differ.version))
+      join (equal (ap (λ v. flaw_if v kind.NotInProto3 keyword) (bars_same r)))
       (join (equal (ap (outside is_field_number) (maps (field_tokens a) (number_of_field a) (number_of_field b) field_number_same fs k)))
       (each (field_tokens a) (flaws_of_extension a) (flaws_of_extension b) extension_same fs k))
 
@@ -358,7 +367,7 @@ module _ (named : ℕ → Bool) (a b : Scene) (differ : DifferInNames named a b)
       go (header.Enum h) m = enum_same h.name x.within m os
       go (header.Service h) m = options_same element.Service (options_in x.within) os
       go (header.Method s) m = options_same element.Method (options_in x.within) os
-      go (header.Extend e) m = extend_same e.keyword x.within m
+      go (header.Extend e) m = extend_same e.keyword e.extendee x.within m
 
   file_same : (tree : Tree) → Kept (asked_tokens a tree) → SameBut (file_flaws a tree) (file_flaws b tree)
   file_same tree k =
@@ -367,4 +376,4 @@ module _ (named : ℕ → Bool) (a b : Scene) (differ : DifferInNames named a b)
       join (options_same element.File (options_in tree) (left options blocks k)) (each (block_tokens a) _ _ block_same (blocks_in tree) (right options blocks k))
 
 pub names_decide_three_kinds : NamesDecideThreeKinds
-names_decide_three_kinds named a b tree differ kept = (file_same named a b differ tree (recursion_from_All (λ t. named t ≡ false) (asked_tokens a tree) kept)).same
+names_decide_three_kinds named a b tree differ stay kept = (file_same named a b differ stay tree (recursion_from_All (λ t. named t ≡ false) (asked_tokens a tree) kept)).same

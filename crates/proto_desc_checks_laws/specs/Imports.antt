@@ -4,9 +4,9 @@ use Rattle.proto_tree.specs.declared.piece.Statement.TheVariants as statement
 use Rattle.proto_tree.specs.declared.tree.Reference.{Reference}
 use Rattle.proto_tree.specs.Moved.{Move, move_reference, move_tree}
 use Rattle.proto_tree.specs.Tree.{Tree, End, Leaf, Block}
-use Rattle.proto_ast.specs.Scenes.{Scene, enum_meant, text, value}
+use Rattle.proto_ast.specs.Scenes.{Scene, enum_meant, meant_by, text, value}
 use Rattle.proto_desc_numbers.specs.declared.flaw.Flaw.{Flaw}
-use Rattle.proto_desc_checks.specs.FileFlaws.{file_flaws}
+use Rattle.proto_desc_checks.specs.FileFlaws.{file_flaws, is_of_options}
 
 -- the second scene reads at the other index of each token what the first reads at the token
 pub record IsMoved (g : Move) (a b : Scene) : Type 0 where
@@ -16,6 +16,8 @@ pub record IsMoved (g : Move) (a b : Scene) : Type 0 where
   pub texts : (t : ℕ) → text b (g t) ≡ text a t
   pub strings : (t : ℕ) → value b (g t) ≡ value a t
   pub enums : (r : Reference) → enum_meant b (move_reference g r) ≡ enum_meant a r
+  pub options : (r : Reference)
+      → is_of_options (meant_by b (move_reference g r)) ≡ is_of_options (meant_by a r)
 
 -- a file without its imports
 abbrev pub without_imports : Tree → Tree

@@ -3,6 +3,7 @@ use Rattle.std.specs.Prelude.{◌≡◌, ℕ, Bool, true, false, not, if◌then�
 use Rattle.std.specs.List.{All}
 use Rattle.proto_base.specs.declared.fault.FaultKind.{FaultKind}
 use Rattle.proto_base.specs.declared.fault.FaultKind.TheVariants as kind
+use Rattle.proto_base.specs.declared.profile.Profile.TheVariants as profile
 use Rattle.proto_tree.specs.declared.piece.Header.{Header}
 use Rattle.proto_tree.specs.declared.piece.Header.TheVariants as header
 use Rattle.proto_tree.specs.declared.tree.Constant.{Constant}
@@ -19,9 +20,9 @@ use Rattle.proto_tree.specs.declared.tree.Value.{Value}
 use Rattle.proto_tree.specs.Tree.{Tree}
 use Rattle.proto_ast.specs.Options.{is_named}
 use Rattle.proto_ast.specs.Parts.{BlockOf, FieldOf, OptionOf, blocks_in, closed_ranges, enum_ranges, fields_in, options_in, settings_of, statements, values_in}
-use Rattle.proto_ast.specs.Scenes.{EnumOf, Scene, enum_meant, text}
+use Rattle.proto_ast.specs.Scenes.{EnumOf, Scene, enum_meant, meant_by, text}
 use Rattle.proto_desc_numbers.specs.declared.flaw.Flaw.{Flaw}
-use Rattle.proto_desc_checks.specs.FileFlaws.{file_flaws}
+use Rattle.proto_desc_checks.specs.FileFlaws.{file_flaws, is_of_options}
 
 -- ---- two scenes of one tree
 
@@ -41,6 +42,11 @@ pub record DifferInNames (named : ℕ → Bool) (a b : Scene) : Type 0 where
   pub caps : a.cap ≡ b.cap
   pub texts : (t : ℕ) → named t ≡ false → text a t ≡ text b t
   pub enums : (r : Reference) → SameButValues (enum_meant a r) (enum_meant b r)
+
+-- in a file as written, each reference means an options message in both scenes or in neither
+abbrev pub OptionsMessagesStay : Scene → Scene → Type 0
+OptionsMessagesStay a b = a.profile ≡ profile.AsWritten
+    → (r : Reference) → is_of_options (meant_by a r) ≡ is_of_options (meant_by b r)
 
 -- ---- the tokens that sentences read besides names
 
@@ -132,9 +138,9 @@ is_of_names _ = false
 abbrev pub but_names : List Flaw → List Flaw
 but_names flaws = filter (λ (f : Flaw). not (is_of_names f.kind)) flaws
 
--- Where no token is renamed that sentences read besides names, the flaws are the same but for those
--- that names decide.
+-- Where no token is renamed that sentences read besides names, and options messages stay, the flaws
+-- are the same but for those that names decide.
 abbrev pub NamesDecideThreeKinds : Type 0
 NamesDecideThreeKinds = (named : ℕ → Bool) (a b : Scene) (tree : Tree) → DifferInNames named a b
-    → All (λ t. named t ≡ false) (asked_tokens a tree)
+    → OptionsMessagesStay a b → All (λ t. named t ≡ false) (asked_tokens a tree)
     → but_names (file_flaws a tree) ≡ but_names (file_flaws b tree)

@@ -16,7 +16,7 @@ use Rattle.proto_desc_checks.proofs.Common.{file_flaws}
 use Rattle.proto_desc_checks.proofs.CappedFlaws.{covered_file}
 use Rattle.proto_resolved.specs.SceneOf.{declared_as, scene_of}
 use Rattle.proto_desc_extensions.specs.Capped.{CapsKeepTheLeastOfFile}
-use Rattle.proto_desc_extensions.specs.Common.{ExtensionOf, all_flaws, are_same, is_extendable, is_message_at, ranges_at_place, ranges_named, ranges_within, workspace_flaws}
+use Rattle.proto_desc_extensions.specs.Common.{ExtensionOf, all_flaws, are_same, is_extendable, is_message_at, number_flaws, custom_flaws, ranges_at_place, ranges_named, ranges_within, workspace_flaws}
 use Rattle.proto_desc_extensions.proofs.WrittenExtensions.{Written, again_of, as_extension, flaws_written, outside_of, written_in, written_number, written_taken, wrong_there}
 
 module _ (files : List FileOf) (reads : List ReadOf) where
@@ -125,9 +125,11 @@ module _ (files : List FileOf) (reads : List ReadOf) where
       covered_all =
           covered_join zs (file_flaws (scene c file) (read_at reads file).tree) own (workspace_flaws c files reads file) (workspace_flaws d files reads file)
           (covered_more own zs (file_flaws (scene c file) (read_at reads file).tree) own (Contains-append_left own (workspace_flaws d files reads file)) (covered_file (scene None file) c d caps (read_at reads file).tree))
-          (subst (λ (fs : List Flaw). Covered zs fs (workspace_flaws d files reads file)) (sym (flaws_written files reads c file))
+          (covered_join zs (number_flaws c files reads file) (number_flaws d files reads file) (custom_flaws files reads file) (custom_flaws files reads file)
+          (subst (λ (fs : List Flaw). Covered zs fs (number_flaws d files reads file)) (sym (flaws_written files reads c file))
           (subst (λ (fs : List Flaw). Covered zs (flat_map (outside_of files reads c) (written_in files reads file) ++ again_of files reads c file) fs) (sym (flaws_written files reads d file))
           (covered_join zs (flat_map (outside_of files reads c) (written_in files reads file)) (flat_map (outside_of files reads d) (written_in files reads file)) (again_of files reads c file) (again_of files reads d file) (covered_outside (written_in files reads file) (λ w h. h)) covered_again)))
+          (covered_equal zs (custom_flaws files reads file) (custom_flaws files reads file) refl))
 
 pub caps_keep_the_least : CapsKeepTheLeastOfFile
 caps_keep_the_least files reads file r h =

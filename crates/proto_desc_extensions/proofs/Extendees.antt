@@ -1,8 +1,9 @@
 -- What a reference means by the link is what it means by the rules of names, and its ranges are found where its name stands.
-use Rattle.std.proofs.Common.{◌≡◌, ℕ, ◌<◌, Bool, if◌then◌else◌, List, [], length, get_or, Option, Some, None, option_map, option_and_then, refl, sym, ap, subst, ◌∙◌, find, ◌==◌}
+use Rattle.std.proofs.Common.{◌≡◌, ℕ, ◌<◌, Bool, if◌then◌else◌, List, [], length, get_or, Option, Some, None, option_map, option_and_then, refl, sym, ap, subst, ◌∙◌, find, ◌==◌, unwrap_or}
 use Rattle.proto_base.proofs.Common.{none-some, same_Some}
 use Rattle.proto_tree.specs.References.{first_of}
 use Rattle.proto_tree.specs.declared.tree.Reference.{Reference}
+use Rattle.proto_tree.specs.declared.tree.Separated.{Separated}
 use Rattle.proto_files.proofs.Common.{FileOf, ReadOf}
 use Rattle.proto_names_rules.proofs.Common.{At, at, joined, place_of, Declared}
 use Rattle.proto_names.specs.Common.{meant_at}
@@ -13,6 +14,11 @@ use Rattle.proto_desc_numbers.specs.RangeIndex.{IsRangeIndexOf}
 use Rattle.proto_resolved.specs.SceneOf.{meaning_of}
 use Rattle.proto_resolved.proofs.MeantPlaces.{Placed, none_named, one_named, place_meant}
 use Rattle.proto_desc_extensions.specs.Common.{Extendee, IsExtendee, name_meant, extension_ranges_at, ranges_at_place, ranges_named}
+
+-- the first token of a reference
+pub first_is : (dot : Option ℕ) (words : Separated ℕ) → unwrap_or dot words.first ≡ first_of dot words
+first_is None words = refl
+first_is (Some i) words = refl
 
 module _ (files : List FileOf) (reads : List ReadOf) (l : LinkOf) (link : IsLinkRead files reads l) (file : ℕ) (within : file < length files) (r : Reference) where
   abbrev first : ℕ

@@ -13,6 +13,7 @@ use Rattle.proto_files.specs.Laws.{as_written}
 use Rattle.proto_names_rules.proofs.Common.{At, Declared, Used, place_of}
 use Rattle.proto_names.specs.Links.{uses_of}
 use Rattle.proto_ast.proofs.Common.{BlockOf, Scene, blocks_in}
+use Rattle.proto_custom_options.specs.CustomOptions.{CustomOf, customs_in}
 use Rattle.proto_desc_numbers.specs.declared.flaw.Flaw.{Flaw}
 use Rattle.proto_desc_numbers.proofs.Common.{earlier, flaw_if, is_inside, marked}
 use Rattle.proto_desc_checks.specs.FileFlaws.{file_flaws}
@@ -20,7 +21,7 @@ use Rattle.proto_desc_checks.specs.Written.{in_language}
 use Rattle.proto_desc_checks.proofs.WrittenFlaws.{Within, file_less, join, one_if, same}
 use Rattle.proto_resolved.specs.SceneOf.{declared_as, scene_of}
 use Rattle.proto_resolved.proofs.ScenesAsWritten.{declared_same, meaning_same, scene_same}
-use Rattle.proto_desc_extensions.specs.Common.{ExtensionOf, all_flaws, are_same, block_extensions, extendee_in, extensions_before, extensions_in, extensions_of, is_message_at, name_meant, not_extendable, ranges_at_place, ranges_named, ranges_within, repeated_extensions, taken_before, workspace_flaws}
+use Rattle.proto_desc_extensions.specs.Common.{ExtensionOf, all_flaws, are_same, block_extensions, extended_at, extended_by, extendee_in, extensions_before, extensions_in, extensions_of, has_extension_at, is_message_at, is_the_message, name_meant, not_extendable, option_extends, custom_flaws, ranges_at_place, ranges_named, ranges_within, repeated_extensions, taken_before, number_flaws}
 
 -- ---- what is found again among fewer is found again among more
 
@@ -96,6 +97,24 @@ module _ (files : List FileOf) (reads : List ReadOf) where
   outside_same : (es : List ExtensionOf) → not_extendable None after reads es ≡ not_extendable None files reads es
   outside_same es = λ i. flat_map (λ (e : ExtensionOf). flaw_if (not (list_any (is_inside e.number.number) (ranges_same e.extendee i))) kind.NotExtendable e.number.token) es
 
+  -- ---- the options are the same
+
+  extended_at_same : (a : At) → extended_at after reads a ≡ extended_at files reads a
+  extended_at_same a = λ i. option_and_then (λ (b : BlockOf). extended_same a.file b i) (find (has_extension_at a.token) (blocks_in (read_at reads a.file).tree))
+
+  extended_by_same : (name : List Text) → extended_by after reads name ≡ extended_by files reads name
+  extended_by_same name =
+      ap (option_and_then (λ (d : Declared At). extended_at after reads (place_of d))) (declared_same files reads name)
+      ∙ (λ i. option_and_then (λ (d : Declared At). extended_at_same (place_of d) i) (declared_as files reads name))
+
+  option_extends_same : (k : ℕ) (r : Reference) → option_extends after reads k r ≡ option_extends files reads k r
+  option_extends_same k r =
+      ap (option_and_then (extended_by after reads)) (extends_same k r)
+      ∙ (λ i. option_and_then (λ (name : List Text). extended_by_same name i) (name_meant files reads k r))
+
+  options_same : (k : ℕ) → custom_flaws after reads k ≡ custom_flaws files reads k
+  options_same k = λ i. flat_map (λ (c : CustomOf). flaw_if (not (is_the_message c.message (option_extends_same k c.custom.name i))) kind.NotAnOption (first_of c.custom.name.dot c.custom.name.words)) (customs_in (read_at reads k).tree)
+
   -- ---- what is wrong with a file
 
   module _ (k : ℕ) (now : (file_at after k).profile ≡ language.AsWritten) where
@@ -105,20 +124,21 @@ module _ (files : List FileOf) (reads : List ReadOf) where
     abbrev tree : Tree
     tree = (read_at reads k).tree
 
-    numbers_now : workspace_flaws None after reads k ≡ not_extendable None files reads own ++ repeated_extensions [] own
+    numbers_now : number_flaws None after reads k ≡ not_extendable None files reads own ++ repeated_extensions [] own
     numbers_now =
         ap (λ (p : Profile). not_extendable None after reads (extensions_in None after reads k) ++ repeated_extensions (taken_before p (extensions_before None after reads k)) (extensions_in None after reads k)) now
         ∙ ap (λ (es : List ExtensionOf). not_extendable None after reads es ++ repeated_extensions [] es) (extensions_same k)
         ∙ ap (λ (fs : List Flaw). fs ++ repeated_extensions [] own) (outside_same own)
 
-    numbers_less : Within (workspace_flaws None after reads k) (workspace_flaws None files reads k)
+    numbers_less : Within (number_flaws None after reads k) (number_flaws None files reads k)
     numbers_less =
-        subst (λ (fs : List Flaw). Within fs (workspace_flaws None files reads k)) (sym numbers_now)
+        subst (λ (fs : List Flaw). Within fs (number_flaws None files reads k)) (sym numbers_now)
         (join (same {xs = not_extendable None files reads own})
         (again_less (map (λ (e : ExtensionOf). e.number.token) own) own [] (taken_before (file_at files k).profile (extensions_before None files reads k)) (λ e m. absurd (true≢false (sym m)))))
 
     pub all_less : (file_at files k).profile ≡ language.Core → Within (all_flaws None after reads k) (all_flaws None files reads k)
-    all_less core = join own_less numbers_less
+    all_less core =
+        join own_less (subst (λ (fs : List Flaw). Within (number_flaws None after reads k ++ fs) (number_flaws None files reads k ++ custom_flaws files reads k)) (sym (options_same k)) (join numbers_less (same {xs = custom_flaws files reads k})))
       where
         scene_now : scene_of None after reads k ≡ in_language language.AsWritten (was k)
         scene_now = scene_same files reads None k ∙ ap (λ (p : Profile). in_language p (was k)) now

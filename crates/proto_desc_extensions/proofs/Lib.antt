@@ -1,10 +1,14 @@
 pub mod CappedExtensions
 pub mod ExtendTrees
+pub mod ExtendedRows
 pub mod Extendees
 pub mod FlawsAsWritten
 pub mod MovedExtensions
 pub mod NoExtensions
 pub mod OpenRows
+pub mod OptionFlaws
+pub mod OptionPrefix
+pub mod OptionTexts
 pub mod SeenExtensions
 pub mod ToldExtensions
 pub mod WorkspaceFlaws

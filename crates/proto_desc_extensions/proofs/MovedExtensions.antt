@@ -1,4 +1,4 @@
--- Where the extensions of a workspace are those of another, with their tokens moved and what they extend named anew, so are the flaws of their numbers (for the crates above).
+-- Where the extensions of a workspace are those of another, with their tokens moved and what they extend named anew, so are the flaws of their numbers; with those of custom options, all that the workspace decides (for the crates above).
 use Rattle.std.proofs.Common.{◌≡◌, ℕ, zero, suc, ◌<◌, Bool, true, false, not, ◌&&◌, ◌||◌, List, [], ◌∷◌, ◌++◌, length, map, None, refl, sym, ap, ◌∙◌, int_eq, arith, Contains}
 use Rattle.proto_base.proofs.Common.{contains_head, contains_later, list_any, list_any-append, map-append}
 use Rattle.proto_base.specs.declared.fault.FaultKind.{FaultKind}
@@ -9,7 +9,7 @@ use Rattle.proto_files.proofs.Common.{FileOf, ReadOf, file_at}
 use Rattle.proto_names_rules.specs.Names.{same_name}
 use Rattle.proto_desc_numbers.specs.declared.flaw.Flaw.{Flaw}
 use Rattle.proto_desc_numbers.proofs.Common.{earlier, flaw_if, is_inside, marked}
-use Rattle.proto_desc_extensions.specs.Common.{ExtensionOf, are_same, extensions_before, extensions_in, is_extendable, not_extendable, ranges_named, repeated_extensions, taken_before, workspace_flaws}
+use Rattle.proto_desc_extensions.specs.Common.{ExtensionOf, are_same, custom_flaws, extensions_before, extensions_in, is_extendable, not_extendable, ranges_named, repeated_extensions, taken_before, number_flaws, workspace_flaws}
 
 -- an extension whose token is moved, and what it extends named anew
 abbrev pub moved_extension : (ℕ → ℕ) → (List (List ℕ) → List (List ℕ)) → ExtensionOf → ExtensionOf
@@ -44,6 +44,7 @@ module _ (files : List FileOf) (reads : List ReadOf) (after : List FileOf) (seen
     pub extensions : (k : ℕ) → k < length files → extensions_in None after seen k ≡ map (moved_extension (move k) turn) (extensions_in None files reads k)
     pub ranges : (e : ExtensionOf) → IsExtension e → list_any (is_inside e.number.number) (ranges_named None after seen (turn e.extendee)) ≡ list_any (is_inside e.number.number) (ranges_named None files reads e.extendee)
     pub apart : (d e : ExtensionOf) → IsExtension d → IsExtension e → same_name (turn d.extendee) (turn e.extendee) ≡ same_name d.extendee e.extendee
+    pub options : (k : ℕ) → k < length files → custom_flaws after seen k ≡ map (moved_flaw (move k)) (custom_flaws files reads k)
 
   module _ (are : AreMoved) where
     same_there : (k : ℕ) (d e : ExtensionOf) → IsExtension d → IsExtension e → (j : ℕ) → are_same (moved_extension (move j) turn d) (moved_extension (move k) turn e) ≡ are_same d e
@@ -105,9 +106,9 @@ module _ (files : List FileOf) (reads : List ReadOf) (after : List FileOf) (seen
         ∙ sym (list_any-append (λ p. are_same p x) was (e ∷ [])))
         (λ x c. within x (contains_later e x es c)))
 
-    -- each flaw moves with its token
-    pub workspace_moved : (k : ℕ) → k < length files → workspace_flaws None after seen k ≡ map (moved_flaw (move k)) (workspace_flaws None files reads k)
-    workspace_moved k l =
+    -- each flaw of a number moves with its token
+    numbers_moved : (k : ℕ) → k < length files → number_flaws None after seen k ≡ map (moved_flaw (move k)) (number_flaws None files reads k)
+    numbers_moved k l =
         let es : List ExtensionOf = extensions_in None files reads k in
         let was : List ExtensionOf = taken_before (file_at files k).profile (extensions_before None files reads k) in
         let before : List ExtensionOf = taken_before (file_at after k).profile (extensions_before None after seen k) in
@@ -119,3 +120,10 @@ module _ (files : List FileOf) (reads : List ReadOf) (after : List FileOf) (seen
         ∙ ap (marked kind.DuplicateExtension (map (move k) (map (λ (e : ExtensionOf). e.number.token) es))) (earlier_moved k before was es (any_taken k l) own)
         ∙ moved_marked (move k) kind.DuplicateExtension (map (λ (e : ExtensionOf). e.number.token) es) (earlier are_same was es))
         ∙ sym (map-append (moved_flaw (move k)) (not_extendable None files reads es) (repeated_extensions was es))
+
+    -- and each flaw that the workspace decides
+    pub workspace_moved : (k : ℕ) → k < length files → workspace_flaws None after seen k ≡ map (moved_flaw (move k)) (workspace_flaws None files reads k)
+    workspace_moved k l =
+        ap (λ (fs : List Flaw). fs ++ custom_flaws after seen k) (numbers_moved k l)
+        ∙ ap (λ (fs : List Flaw). map (moved_flaw (move k)) (number_flaws None files reads k) ++ fs) (are.options k l)
+        ∙ sym (map-append (moved_flaw (move k)) (number_flaws None files reads k) (custom_flaws files reads k))

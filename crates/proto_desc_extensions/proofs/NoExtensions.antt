@@ -11,7 +11,7 @@ use Rattle.std.specs.Global.{Vec}
 use Rattle.proto_desc_numbers.specs.declared.flaw.Flaw.{Flaw}
 use Rattle.proto_ast.proofs.Common.{BlockOf, blocks_in, past}
 use Rattle.proto_resolved.specs.SceneOf.{scene_of}
-use Rattle.proto_desc_extensions.specs.Common.{AreWorkspaceFlaws, ExtensionOf, block_extensions, extendee_in, extensions_before, extensions_of, has_extend, is_extend, name_meant, not_extendable, repeated_extensions, some_has_extend, taken_before, workspace_flaws}
+use Rattle.proto_desc_extensions.specs.Common.{AreNumberFlaws, ExtensionOf, block_extensions, extendee_in, extensions_before, extensions_of, has_extend, is_extend, name_meant, not_extendable, repeated_extensions, some_has_extend, taken_before, number_flaws}
 
 module _ (cap : Option ℕ) (files : List FileOf) (reads : List ReadOf) (file : ℕ) where
   E : BlockOf → List ExtensionOf
@@ -34,7 +34,7 @@ module _ (cap : Option ℕ) (files : List FileOf) (reads : List ReadOf) (file : 
       neither true c t = absurd (true≢false t)
       neither false c t = (refl, t)
 
-  pub no_flaw : has_extend (read_at reads file).tree ≡ false → workspace_flaws cap files reads file ≡ []
+  pub no_flaw : has_extend (read_at reads file).tree ≡ false → number_flaws cap files reads file ≡ []
   no_flaw e =
       ap (λ (es : List ExtensionOf). not_extendable cap files reads es ++ repeated_extensions (taken_before (file_at files file).profile (extensions_before cap files reads file)) es) (none_of (blocks_in (read_at reads file).tree) e)
 
@@ -57,7 +57,7 @@ turn_without files file l tree of_file reads are e =
     ∙ ap (λ (b : Bool). b || some_has_extend (drop (file + 1) reads)) e
 
 -- where no file has one, empty lists are the flaws of all files
-pub none_wrong : (files : List FileOf) (found : List (Vec Flaw)) → map (λ v. v.items) found ≡ replicate (length files) [] → ((reads : List ReadOf) → AreRead files reads → false ≡ some_has_extend reads) → AreWorkspaceFlaws files found
+pub none_wrong : (files : List FileOf) (found : List (Vec Flaw)) → map (λ v. v.items) found ≡ replicate (length files) [] → ((reads : List ReadOf) → AreRead files reads → false ≡ some_has_extend reads) → AreNumberFlaws files found
 none_wrong files found empty none =
     let n : length found ≡ length files = sym (length-map found (λ (v : Vec Flaw). v.items)) ∙ ap length empty ∙ length-replicate (length files) [] in
     record {

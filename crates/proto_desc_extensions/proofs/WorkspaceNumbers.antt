@@ -17,7 +17,7 @@ use Rattle.proto_desc_numbers.proofs.CappedRanges.{agree}
 use Rattle.proto_desc_checks.proofs.FlawTokens.{both}
 use Rattle.proto_resolved.specs.SceneOf.{meaning_of, scene_of}
 use Rattle.indexmap.specs.IndexSet.{IndexSet}
-use Rattle.proto_desc_extensions.specs.Common.{ExtensionOf, HasSeen, Key, Told, again, are_one, are_same, block_extensions, extendee_in, extensions_before, extensions_in, extensions_of, is_extendable, name_meant, not_extendable, outside_ranges, repeated_extensions, taken_before, told, workspace_flaws}
+use Rattle.proto_desc_extensions.specs.Common.{ExtensionOf, HasSeen, Key, Told, again, are_one, are_same, block_extensions, extendee_in, extensions_before, extensions_in, extensions_of, is_extendable, name_meant, not_extendable, outside_ranges, repeated_extensions, taken_before, told, number_flaws}
 
 abbrev pub HasPlainName : ExtensionOf → Type 0
 HasPlainName e = ArePlain e.extendee
@@ -71,7 +71,7 @@ module _ (files : List FileOf) (reads : List ReadOf) where
   -- ---- names that are meant are plain
 
   module _ (l : LinkOf) (link : IsLinkRead files reads l) where
-    plain_name : (file : ℕ) (u : Option (Used ℕ)) (name : List (List ℕ)) → option_and_then (meaning_of files reads file) u ≡ Some name → ArePlain name
+    pub plain_name : (file : ℕ) (u : Option (Used ℕ)) (name : List (List ℕ)) → option_and_then (meaning_of files reads file) u ≡ Some name → ArePlain name
     plain_name file None name e = absurd (cc)
     plain_name file (Some u) name e =
         let t = meant (names_of_files files reads) (used_named (text_of files reads) file u) name e in
@@ -102,7 +102,7 @@ module _ (files : List FileOf) (reads : List ReadOf) where
 
     -- what is found in a file is what is wrong with it
     pub flaws_told : (file : ℕ) (p : Profile) → p ≡ (file_at files file).profile → (es : List Told) → es ≡ map T (extensions_in (Some past) files reads file)
-        → outside_ranges es ++ again (taken_before p (map T (extensions_before (Some past) files reads file))) es ≡ workspace_flaws (Some past) files reads file
+        → outside_ranges es ++ again (taken_before p (map T (extensions_before (Some past) files reads file))) es ≡ number_flaws (Some past) files reads file
     flaws_told file p q es is =
         let own : List ExtensionOf = extensions_in (Some past) files reads file in
         let before : List ExtensionOf = extensions_before (Some past) files reads file in

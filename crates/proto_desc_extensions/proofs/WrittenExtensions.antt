@@ -9,7 +9,7 @@ use Rattle.proto_tree.specs.declared.piece.Header.{Header}
 use Rattle.proto_tree.specs.declared.piece.Header.TheVariants as header
 use Rattle.proto_tree.specs.Tree.{Tree}
 use Rattle.proto_files.proofs.Common.{FileOf, ReadOf, file_at, read_at}
-use Rattle.proto_ast.proofs.Common.{BlockOf, FieldOf, blocks_in, fields_in, number_at, options_in, Scene}
+use Rattle.proto_ast.proofs.Common.{BlockOf, FieldOf, blocks_in, fields_in, number_at, options_in, Scene, meant_by}
 use Rattle.proto_ast.specs.declared.options.Element.TheVariants as element
 use Rattle.proto_desc_numbers.specs.declared.flaw.Flaw.{Flaw}
 use Rattle.proto_desc_numbers.proofs.Common.{earlier, flaw, flaw_if, is_field_number, marked, number_of_field, outside}
@@ -17,7 +17,7 @@ use Rattle.proto_desc_numbers.proofs.CappedCovers.{contains_flat}
 use Rattle.proto_desc_numbers.proofs.CappedRanges.{outside_here}
 use Rattle.proto_desc_checks.proofs.Common.{bars_extend, block_flaws, extend_flaws, file_flaws, flaws_in_blocks, flaws_of_extension, option_flaws}
 use Rattle.proto_resolved.specs.SceneOf.{scene_of}
-use Rattle.proto_desc_extensions.specs.Common.{ExtensionOf, are_same, block_extensions, extendee_in, extensions_before, extensions_in, extensions_of, is_extendable, name_meant, not_extendable, repeated_extensions, taken_before, workspace_flaws}
+use Rattle.proto_desc_extensions.specs.Common.{ExtensionOf, are_same, block_extensions, extendee_in, extensions_before, extensions_in, extensions_of, is_extendable, name_meant, not_extendable, repeated_extensions, taken_before, number_flaws}
 
 -- an extension as it is written: where its number stands, and the name of what it extends
 pub record Written : Type 0 where
@@ -106,7 +106,7 @@ module _ (files : List FileOf) (reads : List ReadOf) where
     abbrev pub again_of : ℕ → List Flaw
     again_of file = marked kind.DuplicateExtension (map (λ w. w.token) (written_in file)) (earlier are_same (map (as_extension cap) (written_taken file)) (map (as_extension cap) (written_in file)))
 
-    pub flaws_written : (file : ℕ) → workspace_flaws cap files reads file ≡ flat_map outside_of (written_in file) ++ again_of file
+    pub flaws_written : (file : ℕ) → number_flaws cap files reads file ≡ flat_map outside_of (written_in file) ++ again_of file
     flaws_written file =
         let taken : List ExtensionOf = taken_before (file_at files file).profile (extensions_before cap files reads file) in
         ap (λ (es : List ExtensionOf). not_extendable cap files reads es ++ repeated_extensions taken es) (in_written file)
@@ -127,14 +127,14 @@ module _ (files : List FileOf) (reads : List ReadOf) where
     in_extend : (h : Header) (within : Tree) (w : Written) → Contains (written_of file (extendee_by file h) within) w → is_field_number (written_number d w) ≡ false → Contains (block_flaws (scene d file) h within) (flaw kind.NumberRange w.token)
     in_extend (header.Extend x) within w c e = by (extendee_by file (header.Extend x)) c
       where
-        by : (o : Option (List (List ℕ))) → Contains (written_of file o within) w → Contains (extend_flaws (scene d file) x.keyword within) (flaw kind.NumberRange w.token)
+        by : (o : Option (List (List ℕ))) → Contains (written_of file o within) w → Contains (extend_flaws (scene d file) x.keyword x.extendee within) (flaw kind.NumberRange w.token)
         by None c = absurd (omega (arith, c.1))
         by (Some name) c =
             let f = from_map (written_as file name) (fields_in within) w c in
             let limit : is_field_number (number_at (scene d file) f.0.number) ≡ false = ap (λ (x : Written). is_field_number (written_number d x)) f.2 ∙ e in
             let here : Contains (outsides within) (flaw kind.NumberRange f.0.number) =
             outside_here is_field_number (λ (y : FieldOf). y.number) (λ y. number_at (scene d file) y.number) (fields_in within) f.0 f.1 limit in
-            Contains-append_right (flaw_if (bars_extend (scene d file).profile (scene d file).is_proto3) kind.NotInProto3 x.keyword) (outsides within ++ others within) (flaw kind.NumberRange w.token)
+            Contains-append_right (flaw_if (bars_extend (scene d file).profile (scene d file).is_proto3 (meant_by (scene d file) x.extendee)) kind.NotInProto3 x.keyword) (outsides within ++ others within) (flaw kind.NumberRange w.token)
             (Contains-append_left (outsides within) (others within) (flaw kind.NumberRange w.token) (subst (λ (y : Written). Contains (outsides within) (flaw kind.NumberRange y.token)) f.2 here))
     in_extend whole within w c e = absurd (omega (arith, c.1))
 

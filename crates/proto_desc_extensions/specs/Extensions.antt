@@ -1,6 +1,7 @@
--- The extensions of a workspace, and what is wrong with their numbers. An extension and the message
--- that it extends may stand in two files, so this is asked of all files at once.
-use Rattle.std.specs.Prelude.{ℕ, zero, suc, Bool, false, not, ◌&&◌, ◌==◌, List, [], ◌++◌, map, flat_map, find, Option, Some, None, option_map}
+-- The extensions of a workspace, what is wrong with their numbers, and with the custom options that
+-- are set by their names. An extension, the message that it extends and an option that means it may
+-- stand in three files, so this is asked of all files at once.
+use Rattle.std.specs.Prelude.{ℕ, zero, suc, Bool, false, not, ◌&&◌, ◌==◌, List, [], ◌++◌, map, flat_map, find, is_some, Option, Some, None, option_map}
 use Rattle.std.specs.List.{list_any}
 use Rattle.std.specs.Option.{option_and_then}
 use Rattle.std.specs.Ordering.{int_eq}
@@ -8,6 +9,7 @@ use Rattle.proto_base.specs.Texts.{Text}
 use Rattle.proto_base.specs.declared.fault.FaultKind.TheVariants as kind
 use Rattle.proto_base.specs.declared.profile.Profile.{Profile}
 use Rattle.proto_base.specs.declared.profile.Profile.TheVariants as profile
+use Rattle.proto_tree.specs.References.{first_of}
 use Rattle.proto_tree.specs.Tree.{Tree}
 use Rattle.proto_tree.specs.declared.piece.Header.{Header}
 use Rattle.proto_tree.specs.declared.piece.Header.TheVariants as header
@@ -17,6 +19,7 @@ use Rattle.proto_files.specs.GivenFiles.{FileOf, file_at}
 use Rattle.proto_names_rules.specs.Faults.{place_of}
 use Rattle.proto_names_rules.specs.Grown.{At}
 use Rattle.proto_names_rules.specs.Names.{same_name}
+use Rattle.proto_custom_options.specs.CustomOptions.{CustomOf, customs_in, options_words}
 use Rattle.proto_ast.specs.Parts.{BlockOf, blocks_in, extension_ranges, fields_in, statements}
 use Rattle.proto_ast.specs.Scenes.{Scene}
 use Rattle.proto_ast.specs.declared.ranges.RangeAt.{RangeAt}
@@ -138,13 +141,69 @@ abbrev pub repeated_extensions : List ExtensionOf → List ExtensionOf → List 
 repeated_extensions before es =
     marked kind.DuplicateExtension (map (λ e. e.number.token) es) (earlier are_same before es)
 
--- what is wrong with a file that its workspace decides: the numbers of its extensions
-abbrev pub workspace_flaws : Option ℕ → List FileOf → List ReadOf → ℕ → List Flaw
-workspace_flaws cap files reads file =
+-- what is wrong with the numbers of a file's extensions
+abbrev pub number_flaws : Option ℕ → List FileOf → List ReadOf → ℕ → List Flaw
+number_flaws cap files reads file =
     not_extendable cap files reads (extensions_in cap files reads file)
     ++ repeated_extensions
     (taken_before (file_at files file).profile (extensions_before cap files reads file))
     (extensions_in cap files reads file)
+
+-- ---- the options of elements
+
+-- the block is an `extend` with an extension whose name is at this token
+abbrev pub has_extension_at : ℕ → BlockOf → Bool
+has_extension_at token b =
+    is_some (extendee_in b.header) && list_any (λ f. f.name == token) (fields_in b.within)
+
+-- the full name, by its words, of what a block of a file extends, if it means something
+abbrev pub extendee_meant : List FileOf → List ReadOf → ℕ → BlockOf → Option (List Text)
+extendee_meant files reads file b =
+    option_and_then (name_meant files reads file) (extendee_in b.header)
+
+-- the full name, by its words, of what the extension at this place extends
+abbrev pub extended_at : List FileOf → List ReadOf → At → Option (List Text)
+extended_at files reads a =
+    option_and_then (extendee_meant files reads a.file)
+    (find (has_extension_at a.token) (blocks_in (read_at reads a.file).tree))
+
+-- what the extension with this full name extends
+abbrev pub extended_by : List FileOf → List ReadOf → List Text → Option (List Text)
+extended_by files reads name =
+    option_and_then (λ d. extended_at files reads (place_of d)) (declared_as files reads name)
+
+-- the name is that of the options message with this simple name
+abbrev pub is_the_message : Text → Option (List Text) → Bool
+is_the_message message None = false
+is_the_message message (Some name) = same_name name (options_words message)
+
+-- what the extension extends that a reference of a file means
+abbrev pub option_extends : List FileOf → List ReadOf → ℕ → Reference → Option (List Text)
+option_extends files reads file r =
+    option_and_then (extended_by files reads) (name_meant files reads file r)
+
+-- the extension that the option's name means extends the options message of the option's element
+abbrev pub is_an_option : List FileOf → List ReadOf → ℕ → CustomOf → Bool
+is_an_option files reads file c =
+    is_the_message c.message (option_extends files reads file c.custom.name)
+
+-- 39 NotAnOption at the name of each custom option of which that is not so (where the name means
+-- nothing, that is also a fault of an earlier phase)
+abbrev pub not_an_option : List FileOf → List ReadOf → ℕ → List CustomOf → List Flaw
+not_an_option files reads file cs =
+    flat_map (λ c. flaw_if (not (is_an_option files reads file c))
+    kind.NotAnOption (first_of c.custom.name.dot c.custom.name.words)) cs
+
+-- what is wrong with the custom options of a file
+abbrev pub custom_flaws : List FileOf → List ReadOf → ℕ → List Flaw
+custom_flaws files reads file =
+    not_an_option files reads file (customs_in (read_at reads file).tree)
+
+-- what is wrong with a file that its workspace decides: the numbers of its extensions, and its
+-- custom options
+abbrev pub workspace_flaws : Option ℕ → List FileOf → List ReadOf → ℕ → List Flaw
+workspace_flaws cap files reads file =
+    number_flaws cap files reads file ++ custom_flaws files reads file
 
 -- what is wrong with a file of a workspace: with the file alone, and with it in its workspace
 abbrev pub all_flaws : Option ℕ → List FileOf → List ReadOf → ℕ → List Flaw

@@ -18,7 +18,7 @@ use Rattle.proto_desc_numbers.specs.NumberFlaws.{is_inside}
 use Rattle.proto_desc_numbers.specs.RangeIndex.{IsRangeIndexOf}
 use Rattle.proto_desc_numbers.specs.declared.flaw.Flaw.{Flaw}
 use Rattle.proto_desc_numbers.specs.declared.numbers.NumberAt.{NumberAt}
-use Rattle.proto_desc_extensions.specs.Extensions.{ExtensionOf, extensions_in, is_extendable, name_meant, ranges_named, workspace_flaws}
+use Rattle.proto_desc_extensions.specs.Extensions.{ExtensionOf, extensions_in, is_extendable, name_meant, number_flaws, ranges_named, workspace_flaws}
 use Rattle.proto_desc_extensions.specs.declared.listed.Extendee.{Extendee}
 use Rattle.proto_desc_extensions.specs.declared.listed.ExtensionAt.{ExtensionAt}
 use Rattle.proto_desc_extensions.specs.declared.flaws.Key.{Key}
@@ -102,6 +102,13 @@ outside_ranges es =
 abbrev pub again : List Told → List Told → List Flaw
 again before es =
     marked kind.DuplicateExtension (map (λ e. e.number.token) es) (earlier are_one before es)
+
+-- for each file, in the order of their paths, what is wrong with the numbers of its extensions, up
+-- to a cap past every limit
+pub record AreNumberFlaws (files : List FileOf) (found : List (Vec Flaw)) : Type 0 where
+  pub len : length found ≡ length files
+  pub each : (reads : List ReadOf) → AreRead files reads
+      → Each (λ k flaws. flaws.items ≡ number_flaws (Some past) files reads k) found
 
 -- for each file, in the order of their paths, what is wrong with it that its workspace decides,
 -- with numbers up to a cap past every limit

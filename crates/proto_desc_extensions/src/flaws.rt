@@ -1,17 +1,19 @@
-//! What is wrong with the numbers of extensions, file by file.
+//! What is wrong with extensions and custom options, file by file.
 
 ghost use Rattle.std.specs.Prelude.{◌≡◌, ◌++◌, [], List, map, replicate, IfOk, OnOk};
 ghost use Rattle.proto_resolved.specs.Scenes.{AreScenes};
 ghost use Rattle.proto_desc_extensions.specs.Extensions.{taken_before};
-ghost use Rattle.proto_desc_extensions.specs.Listed.{AreWorkspaceFlaws, HasSeen, Told, again, outside_ranges, told_by};
+ghost use Rattle.proto_desc_extensions.specs.Listed.{AreNumberFlaws, AreWorkspaceFlaws, HasSeen, Told, again, outside_ranges, told_by};
 ghost use Rattle.proto_desc_extensions.specs.OpenTables.{IsOpenTable};
 
 use crate::extends::some_has_extend;
 use crate::listed::{ExtensionAt, LinkedFile, extensions};
 use crate::open_table::open_table;
+use crate::options::{some_is_written, with_options};
 use indexmap::{IndexMap, IndexSet};
 use proto_ast::Scene;
 use proto_base::{FaultKind, NoMemory, Profile};
+use proto_custom_options::laws::core_trees_have_no_custom;
 use proto_desc_numbers::{Flaw, NumberAt, RangeAt, add_if};
 use proto_resolved::Linked;
 use std::alloc::Global;
@@ -141,7 +143,7 @@ fn flaws_with(
 ) -> Result<Vec<Vec<Flaw>>, NoMemory>
     requires table { IsOpenTable linked.now.files table.now }
     requires scenes { AreScenes linked.now.files scenes.now }
-    ensures { IfOk result (λ found. AreWorkspaceFlaws linked.now.files found.items) }
+    ensures { IfOk result (λ found. AreNumberFlaws linked.now.files found.items) }
 {
     let files = linked.files();
     let mut found = Vec::new(alloc);
@@ -158,10 +160,28 @@ fn flaws_with(
     Ok(found)
 }
 
+/// The flaws of the numbers of extensions.
+fn number_flaws(
+    alloc: Global,
+    linked: &Linked<'_>,
+    scenes: &[Scene],
+) -> Result<Vec<Vec<Flaw>>, NoMemory>
+    requires { AreScenes linked.now.files scenes.now }
+    ensures { IfOk result (λ found. AreNumberFlaws linked.now.files found.items) }
+{
+    let files = linked.files();
+    if !some_has_extend(files) {
+        return no_flaws(alloc, linked.file_count());
+    }
+    let table = open_table(alloc, files, scenes)?;
+    flaws_with(alloc, linked, &table, scenes)
+}
+
 /// For each file, in the order of their paths, what is wrong with it that its workspace decides:
 /// the numbers of its extensions, each inside no extension range of the message that it extends, or
-/// that of an earlier extension of that message (as written, of one of its file). The scenes are
-/// those of the files. Fails only when out of memory.
+/// that of an earlier extension of that message (as written, of one of its file); and its custom
+/// options, of which the extension does not extend the options message of the element. The scenes
+/// are those of the files. Fails only when out of memory.
 pub fn workspace_flaws(
     alloc: Global,
     linked: &Linked<'_>,
@@ -170,10 +190,11 @@ pub fn workspace_flaws(
     requires { AreScenes linked.now.files scenes.now }
     ensures { IfOk result (λ found. AreWorkspaceFlaws linked.now.files found.items) }
 {
-    let files = linked.files();
-    if !some_has_extend(files) {
-        return no_flaws(alloc, linked.file_count());
+    core_trees_have_no_custom();
+    let numbers = number_flaws(alloc, linked, scenes)?;
+    if some_is_written(linked.files()) {
+        with_options(alloc, linked, &numbers)
+    } else {
+        Ok(numbers)
     }
-    let table = open_table(alloc, files, scenes)?;
-    flaws_with(alloc, linked, &table, scenes)
 }

@@ -1,22 +1,29 @@
 -- An admissible rename of files without a fault leaves files without one (for the crates above).
-use Rattle.std.proofs.Common.{◌≡◌, ◌≢◌, ℕ, ◌<◌, ◌==◌, true, false, ◌⊎◌, if◌then◌else◌, List, [], ◌∷◌, ◌++◌, length, map, flat_map, Option, None, is_some, option_map, refl, sym, ap, ap₂, subst, ◌∙◌, inl, inr, arith, codes, option_and_then, Contains, filter, eq-eqb, ne_eqb, bytes_eq}
-use Rattle.proto_base.proofs.Common.{All-contains, Contains-append_left, Contains-append_right, cases_Bool, cases_eq, cond-true, cond-false, contains_cases, contains_head, contains_later, from_map}
+use Rattle.std.proofs.Common.{◌≡◌, ◌≢◌, ℕ, ◌<◌, ◌==◌, true, false, ◌||◌, ◌⊎◌, if◌then◌else◌, List, [], ◌∷◌, ◌++◌, length, map, flat_map, find, Option, None, is_some, option_map, refl, sym, ap, ap₂, subst, ◌∙◌, inl, inr, arith, codes, option_and_then, Contains, filter, eq-eqb, ne_eqb, bytes_eq}
+use Rattle.proto_base.proofs.Common.{All-contains, Contains-append_left, Contains-append_right, cases_Bool, cases_eq, cond-true, cond-false, contains_cases, contains_head, contains_later, contains_map, fails_from, from_map, or_parts}
 use Rattle.proto_case.specs.Camel.{entry_name}
 use Rattle.proto_text.proofs.Common.{is_run, run_is, length_map, or_word}
 use Rattle.proto_tree.specs.declared.piece.Header.{Header}
 use Rattle.proto_tree.specs.Tree.{Tree}
 use Rattle.proto_tree.specs.declared.piece.Header.TheVariants as header
-use Rattle.proto_files.proofs.Common.{HasNoFault, FileOf, ReadOf, read_at, read_once}
-use Rattle.proto_names_rules.proofs.Common.{IsCaptured, At, at, reference_of}
+use Rattle.proto_files.proofs.Common.{HasNoFault, FileOf, ReadOf, file_at, read_at, read_once}
+use Rattle.proto_names_rules.proofs.Common.{IsCaptured, At, Used, at, has_meaning, joined, reference_of, ren, used_in}
+use Rattle.proto_names_rules.specs.Edits.{target}
 use Rattle.proto_names_rules.specs.declared.kind.Kind.TheVariants.{Package, Entry}
 use Rattle.proto_names_imports.specs.Links.{LinkFaults, text_of, link_skeleton, names_of_files}
-use Rattle.proto_ast.proofs.Common.{is_named, value_named, text_of_constant as text_value, BlockOf, FieldOf, OptionOf, blocks_in, fields_in, reserved_names_in, values_in, Scene, text, value, json_name_of, json_word}
+use Rattle.proto_names_imports.proofs.Common.{used_named, uses_of}
+use Rattle.proto_custom_options.specs.CustomOptions.{is_options_message}
+use Rattle.proto_tree.specs.References.{first_of}
+use Rattle.proto_ast.proofs.Common.{is_named, value_named, text_of_constant as text_value, BlockOf, FieldOf, OptionOf, blocks_in, fields_in, reserved_names_in, values_in, MeantOf, Scene, meant_by, text, value, json_name_of, json_word}
 use Rattle.proto_desc_numbers.specs.declared.flaw.Flaw.{Flaw}
-use Rattle.proto_desc_checks.proofs.Common.{default_flaws, file_flaws, json_clashes, name_flaws}
+use Rattle.proto_desc_checks.proofs.Common.{default_flaws, file_flaws, is_of_options, json_clashes, name_flaws}
 use Rattle.proto_desc_extensions.specs.Common.{workspace_flaws}
 use Rattle.proto_desc_checks_laws.proofs.Common.{asked_tokens, flaws_of_block, is_of_names, flaws_of_names, no_flaw_comes_in}
 use Rattle.proto_desc_checks_laws.proofs.RenamedFlaws.{names_decide_three_kinds}
-use Rattle.proto_edit_rename_laws.proofs.Common.{has_json_names, scene_of, collision, captured, name_reserved, json_clash, keyword_name, not_an_identifier, fields_of_block, AreReworded, SuitFiles, Names, Uses, TokensHaveRenameRoles, IsRename, Target, may_rename, name_map, renamed_words, places_are_suited, tokens_are_inside, files_are_linked, files_are_woven, no_link_fault, other_texts_stay, texts_are_changed, places_respelled, find_agree, scenes_are_apart, trees_at, values_stay, version_stays}
+use Rattle.proto_desc_checks_laws.specs.Renamed.{OptionsMessagesStay}
+use Rattle.proto_edit_rules.specs.Options.{HasWritten, is_fixed}
+use Rattle.proto_edit_rules.specs.Rename.{fixed_name}
+use Rattle.proto_edit_rename_laws.proofs.Common.{has_json_names, meaning_of, meant_as, scene_of, collision, captured, name_reserved, json_clash, keyword_name, not_an_identifier, fields_of_block, AreReworded, SuitFiles, Names, Uses, TokensHaveRenameRoles, IsRename, Target, may_rename, name_map, renamed_words, places_are_suited, tokens_are_inside, files_are_linked, files_are_woven, no_link_fault, other_texts_stay, texts_are_changed, places_respelled, find_agree, meaning_after, scenes_are_apart, trees_at, used_here, uses_stay, values_stay, version_stays}
 use Rattle.proto_desc.specs.Checked.{CheckFaults, of_flaw, fault_of_flaw, flaws_of}
 use Rattle.proto_edit_rename_laws.proofs.TokenRoles.{tokens_have_roles}
 use Rattle.proto_edit_rename_described.specs.Allowed.{DefaultsFit, IsAllowedRename}
@@ -24,6 +31,7 @@ use Rattle.proto_edit_rename_described.specs.NamesKept.{AreKept, written}
 use Rattle.proto_edit_rename_described.proofs.ExtensionsStay.{workspace_stays}
 use Rattle.proto_edit_rename_described.proofs.NamesKept.{empty_parts, json_names_stay, reserved_names_stay}
 use Rattle.proto_edit_rename_described.proofs.FileStays.{option_agrees}
+use Rattle.proto_edit_rename_described.proofs.OptionsStay.{file_there, meant_stay, names_stay, plain_meaning}
 
 none_listed : (fs : List Flaw) → ((f : Flaw) → Contains fs f → ⊥) → fs ≡ []
 none_listed [] h = refl
@@ -93,6 +101,12 @@ module _ (files : List FileOf) (reads : List ReadOf) (name to : List ℕ) (t : T
 
   pub same_length : length after ≡ length files
   same_length = sym (length_map (λ (g : FileOf). g.path) after) ∙ ap length w.paths ∙ length_map (λ (g : FileOf). g.path) files
+
+  -- what case 20 leaves
+  free_names : HasWritten files → (is_fixed (target (name_map files reads t to)) ≡ false) × (is_fixed ((name_map files reads t to).parent ++ to ∷ []) ≡ false)
+  free_names h =
+      or_parts (is_fixed (target (name_map files reads t to))) (is_fixed ((name_map files reads t to).parent ++ to ∷ []))
+      (fails_from (is_fixed (target (name_map files reads t to)) || is_fixed ((name_map files reads t to).parent ++ to ∷ [])) (λ e. a.admissible 20 (fixed_name t a.named (h, e))))
 
   -- ---- the flaws of a file
 
@@ -216,10 +230,27 @@ module _ (files : List FileOf) (reads : List ReadOf) (name to : List ℕ) (t : T
       block_clean (header.Extend x) is defaults e = all_empty (default_flaws new) (fields_in b.within) defaults
       block_clean whole is defaults e = refl
 
+    options_stay : OptionsMessagesStay old new
+    options_stay written r =
+        let free = free_names (file_at files file, file_there files file l, written) in
+        subst (λ us. is_of_options (meant_by old r) ≡ is_of_options (find (λ (m : MeantOf). m.token == first_of r.dot r.words) (map (λ u. meant_as after seen u.first (meaning_of after seen file u)) us))) (sym (uses_stay files reads c after seen t.token t.above t.aim t.is_map to is_rename file))
+        (meant_stay (uses_of reads file) (λ u. meant_as files reads u.first (meaning_of files reads file u)) (λ u. meant_as after seen u.first (meaning_of after seen file u)) (first_of r.dot r.words) (each free))
+      where
+        each : (is_fixed (target (name_map files reads t to)) ≡ false) × (is_fixed ((name_map files reads t to).parent ++ to ∷ []) ≡ false) → (u : Used ℕ) → Contains (uses_of reads file) u
+            → ((meant_as files reads u.first (meaning_of files reads file u)).token ≡ (meant_as after seen u.first (meaning_of after seen file u)).token)
+            × (is_options_message (meant_as files reads u.first (meaning_of files reads file u)).name ≡ is_options_message (meant_as after seen u.first (meaning_of after seen file u)).name)
+        each free u cu =
+            let cr = contains_map (reference_of (text_of files reads) entry_name) (link_skeleton files reads).used (used_in file u) (used_here files reads c after seen t.token t.above t.aim t.is_map to is_rename file l u cu) in
+            let m = has_meaning (meaning_of files reads file u) (is_rename.linked.resolved (used_named (text_of files reads) file u) cr) in
+            let later = meaning_after files reads c after seen t.token t.above t.aim t.is_map to is_rename file l u cu m.0 m.1 in
+            subst (λ o. ((meant_as files reads u.first o).token ≡ (meant_as after seen u.first (meaning_of after seen file u)).token) × (is_options_message (meant_as files reads u.first o).name ≡ is_options_message (meant_as after seen u.first (meaning_of after seen file u)).name)) (sym m.1)
+            (subst (λ o. (u.first ≡ (meant_as after seen u.first o).token) × (is_options_message (joined m.0) ≡ is_options_message (meant_as after seen u.first o).name)) (sym later)
+            (refl, names_stay (name_map files reads t to) t.is_map refl free.0 free.1 m.0 (plain_meaning files reads a.read file u m.0 m.1) (plain_meaning after seen w.read file u (ren (name_map files reads t to) m.0) later)))
+
     file_clean : DefaultsFit after seen → file_flaws new tree ≡ []
     file_clean fit =
         let differ = scenes_are_apart files reads c after seen t.token t.above t.aim t.is_map to is_rename file l in
-        let same = names_decide_three_kinds (λ i. is_some (c (at file i))) old new tree differ ((allowed_roles files reads name to t a).tokens.asked file l) in
+        let same = names_decide_three_kinds (λ i. is_some (c (at file i))) old new tree differ options_stay ((allowed_roles files reads name to t a).tokens.asked file l) in
         let none : flat_map (λ (x : BlockOf). flaws_of_block old x.header x.within) (blocks_in tree) ≡ [] = sym (flaws_of_names old tree) ∙ ap (filter (λ (f : Flaw). is_of_names f.kind)) clean in
         no_flaw_comes_in old new tree clean same (λ x cx.
         block_clean x cx x.header refl (λ f cf. fit file x f (omega (arith, l, same_length)) (subst (λ z. Contains (blocks_in z) x) (sym (trees_at files reads c after seen t.token t.above t.aim t.is_map to is_rename file)) cx) cf)
@@ -228,7 +259,7 @@ module _ (files : List FileOf) (reads : List ReadOf) (name to : List ℕ) (t : T
   -- no number of an extension is wrong
   numbers_clean : (file : ℕ) → file < length files → workspace_flaws None after seen file ≡ []
   numbers_clean file l =
-      workspace_stays files reads c after seen t.token t.above t.aim t.is_map to is_rename (λ f m i ci. All-contains (λ i. is_some (c (at f i)) ≡ false) (asked_tokens (scene_of None files reads f) (read_at reads f).tree) i ((allowed_roles files reads name to t a).tokens.asked f m) ci) file l
+      workspace_stays files reads c after seen t.token t.above t.aim t.is_map to is_rename (λ f m i ci. All-contains (λ i. is_some (c (at f i)) ≡ false) (asked_tokens (scene_of None files reads f) (read_at reads f).tree) i ((allowed_roles files reads name to t a).tokens.asked f m) ci) free_names file l
       ∙ none_listed (workspace_flaws None files reads file) (λ f h. a.checks (fault_of_flaw files reads file f) (of_flaw reads file f a.read l (Contains-append_right (file_flaws (scene_of None files reads file) (read_at reads file).tree) (workspace_flaws None files reads file) f h)))
 
   checks_clean : DefaultsFit after seen → HasNoFault (CheckFaults after)

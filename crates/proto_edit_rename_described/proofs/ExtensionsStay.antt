@@ -1,37 +1,48 @@
--- A rename gives no extension a flaw that its workspace decides: numbers and ranges stay, and what is extended goes under the name map (for the crates above).
-use Rattle.std.proofs.Common.{option_to_list, ◌≡◌, ℕ, ◌<◌, ◌==◌, Bool, true, false, List, [], ◌∷◌, ◌++◌, length, map, flat_map, find, Option, Some, None, option_map, option_and_then, is_some, refl, sym, ap, ap₂, subst, ◌∙◌, inl, inr, arith, Contains}
+-- A rename gives no extension and no custom option a flaw that its workspace decides: numbers and ranges stay, what is extended goes under the name map, and options messages stay (for the crates above).
+use Rattle.std.proofs.Common.{option_to_list, ◌≡◌, ℕ, ◌<◌, ◌≤◌, ◌==◌, Bool, true, false, not, List, [], ◌∷◌, ◌++◌, length, map, flat_map, find, Option, Some, None, option_map, option_and_then, is_some, refl, sym, ap, ap₂, subst, ◌∙◌, inl, inr, arith, Contains}
 use Rattle.proto_base.proofs.Common.{Contains-append_left, Contains-append_right, both_ways, cases_Bool, cases_lt, contains_head, contains_later, contains_map, false_from_ne_true, from_map, list_any, map-append, none-some, same_Some}
+use Rattle.proto_base.specs.declared.fault.FaultKind.TheVariants as kind
+use Rattle.proto_base.specs.declared.profile.Profile.{Profile}
+use Rattle.proto_base.specs.declared.profile.Profile.TheVariants as profile
 use Rattle.proto_case.proofs.Common.{entry_name, entry_differs}
 use Rattle.proto_tree.specs.declared.piece.Header.{Header}
 use Rattle.proto_tree.specs.declared.piece.Header.TheVariants as header
 use Rattle.proto_tree.specs.declared.tree.Reference.{Reference}
 use Rattle.proto_tree.proofs.Common.{Tree, End, first_of}
-use Rattle.proto_files.proofs.Common.{FileOf, ReadOf, read_at}
+use Rattle.proto_files.proofs.Common.{FileOf, ReadOf, file_at, read_at}
 use Rattle.proto_files.specs.GivenFiles.{no_file}
-use Rattle.proto_names_rules.proofs.Common.{Renaming, ren, place_of, At, at, Workspace, Symbol, same_name, Declared, Source, Used, reference_of, renaming_of, name_from_same, same_from_name, aim_renaming, has_meaning, map_agree, map_map, meant, ren_apart}
+use Rattle.proto_custom_options.specs.CustomOptions.{CustomOf, customs_in}
+use Rattle.proto_names_rules.proofs.Common.{Renaming, ren, target, place_of, At, at, Workspace, Symbol, same_name, Declared, Source, Used, reference_of, renaming_of, name_from_same, same_from_name, aim_renaming, has_meaning, map_agree, map_map, meant, ren_apart}
 use Rattle.proto_names_imports.proofs.Common.{link_skeleton, names_of_files, text_of, used_named, uses_of}
 use Rattle.proto_ast.proofs.Common.{BlockOf, FieldOf, blocks_in, closed_ranges, extension_ranges, fields_in, options_in, reserved_ranges, statements, Scene, value}
-use Rattle.proto_desc_numbers.proofs.Common.{is_inside, number_of_field, range_of}
+use Rattle.proto_desc_numbers.proofs.Common.{flaw_if, is_inside, number_of_field, range_of}
 use Rattle.proto_ast.specs.declared.ranges.RangeAt.{RangeAt}
 use Rattle.proto_desc_numbers.specs.declared.flaw.Flaw.{Flaw}
 use Rattle.proto_desc_checks_laws.specs.Renamed.{DifferInNames, asked_tokens, block_tokens, field_tokens, header_tokens, message_tokens, option_tokens, scalar_tokens}
-use Rattle.proto_desc_extensions.specs.Common.{ExtensionOf, block_extensions, extendee_in, extensions_in, extensions_of, is_message_at, name_meant, extension_ranges_at, ranges_at_place, ranges_named, ranges_within, workspace_flaws}
+use Rattle.proto_desc_extensions.specs.Common.{ExtensionOf, block_extensions, custom_flaws, extended_at, extended_by, extendee_in, extendee_meant, extensions_in, extensions_of, has_extension_at, is_an_option, is_message_at, is_the_message, name_meant, not_an_option, option_extends, extension_ranges_at, ranges_at_place, ranges_named, ranges_within, workspace_flaws}
 use Rattle.proto_desc_extensions.proofs.MovedExtensions.{AreMoved, moved_extension, moved_flaw, workspace_moved}
+use Rattle.proto_edit_rules.specs.Options.{HasWritten, is_fixed}
 use Rattle.proto_edit_rules.specs.Rename.{NewWords}
 use Rattle.proto_edit_rename_laws.specs.Scenes.{IsRename}
 use Rattle.proto_edit_rename_laws.proofs.Common.{at_same, declared_as, meaning_of, scene_of, declared_stays, find_there, from_flat_map, meaning_after, scenes_are_apart, to_flat_map, trees_at, used_here, uses_stay, values_stay}
 use Rattle.proto_edit_rename_laws.proofs.Scenes.{index_past}
 use Rattle.proto_edit_rename_described.specs.Common.{Taken}
 use Rattle.proto_edit_rename_described.proofs.FileStays.{closed_stays, number_stays}
+use Rattle.proto_edit_rename_described.proofs.OptionMessages.{core_has_none, message_known}
+use Rattle.proto_edit_rename_described.proofs.OptionsStay.{extends_plain, file_there, message_stays}
 
--- block by block
-flat_turned : (f g : BlockOf → List ExtensionOf) (m : ExtensionOf → ExtensionOf) (bs : List BlockOf) → ((b : BlockOf) → Contains bs b → f b ≡ map m (g b)) → flat_map f bs ≡ map m (flat_map g bs)
+-- part by part
+flat_turned : {A B : Type 0} (f g : A → List B) (m : B → B) (xs : List A) → ((x : A) → Contains xs x → f x ≡ map m (g x)) → flat_map f xs ≡ map m (flat_map g xs)
 flat_turned f g m [] h = refl
-flat_turned f g m (b ∷ bs) h = ap₂ (λ (x y : List ExtensionOf). x ++ y) (h b (contains_head b bs)) (flat_turned f g m bs (λ x c. h x (contains_later b x bs c))) ∙ sym (map-append m (g b) (flat_map g bs))
+flat_turned {A} {B} f g m (x ∷ xs) h = ap₂ (λ (l r : List B). l ++ r) (h x (contains_head x xs)) (flat_turned f g m xs (λ y c. h y (contains_later x y xs c))) ∙ sym (map-append m (g x) (flat_map g xs))
 
 same_flaws : (fs : List Flaw) → map (moved_flaw (λ i. i)) fs ≡ fs
 same_flaws [] = refl
 same_flaws (f ∷ fs) = ap (λ (gs : List Flaw). f ∷ gs) (same_flaws fs)
+
+-- the flaw of a custom option, if it has one
+abbrev option_flaw : List FileOf → List ReadOf → ℕ → CustomOf → List Flaw
+option_flaw files reads file o = flaw_if (not (is_an_option files reads file o)) kind.NotAnOption (first_of o.custom.name.dot o.custom.name.words)
 
 -- a field as an extension of what has the name
 abbrev extension_by : Scene → List (List ℕ) → FieldOf → ExtensionOf
@@ -51,7 +62,8 @@ number_asked s y =
 
 module _ (files : List FileOf) (reads : List ReadOf) (c : NewWords) (after : List FileOf) (seen : List ReadOf) (token : At) (above : List (Source At)) (aim : Declared At) (is_map : Bool) (to : List ℕ)
     (r : IsRename files reads c after seen token above aim is_map to)
-    (asked : (f : ℕ) → f < length files → (i : ℕ) → Contains (asked_tokens (scene_of None files reads f) (read_at reads f).tree) i → is_some (c (at f i)) ≡ false) where
+    (asked : (f : ℕ) → f < length files → (i : ℕ) → Contains (asked_tokens (scene_of None files reads f) (read_at reads f).tree) i → is_some (c (at f i)) ≡ false)
+    (free : HasWritten files → (is_fixed (target (renaming_of (text_of files reads) entry_name token above is_map to)) ≡ false) × (is_fixed ((renaming_of (text_of files reads) entry_name token above is_map to).parent ++ to ∷ []) ≡ false)) where
   abbrev e : Renaming
   e = renaming_of (text_of files reads) entry_name token above is_map to
 
@@ -132,6 +144,14 @@ module _ (files : List FileOf) (reads : List ReadOf) (c : NewWords) (after : Lis
               let m = use_means u cu in
               meaning_after files reads c after seen token above aim is_map to r f l u cu m.0 m.1 ∙ sym (ap (option_map (ren e)) m.1)
 
+    extendee_turned : (o : Option BlockOf) → option_and_then (extendee_meant after seen f) o ≡ option_map (ren e) (option_and_then (extendee_meant files reads f) o)
+    extendee_turned None = refl
+    extendee_turned (Some x) = by (extendee_in x.header)
+      where
+        by : (o : Option Reference) → option_and_then (name_meant after seen f) o ≡ option_map (ren e) (option_and_then (name_meant files reads f) o)
+        by None = refl
+        by (Some y) = name_turned y
+
     -- ---- extensions
 
     fields_turned : (within : Tree) → ((i : ℕ) → Contains (flat_map (field_tokens (scene_of None files reads f)) (fields_in within)) i → is_some (c (at f i)) ≡ false) → (o : Option (List (List ℕ)))
@@ -173,13 +193,15 @@ module _ (files : List FileOf) (reads : List ReadOf) (c : NewWords) (after : Lis
 
   -- ---- ranges by names
 
+  no_tree : (f : ℕ) → length files ≤ f → (read_at reads f).tree ≡ End
+  no_tree f l =
+      let none : read_at reads f ≡ (let x : ReadOf = record { tokens = []; tree = End } in x) = index_past reads (record { tokens = []; tree = End }) f (omega (arith, l, r.read.same)) in
+      ap (λ (x : ReadOf). x.tree) none
+
   ranges_at_stay : (p : At) → extension_ranges_at None after seen p ≡ extension_ranges_at None files reads p
   ranges_at_stay p = elim (cases_lt p.file (length files)) [
     | inl l ↦ ap new (trees_at files reads c after seen token above aim is_map to r p.file) ∙ within_stays p.file l p.token (find (λ (x : BlockOf). is_message_at p.token x.header) (blocks_in (read_at reads p.file).tree)) refl
-    | inr l ↦
-        let none : read_at reads p.file ≡ (let x : ReadOf = record { tokens = []; tree = End } in x) = index_past reads (record { tokens = []; tree = End }) p.file (omega (arith, l, r.read.same)) in
-        let tree : (read_at reads p.file).tree ≡ End = ap (λ (x : ReadOf). x.tree) none in
-        ap new (trees_at files reads c after seen token above aim is_map to r p.file ∙ tree) ∙ sym (ap old tree)
+    | inr l ↦ let tree = no_tree p.file l in ap new (trees_at files reads c after seen token above aim is_map to r p.file ∙ tree) ∙ sym (ap old tree)
   ]
     where
       new : Tree → List RangeAt
@@ -194,6 +216,54 @@ module _ (files : List FileOf) (reads : List ReadOf) (c : NewWords) (after : Lis
       by : (o : Option (Declared At)) → ranges_at_place None after seen (option_map place_of o) ≡ ranges_at_place None files reads (option_map place_of o)
       by None = refl
       by (Some d) = ranges_at_stay (place_of d)
+
+  -- ---- custom options
+
+  extended_turned : (p : At) → extended_at after seen p ≡ option_map (ren e) (extended_at files reads p)
+  extended_turned p = elim (cases_lt p.file (length files)) [
+    | inl l ↦ ap new (trees_at files reads c after seen token above aim is_map to r p.file) ∙ extendee_turned p.file l (find (has_extension_at p.token) (blocks_in (read_at reads p.file).tree))
+    | inr l ↦ let tree = no_tree p.file l in ap new (trees_at files reads c after seen token above aim is_map to r p.file ∙ tree) ∙ sym (ap old tree)
+  ]
+    where
+      new : Tree → Option (List (List ℕ))
+      new t = option_and_then (extendee_meant after seen p.file) (find (has_extension_at p.token) (blocks_in t))
+
+      old : Tree → Option (List (List ℕ))
+      old t = option_map (ren e) (option_and_then (extendee_meant files reads p.file) (find (has_extension_at p.token) (blocks_in t)))
+
+  extended_by_turned : (s : Symbol) → Contains (names_of_files files reads).symbols s → extended_by after seen (ren e s.name) ≡ option_map (ren e) (extended_by files reads s.name)
+  extended_by_turned s cs = ap (option_and_then (λ (d : Declared At). extended_at after seen (place_of d))) (sym (declared_stays files reads c after seen token above aim is_map to r s cs)) ∙ by (declared_as files reads s.name)
+    where
+      by : (o : Option (Declared At)) → option_and_then (λ (d : Declared At). extended_at after seen (place_of d)) o ≡ option_map (ren e) (option_and_then (λ (d : Declared At). extended_at files reads (place_of d)) o)
+      by None = refl
+      by (Some d) = extended_turned (place_of d)
+
+  -- what the extension extends that an option's name means
+  option_turned : (f : ℕ) → f < length files → (x : Reference) → option_extends after seen f x ≡ option_map (ren e) (option_extends files reads f x)
+  option_turned f l x = ap (option_and_then (extended_by after seen)) (name_turned f l x) ∙ by (name_meant files reads f x) refl
+    where
+      by : (o : Option (List (List ℕ))) → name_meant files reads f x ≡ o → option_and_then (extended_by after seen) (option_map (ren e) o) ≡ option_map (ren e) (option_and_then (extended_by files reads) o)
+      by None q = refl
+      by (Some m) q = let s = name_symbol f l x m q in subst (λ n. extended_by after seen (ren e n) ≡ option_map (ren e) (extended_by files reads n)) s.2 (extended_by_turned s.0 s.1)
+
+  option_stays : (f : ℕ) → f < length files → (o : CustomOf) → Contains (customs_in (read_at reads f).tree) o → is_an_option after seen f o ≡ is_an_option files reads f o
+  option_stays f l o co = by (file_at files f).profile refl
+    where
+      by : (p : Profile) → (file_at files f).profile ≡ p → is_an_option after seen f o ≡ is_an_option files reads f o
+      by profile.Core q = absurd (core_has_none files reads r.read f l q o co)
+      by profile.AsWritten q =
+          let apart = free (file_at files f, file_there files f l, q) in
+          let turned_is = option_turned f l o.custom.name in
+          ap (is_the_message o.message) turned_is
+          ∙ message_stays e is_map refl apart.0 apart.1 o.message (message_known (read_at reads f).tree o co) (option_extends files reads f o.custom.name)
+          (λ n h. (extends_plain files reads r.read f o.custom.name n h, extends_plain after seen r.reworded.read f o.custom.name (ren e n) (turned_is ∙ ap (option_map (ren e)) h)))
+
+  customs_stay : (f : ℕ) → f < length files → custom_flaws after seen f ≡ map (moved_flaw (λ i. i)) (custom_flaws files reads f)
+  customs_stay f l =
+      ap (λ (t : Tree). not_an_option after seen f (customs_in t)) (trees_at files reads c after seen token above aim is_map to r f)
+      ∙ flat_turned (option_flaw after seen f) (option_flaw files reads f) (moved_flaw (λ i. i)) (customs_in (read_at reads f).tree) (λ o co.
+      ap (λ (b : Bool). flaw_if (not b) kind.NotAnOption (first_of o.custom.name.dot o.custom.name.words)) (option_stays f l o co)
+      ∙ sym (same_flaws (option_flaw files reads f o)))
 
   -- ---- two names of symbols
 
@@ -218,6 +288,7 @@ module _ (files : List FileOf) (reads : List ReadOf) (c : NewWords) (after : Lis
         let s = extended p.file p.within d p.there in
         let t = extended q.file q.within x q.there in
         subst (λ n. same_name (ren e n) (ren e x.extendee) ≡ same_name n x.extendee) s.2 (subst (λ m. same_name (ren e s.0.name) (ren e m) ≡ same_name s.0.name m) t.2 (names_apart s.0 t.0 s.1 t.1)));
+    options = λ k l. customs_stay k l;
   }
 
   pub workspace_stays : (f : ℕ) → f < length files → workspace_flaws None after seen f ≡ workspace_flaws None files reads f

@@ -257,7 +257,7 @@ module _ (files : List FileOf) (reads : List ReadOf) (name to : List ℕ) (t : T
           by (header.Message x) cg c = (element.Field, empty_each (field_flaws a element.Field) (fields_in within) (empty_parts (flat_map (field_flaws a element.Field) (fields_in within)) _ (block_clean (header.Message x) cg)).0 f c)
           by (header.Extend x) cg c =
               let numbers = outside is_field_number (map (number_of_field a) (fields_in within)) in
-              let behind = (empty_parts (flaw_if (bars_extend a.profile a.is_proto3) fault.NotInProto3 x.keyword) (numbers ++ flat_map (flaws_of_extension a) (fields_in within)) (block_clean (header.Extend x) cg)).1 in
+              let behind = (empty_parts (flaw_if (bars_extend a.profile a.is_proto3 (meant_by a x.extendee)) fault.NotInProto3 x.keyword) (numbers ++ flat_map (flaws_of_extension a) (fields_in within)) (block_clean (header.Extend x) cg)).1 in
               let each = (empty_parts numbers (flat_map (flaws_of_extension a) (fields_in within)) behind).1 in
               (element.Extension, (empty_parts (required_extensions a f.label) (field_flaws a element.Extension f) (empty_each (flaws_of_extension a) (fields_in within) each f c)).1)
           by whole cg c = absurd (omega (arith, c.1))

@@ -10,6 +10,8 @@ mod FileStays
 pub mod FilesTurn
 pub mod Mapped
 pub mod NamesKept
+mod OptionMessages
+mod OptionsStay
 pub mod OtherTokens
 pub mod ScenesTurn
 mod TreeTurns

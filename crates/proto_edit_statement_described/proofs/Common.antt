@@ -1,6 +1,6 @@
 -- What proofs of the crates above name of this crate, passed on from one place. Declares nothing.
-pub use Rattle.proto_desc_extensions.specs.Extensions.{ExtensionOf, extendee_in, extensions_in, is_extendable, is_message_at, name_meant}
-pub use Rattle.proto_edit_statement_described.proofs.ExtensionLists.{block_said, block_says, blocks_said, deep_leave, extendable_same, extendee_meant, extensions_left, extensions_said, found_same, leaves, left_at, left_named, left_there, message_moved, moved_leaves, right_leave}
+pub use Rattle.proto_desc_extensions.specs.Extensions.{ExtensionOf, custom_flaws, extended_at, extended_by, extendee_in, extensions_in, is_extendable, is_message_at, name_meant, option_extends}
+pub use Rattle.proto_edit_statement_described.proofs.ExtensionLists.{block_says, deep_leave, extendable_same, extended_left, extendee_is_used, extensions_left, extensions_said, found_same, leaves, left_at, left_named, left_there, message_moved, moved_leaves, name_is_used, name_left, right_leave, says_moved}
 pub use Rattle.proto_edit_statement_described.proofs.Kept.{deletions_keep_versions, imports_keep_versions, new_tokens_are_own, others_keep_apart}
 pub use Rattle.proto_edit_statement_described.proofs.MovedScenes.{first_moved, scenes_are_moved}
 pub use Rattle.proto_edit_statement_described.proofs.OneFile.{additions_leave_no_fault, additions_map_descriptors, deletions_leave_no_fault, deletions_map_descriptors, drops_leave_no_fault, drops_map_descriptors}

@@ -1,97 +1,30 @@
--- The extensions of files of which one loses a field stay.
-use Rattle.std.proofs.Common.{◌≡◌, ◌≢◌, ℕ, ℤ, ◌==◌, inl, inr, Bool, List, ◌++◌, map, flat_map, find, Option, Some, None, option_map, option_and_then, refl, sym, ◌∙◌, ap, ap₂, subst, Contains, ne_eqb}
-use Rattle.proto_base.proofs.Common.{Contains-append_left, Contains-append_right, cases_eq, flat_map-append}
+-- The extensions of files of which one loses a field stay, and what is right of the options that they are set as.
+use Rattle.std.proofs.Common.{◌≡◌, ◌≢◌, ℕ, ℤ, ◌==◌, inl, inr, Bool, List, [], ◌++◌, map, find, Option, Some, None, option_map, option_and_then, refl, sym, ◌∙◌, ap, ap₂, subst, codes, Contains, ne_eqb}
+use Rattle.proto_base.proofs.Common.{Contains-append_left, Contains-append_right, cases_eq}
 use Rattle.proto_text.proofs.Common.{Lexeme}
-use Rattle.proto_tree.specs.declared.piece.Header.{Header}
-use Rattle.proto_tree.specs.declared.piece.Header.TheVariants as header
-use Rattle.proto_tree.specs.declared.tree.Field.{Field}
 use Rattle.proto_tree.specs.declared.tree.Reference.{Reference}
-use Rattle.proto_tree.proofs.Common.{Move, Tree, Block, first_of, move_header, move_reference, move_tree}
+use Rattle.proto_tree.proofs.Common.{Move, Tree, first_of, move_reference}
 use Rattle.proto_files.proofs.Common.{FileOf, ReadOf}
-use Rattle.proto_names_rules.proofs.Common.{IsLinked, Used, at, map_append, meant, shifted_used}
+use Rattle.proto_names_rules.specs.Faults.{place_of}
+use Rattle.proto_names_rules.proofs.Common.{At, Declared, IsLinked, Used, at, map_append, meant, shifted_used}
 use Rattle.proto_names_outline.specs.FromTree.{file_names}
 use Rattle.proto_names_imports.proofs.Common.{names_of_files, text_of, used_named, uses_of}
-use Rattle.proto_ast.proofs.Common.{BlockOf, Scene, blocks_in}
-use Rattle.proto_desc_checks_laws.proofs.Common.{IsMoved, blocks_moved}
-use Rattle.proto_edit_statement_described.proofs.Common.{AtField, AtOneof, BehindBlock, BehindLeaf, Deeper, ExtensionOf, ExtensionsStay, Found, FurtherOn, InMessage, IsAmong, IsDeletedIn, IsDeletedRight, PastBlock, PastLeaf, Reservation, Saying, WrittenField, block_said, block_says, blocks_said, deep_leave, extendable_same, extendee_meant, extensions_in, extensions_left, extensions_said, first_moved, is_extendable, is_message_at, leaves, left_at, left_named, left_there, meaning_of, message_moved, moved_leaves, name_meant, right_leave, saying_of, scene_at, scenes_are_moved, tree_at}
+use Rattle.proto_ast.proofs.Common.{Scene}
+use Rattle.proto_custom_options.specs.CustomOptions.{CustomOf, customs_in}
+use Rattle.proto_desc_checks_laws.proofs.Common.{IsMoved}
+use Rattle.proto_edit_statement_described.proofs.Common.{ExtensionOf, ExtensionsStay, Reservation, WrittenField, block_says, custom_flaws, declared_as, deep_leave, extendable_same, extended_at, extended_left, extendee_is_used, extensions_in, extensions_left, extensions_said, first_moved, is_extendable, is_message_at, leaves, left_at, left_there, meaning_of, message_moved, moved_leaves, name_is_used, name_left, name_meant, option_extends, right_leave, saying_of, says_moved, scene_at, scenes_are_moved, tree_at}
 use Rattle.proto_edit_statement_laws.proofs.NamesCommon.{MeanTheSame}
 use Rattle.proto_edit_statement_laws.proofs.Less.{wanted_stays}
+use Rattle.proto_edit_statement_laws.specs.Options.{move_custom_of}
 use Rattle.proto_edit_statement_described.specs.DeletedScenes.{HaveTokens, IsReadWithout, OtherScenesStay}
 use Rattle.proto_edit_statement_described.proofs.Declared.{found_alike, joined_is, named, none_passes, type_stays}
-use Rattle.proto_edit_statement_described.proofs.Enums.{same_test}
-use Rattle.proto_edit_statement_described.proofs.FoundBlocks.{are_found, found_among, or_else}
+use Rattle.proto_edit_statement_described.proofs.DeletedOptions.{of_tree}
 use Rattle.proto_edit_statement_described.proofs.DeletedScenes.{cut_map, is_referred, is_there, meaning_alike, more, other_meaning, other_scene, scenes_have_tokens}
-
--- ---- what the blocks of a tree say
-
-abbrev Meant : Type 0
-Meant = Reference → Option (List (List ℕ))
-
-abbrev listed : Scene → Meant → Tree → List Saying
-listed scene name t = flat_map (block_says scene name) (blocks_in t)
-
-abbrev block_with : Header → Tree → BlockOf
-block_with h t = record { header = h; within = t }
-
--- a block, what is in it and what is behind it
-parted : (scene : Scene) (name : Meant) (h : Header) (i : ℕ) (t : Tree) (j : ℕ) (rest : Tree) → listed scene name (Block h i t j rest) ≡ block_says scene name (block_with h t) ++ (listed scene name t ++ listed scene name rest)
-parted scene name h i t j rest = ap (λ (z : List Saying). block_says scene name (block_with h t) ++ z) (flat_map-append (block_says scene name) (blocks_in t) (blocks_in rest))
-
-module _ (g : Move) (a b : Scene) (is : IsMoved g a b) (was now : Meant) (same : (q : Reference) → now (move_reference g q) ≡ was q) where
-  joint : (h : Header) (i j : ℕ) (t x s rest : Tree) → block_says b now (block_with (move_header g h) t) ≡ block_says a was (block_with h x) → listed b now t ≡ listed a was x → listed b now s ≡ listed a was rest
-      → listed b now (Block (move_header g h) (g i) t (g j) s) ≡ listed a was (Block h i x j rest)
-  joint h i j t x s rest own inner behind =
-      parted b now (move_header g h) (g i) t (g j) s
-      ∙ ap₂ (λ (y z : List Saying). y ++ z) own (ap₂ (λ (y z : List Saying). y ++ z) inner behind)
-      ∙ sym (parted a was h i x j rest)
-
-  in_moved : (x : Tree) → listed b now (move_tree g x) ≡ listed a was x
-  in_moved x = ap (flat_map (block_says b now)) (blocks_moved g x) ∙ blocks_said g a b is was now same (blocks_in x)
-
-  past : (h : Header) (i : ℕ) (within : Tree) (j : ℕ) (x t : Tree) → listed b now t ≡ listed a was x → listed b now (Block (move_header g h) (g i) (move_tree g within) (g j) t) ≡ listed a was (Block h i within j x)
-  past h i within j x t e = joint h i j (move_tree g within) within t x (block_said g a b is was now same h within) (in_moved within) e
-
-  among : (f : Field) (x t : Tree) → IsAmong g f x t → listed b now t ≡ listed a was x
-  among f _ _ (Found rest) = in_moved rest
-  among f _ _ (FurtherOn s x t at) = among f x t at
-
--- of the three trees: no message and no oneof says anything (the walk is that of `FoundBlocks`; here all blocks of a tree are joined, there the first that passes is read)
-module _ (g k : Move) (w : WrittenField) (r : Reservation) (middle old new : Scene) (is_old : IsMoved g middle old) (is_new : IsMoved k middle new) (name was now : Meant)
-    (by_old : (q : Reference) → was (move_reference g q) ≡ name q) (by_new : (q : Reference) → now (move_reference k q) ≡ name q) where
-  abbrev SayTheSame : Tree → Tree → Tree → Type 0
-  SayTheSame x t u = (listed old was t ≡ listed middle name x) × (listed new now u ≡ listed middle name x)
-
-  olds : (x : Tree) → listed old was (move_tree g x) ≡ listed middle name x
-  olds = in_moved g middle old is_old name was by_old
-
-  news : (x : Tree) → listed new now (move_tree k x) ≡ listed middle name x
-  news = in_moved k middle new is_new name now by_new
-
-  past_both : (h : Header) (i : ℕ) (within : Tree) (j : ℕ) (x t u : Tree) → SayTheSame x t u → SayTheSame (Block h i within j x) (Block (move_header g h) (g i) (move_tree g within) (g j) t) (Block (move_header k h) (k i) (move_tree k within) (k j) u)
-  past_both h i within j x t u v = (past g middle old is_old name was by_old h i within j x t v.0, past k middle new is_new name now by_new h i within j x u v.1)
-
-  right_says : (x t u : Tree) → IsDeletedRight g k w r x t u → SayTheSame x t u
-  right_says _ _ _ (AtField rest) = (olds rest, news rest)
-  right_says _ _ _ (AtOneof h f i x t j rest plain some at) = (
-    joint g middle old is_old name was by_old (header.Oneof h) i j t x (move_tree g rest) rest refl (among g middle old is_old name was by_old f x t at) (olds rest),
-    news (Block (header.Oneof h) i x j rest),
-  )
-  right_says _ _ _ (PastLeaf a x t u sw) = right_says x t u sw
-  right_says _ _ _ (PastBlock h i within j x t u sw) = past_both h i within j x t u (right_says x t u sw)
-
-  deep_says : (x t u : Tree) → IsDeletedIn g k w r x t u → SayTheSame x t u
-  deep_says _ _ _ (InMessage h i x t u j rest sw) =
-      let v = right_says x t u sw in (
-        joint g middle old is_old name was by_old (header.Message h) i j t x (move_tree g rest) rest refl v.0 (olds rest),
-        joint k middle new is_new name now by_new (header.Message h) i j u x (move_tree k rest) rest refl v.1 (news rest),
-      )
-  deep_says _ _ _ (Deeper h i x t u j rest sw) =
-      let v = deep_says x t u sw in (
-        joint g middle old is_old name was by_old (header.Message h) i j t x (move_tree g rest) rest refl v.0 (olds rest),
-        joint k middle new is_new name now by_new (header.Message h) i j u x (move_tree k rest) rest refl v.1 (news rest),
-      )
-  deep_says _ _ _ (BehindLeaf a x t u sw) = deep_says x t u sw
-  deep_says _ _ _ (BehindBlock h i within j x t u sw) = past_both h i within j x t u (deep_says x t u sw)
+use Rattle.proto_edit_statement_described.proofs.Enums.{same_test}
+use Rattle.proto_edit_statement_described.proofs.Extended.{Meant, extended_said, extends_at, extends_moved, first_said}
+use Rattle.proto_edit_statement_described.proofs.FoundBlocks.{are_found, found_among, or_else}
+use Rattle.proto_edit_statement_described.proofs.RightOptions.{AreOld, ExtendsTheSame, options_stay_right, same_extends}
+use Rattle.proto_edit_statement_described.proofs.SaidBlocks.{deep_says}
 
 abbrev begins : ℕ → Used ℕ → Bool
 begins t u = u.first == t
@@ -158,10 +91,17 @@ module _ (files : List FileOf) (reads : List ReadOf) (after : List FileOf) (seen
 
   -- ---- what they say
 
+  -- what a reference of the tree of neither means
+  abbrev name : Meant
+  name q = name_meant files reads place (move_reference g q)
+
   said_here : map saying_of (extensions_in None after seen place) ≡ map saying_of (extensions_in None files reads place)
   said_here =
-      let v = deep_says g k w r tokens.middle (scene_at files reads place) (scene_at after seen place) is_old is_new (λ q. name_meant files reads place (move_reference g q)) (name_meant files reads place) (name_meant after seen place)
-      (λ q. refl) name_alike x (tree_at reads place) (tree_at seen place) is.trees in
+      let old : Scene = scene_at files reads place in
+      let new : Scene = scene_at after seen place in
+      let v = deep_says g k w r (block_says tokens.middle name) (block_says old (name_meant files reads place)) (block_says new (name_meant after seen place))
+      (says_moved g tokens.middle old is_old name (name_meant files reads place) (λ q. refl)) (says_moved k tokens.middle new is_new name (name_meant after seen place) name_alike)
+      x (tree_at reads place) (tree_at seen place) is.trees in
       extensions_said after seen place ∙ v.1 ∙ sym v.0 ∙ sym (extensions_said files reads place)
 
   said : (j : ℕ) → map saying_of (extensions_in None after seen j) ≡ map saying_of (extensions_in None files reads j)
@@ -186,20 +126,64 @@ module _ (files : List FileOf) (reads : List ReadOf) (after : List FileOf) (seen
         x (tree_at reads place) (tree_at seen place) is.trees in
         v.1 ∙ sym v.0
 
+  -- what is read where a name stands that a reference means
+  meant_stays : {X : Type 0} (old new : At → Option X) → ((j : ℕ) → j ≢ place → (i : ℕ) → new (at j i) ≡ old (at j i)) → ((i : ℕ) → new (at place (k i)) ≡ old (at place (g i)))
+      → (j : ℕ) (u : Used ℕ) → Contains (uses_of reads j) u → (m : List (List ℕ)) → meaning_of files reads j u ≡ Some m
+      → option_and_then (λ (d : Declared At). new (place_of d)) (declared_as after seen m) ≡ option_and_then (λ (d : Declared At). old (place_of d)) (declared_as files reads m)
+  meant_stays old new others own j u c m e =
+      let q = used_named (text_of files reads) j u in
+      let there = is_referred files reads j (is_there reads j u c) u c in
+      let s = meant (names_of_files files reads) q m e in
+      let keeps = wanted_stays q.wants s.0.kind s.3 (linked.no_entry q there s.0 s.1 (e ∙ ap Some (sym s.2))) in
+      subst (λ (z : List (List ℕ)). option_and_then (λ (d : Declared At). new (place_of d)) (declared_as after seen z) ≡ option_and_then (λ (d : Declared At). old (place_of d)) (declared_as files reads z)) s.2
+      (type_stays files reads after seen place g k w r x without is linked old new others own s.0 s.1 keeps)
+
   extendable : (j : ℕ) (e : ExtensionOf) → Contains (extensions_in None files reads j) e → is_extendable None after seen e ≡ is_extendable None files reads e
   extendable j e c =
       let n : ℤ = e.number.number in
-      let u = extendee_meant files reads j e c in
-      let q = used_named (text_of files reads) j u.0 in
-      let there = is_referred files reads j (is_there reads j u.0 u.1) u.0 u.1 in
-      let s = meant (names_of_files files reads) q e.extendee u.2 in
-      let keeps = wanted_stays q.wants s.0.kind s.3 (linked.no_entry q there s.0 s.1 (u.2 ∙ ap Some (sym s.2))) in
-      extendable_same files reads after seen e
-      (subst (λ (m : List (List ℕ)). left_named after seen n m ≡ left_named files reads n m) s.2
-      (type_stays files reads after seen place g k w r x without is linked (left_at files reads n) (left_at after seen n) (other_left n) (own_left n) s.0 s.1 keeps))
+      let u = extendee_is_used files reads j e c in
+      extendable_same files reads after seen e (meant_stays (left_at files reads n) (left_at after seen n) (other_left n) (own_left n) j u.0 u.1 e.extendee u.2)
+
+  -- ---- what the names of options mean
+
+  -- what the extension at a token extends
+  extended_there : (j : ℕ) → j ≢ place → (i : ℕ) → extended_at after seen (at j i) ≡ extended_at files reads (at j i)
+  extended_there j n i = extended_left files reads after seen j (ap (λ (s : ReadOf). s.tree) (is.reads_stay j n)) (other_scene files reads after seen place g k w r x without is linked same j n) (other_meaning files reads after seen place g k w r x without is linked same j n) i
+
+  extended_here : (i : ℕ) → extended_at after seen (at place (k i)) ≡ extended_at files reads (at place (g i))
+  extended_here i =
+      let v = deep_says g k w r (extends_at name i) (extends_at (name_meant files reads place) (g i)) (extends_at (name_meant after seen place) (k i))
+      (extends_moved g (same_test g is.old_apart) name (name_meant files reads place) (λ q. refl) i) (extends_moved k (same_test k is.new_apart) name (name_meant after seen place) name_alike i)
+      x (tree_at reads place) (tree_at seen place) is.trees in
+      extended_said after seen place (k i) ∙ ap first_said (v.1 ∙ sym v.0) ∙ sym (extended_said files reads place (g i))
+
+  extends_alike : (j : ℕ) (q p : Reference) → name_meant after seen j q ≡ name_meant files reads j p → option_extends after seen j q ≡ option_extends files reads j p
+  extends_alike j q p e = same_extends files reads after seen j q p e (λ m h.
+      let u = name_is_used files reads j p m h in
+      meant_stays (extended_at files reads) (extended_at after seen) extended_there extended_here j u.0 u.1 m u.2)
+
+  old_here : AreOld files reads after seen place
+  old_here d c =
+      let o = of_tree g k w r (codes "FileOptions") x (tree_at reads place) (tree_at seen place) is.trees d c in
+      let old : CustomOf = move_custom_of g o.middle in
+      let new : CustomOf = move_custom_of k o.middle in
+      let alike : ExtendsTheSame files reads after seen place old new = record { message = refl; extends = extends_alike place new.custom.name old.custom.name (name_alike o.middle.custom.name) } in
+      (old, o.was, subst (λ (z : CustomOf). ExtendsTheSame files reads after seen place old z) (sym o.is) alike)
+
+  old_there : (j : ℕ) → j ≢ place → AreOld files reads after seen j
+  old_there j n d c =
+      let tree = ap (λ (s : ReadOf). s.tree) (is.reads_stay j n) in
+      let means = name_left files reads after seen j tree (other_scene files reads after seen place g k w r x without is linked same j n) (other_meaning files reads after seen place g k w r x without is linked same j n) d.custom.name in
+      (d, subst (λ (t : Tree). Contains (customs_in t) d) tree c, record { message = refl; extends = extends_alike j d.custom.name d.custom.name means })
+
+  options : (j : ℕ) → custom_flaws files reads j ≡ [] → custom_flaws after seen j ≡ []
+  options j = elim (cases_eq j place) [
+    | inl e ↦ options_stay_right files reads after seen j (subst (λ i. AreOld files reads after seen i) (sym e) old_here)
+    | inr n ↦ options_stay_right files reads after seen j (old_there j n)
+  ]
 
   extensions_stay : ExtensionsStay files reads after seen
-  extensions_stay = record { profiles = is.profiles; said = said; extendable = extendable }
+  extensions_stay = record { profiles = is.profiles; said = said; extendable = extendable; options = options }
 
 pub other_scenes_stay : OtherScenesStay
 other_scenes_stay files reads after seen place g k w r x without is linked same = record {

@@ -9,7 +9,7 @@ use Rattle.proto_tree.specs.declared.piece.Statement.{Statement}
 use Rattle.proto_tree.specs.declared.tree.Range.{Range}
 use Rattle.proto_tree.specs.declared.tree.Field.{Field}
 use Rattle.proto_tree.proofs.Common.{Move, move_header, move_range, move_tree, Tree, Block, joined_trees}
-use Rattle.proto_ast.proofs.Common.{is_one_of, BlockOf, FieldOf, blocks_in, closed_ranges, enum_ranges, extension_words, fields_in, options_in, reserved_names, reserved_names_in, statement_options, statement_values, statements, Scene, number_at, text, value}
+use Rattle.proto_ast.proofs.Common.{is_one_of, BlockOf, FieldOf, blocks_in, closed_ranges, enum_ranges, extension_words, fields_in, options_in, reserved_names, reserved_names_in, statement_options, statement_values, statements, Scene, meant_by, number_at, text, value}
 use Rattle.proto_ast.specs.declared.options.Element.TheVariants as element
 use Rattle.proto_desc_numbers.specs.declared.flaw.Flaw.{Flaw}
 use Rattle.proto_desc_numbers.specs.declared.numbers.NumberAt.{NumberAt}
@@ -84,7 +84,7 @@ same_block scene (header.Oneof h) t v e f = ap (λ (fs : List FieldOf). flaw_if 
 same_block scene (header.Enum h) t v e f = same_enum scene h.name t v e
 same_block scene (header.Service h) t v e f = ap (λ (ss : List Statement). option_flaws scene element.Service (flat_map statement_options ss)) e
 same_block scene (header.Method h) t v e f = ap (λ (ss : List Statement). option_flaws scene element.Method (flat_map statement_options ss)) e
-same_block scene (header.Extend x) t v e f = ap (λ (fs : List FieldOf). flaw_if (bars_extend scene.profile scene.is_proto3) kind.NotInProto3 x.keyword ++ (outside is_field_number (map (number_of_field scene) fs) ++ flat_map (flaws_of_extension scene) fs)) f
+same_block scene (header.Extend x) t v e f = ap (λ (fs : List FieldOf). flaw_if (bars_extend scene.profile scene.is_proto3 (meant_by scene x.extendee)) kind.NotInProto3 x.keyword ++ (outside is_field_number (map (number_of_field scene) fs) ++ flat_map (flaws_of_extension scene) fs)) f
 
 -- ---- names of fields
 

@@ -1,4 +1,4 @@
--- The extensions of a file as its blocks say them, and where what they extend leaves them their numbers (for the crates above).
+-- The extensions of a file as its blocks say them, what each extends, and where that leaves them their numbers (for the crates above).
 use Rattle.std.proofs.Common.{◌≡◌, ℕ, ℤ, ◌==◌, Bool, true, false, List, [], ◌∷◌, ◌++◌, map, flat_map, find, Option, Some, None, option_map, option_and_then, refl, sym, ap, ap₂, ◌∙◌, inl, inr, arith, if◌then◌else◌, Contains}
 use Rattle.proto_base.proofs.Common.{Contains-append_cases, contains_head, contains_later, from_map, list_any, map-append, none-some}
 use Rattle.proto_tree.specs.declared.piece.Header.{Header}
@@ -13,13 +13,14 @@ use Rattle.proto_names_outline.specs.FromTree.{file_names}
 use Rattle.proto_names_imports.specs.Links.{uses_of}
 use Rattle.proto_ast.proofs.Common.{BlockOf, FieldOf, Scene, blocks_in, extension_ranges, fields_in, statements}
 use Rattle.proto_desc_numbers.proofs.Common.{is_inside, number_of_field, range_of}
-use Rattle.proto_desc_checks_laws.proofs.Common.{IsMoved, any_kept, extension_ranges_moved, fields_moved, flat_kept, given_moved, maps_moved, move_block_of, move_field_of, move_range_at, number_moved, range_moved}
+use Rattle.proto_desc_checks_laws.proofs.Common.{IsMoved, any_kept, extension_ranges_moved, fields_moved, given_moved, maps_moved, move_field_of, move_range_at, number_moved, range_moved}
 use Rattle.proto_desc.specs.SceneOf.{declared_as, meaning_of}
-use Rattle.proto_desc_extensions.specs.Extensions.{ExtensionOf, block_extensions, extendee_in, extensions_in, extensions_of, is_extendable, is_message_at, name_meant, ranges_at_place, ranges_within}
+use Rattle.proto_desc_extensions.specs.Extensions.{ExtensionOf, block_extensions, extended_at, extendee_in, extensions_in, extensions_of, has_extension_at, is_extendable, is_message_at, name_meant, ranges_at_place, ranges_within}
 use Rattle.proto_edit_statement_described.specs.Deletions.{IsDeletedIn, IsDeletedRight, Reservation, WrittenField}
 use Rattle.proto_edit_statement_described.specs.Extensions.{Saying, saying_of}
 use Rattle.proto_edit_statement_described.specs.Files.{scene_at}
 use Rattle.proto_edit_rules.specs.Statements.{tree_at}
+use Rattle.proto_edit_statement_described.proofs.SaidBlocks.{IsMovedSaying, IsOfExtends, block_with}
 use Rattle.proto_edit_statement_described.proofs.Parts.{new_read, no_ranges, nothing_with, old_read, outer_statements}
 
 -- ---- what a block says
@@ -41,6 +42,9 @@ extensions_said files reads k = go (blocks_in (tree_at reads k))
         map-append saying_of (block_extensions None files reads k b) (flat_map (block_extensions None files reads k) bs)
         ∙ ap (λ (z : List Saying). map saying_of (block_extensions None files reads k b) ++ z) (go bs)
 
+of_extends : (scene : Scene) (name : Reference → Option (List (List ℕ))) → IsOfExtends (block_says scene name)
+of_extends scene name h t e = ap (λ (o : Option Reference). said_by scene (option_and_then name o) t) e
+
 -- ---- moved blocks
 
 -- where moved references mean the same names
@@ -57,12 +61,12 @@ module _ (g : Move) (a b : Scene) (is : IsMoved g a b) (was now : Reference → 
   said_moved None within = refl
   said_moved (Some name) within = ap (λ (fs : List FieldOf). map saying_of (map (extension_by b name) fs)) (fields_moved g 0 within) ∙ fields_said name (fields_in within)
 
-  pub block_said : (h : Header) (within : Tree) → said_by b (option_and_then now (extendee_in (move_header g h))) (move_tree g within) ≡ said_by a (option_and_then was (extendee_in h)) within
+  block_said : (h : Header) (within : Tree) → block_says b now (block_with (move_header g h) (move_tree g within)) ≡ block_says a was (block_with h within)
   block_said (header.Extend e) within = ap (λ (o : Option (List (List ℕ))). said_by b o (move_tree g within)) (same e.extendee) ∙ said_moved (was e.extendee) within
   block_said whole within = refl
 
-  pub blocks_said : (bs : List BlockOf) → flat_map (block_says b now) (map (move_block_of g) bs) ≡ flat_map (block_says a was) bs
-  blocks_said = flat_kept (move_block_of g) (block_says a was) (block_says b now) (λ x. block_said x.header x.within)
+  pub says_moved : IsMovedSaying g (block_says a was) (block_says b now)
+  says_moved = record { of_old = of_extends a was; of_new = of_extends b now; same = block_said }
 
 -- ---- a file that is left
 
@@ -76,7 +80,7 @@ found_same p f h (u ∷ us) e = by (p u) (found_same p f h us (λ v c. e v (cont
 
 module _ (files : List FileOf) (reads : List ReadOf) (after : List FileOf) (seen : List ReadOf) (k : ℕ) (tree : tree_at seen k ≡ tree_at reads k) (scene : scene_at after seen k ≡ scene_at files reads k)
     (means : (u : Used ℕ) → Contains (uses_of reads k) u → meaning_of after seen k u ≡ meaning_of files reads k u) where
-  name_left : (r : Reference) → name_meant after seen k r ≡ name_meant files reads k r
+  pub name_left : (r : Reference) → name_meant after seen k r ≡ name_meant files reads k r
   name_left r =
       ap (λ (t : Tree). option_and_then (meaning_of after seen k) (find (λ (u : Used ℕ). u.first == first_of r.dot r.words) (file_names t).used)) tree
       ∙ found_same (λ (u : Used ℕ). u.first == first_of r.dot r.words) (meaning_of after seen k) (meaning_of files reads k) (uses_of reads k) means
@@ -96,6 +100,16 @@ module _ (files : List FileOf) (reads : List ReadOf) (after : List FileOf) (seen
           ∙ ap (λ (o : Option (List (List ℕ))). extensions_of (scene_at files reads k) o b.within) (names_left (extendee_in b.header)))
           (go bs)
 
+  -- what the extension at a token extends
+  pub extended_left : (i : ℕ) → extended_at after seen (at k i) ≡ extended_at files reads (at k i)
+  extended_left i =
+      ap (λ (t : Tree). option_and_then (λ (b : BlockOf). option_and_then (name_meant after seen k) (extendee_in b.header)) (find (has_extension_at i) (blocks_in t))) tree
+      ∙ by (find (has_extension_at i) (blocks_in (tree_at reads k)))
+    where
+      by : (o : Option BlockOf) → option_and_then (λ (b : BlockOf). option_and_then (name_meant after seen k) (extendee_in b.header)) o ≡ option_and_then (λ (b : BlockOf). option_and_then (name_meant files reads k) (extendee_in b.header)) o
+      by None = refl
+      by (Some b) = names_left (extendee_in b.header)
+
 -- ---- what an extension extends is what a reference of its file means
 
 in_flat : {A B : Type 0} (f : A → List B) (xs : List A) (y : B) → Contains (flat_map f xs) y → (x : A) × Contains (f x) y
@@ -113,8 +127,12 @@ found_there {X} p f (u ∷ us) x e = by (p u) e (λ h. found_there p f us x h)
     by true e later = (u, contains_head u us, e)
     by false e later = let r = later e in (r.0, contains_later u r.0 us r.1, r.2)
 
-pub extendee_meant : (files : List FileOf) (reads : List ReadOf) (k : ℕ) (e : ExtensionOf) → Contains (extensions_in None files reads k) e → (u : Used ℕ) × Contains (uses_of reads k) u × (meaning_of files reads k u ≡ Some e.extendee)
-extendee_meant files reads k e c =
+-- what a reference means is what one of those that its file uses means
+pub name_is_used : (files : List FileOf) (reads : List ReadOf) (k : ℕ) (r : Reference) (m : List (List ℕ)) → name_meant files reads k r ≡ Some m → (u : Used ℕ) × Contains (uses_of reads k) u × (meaning_of files reads k u ≡ Some m)
+name_is_used files reads k r m e = found_there (λ (u : Used ℕ). u.first == first_of r.dot r.words) (meaning_of files reads k) (uses_of reads k) m e
+
+pub extendee_is_used : (files : List FileOf) (reads : List ReadOf) (k : ℕ) (e : ExtensionOf) → Contains (extensions_in None files reads k) e → (u : Used ℕ) × Contains (uses_of reads k) u × (meaning_of files reads k u ≡ Some e.extendee)
+extendee_is_used files reads k e c =
     let r = in_flat (block_extensions None files reads k) (blocks_in (tree_at reads k)) e c in
     by (extendee_in r.0.header) (named (option_and_then (name_meant files reads k) (extendee_in r.0.header)) r.0.within r.1)
   where
@@ -126,7 +144,7 @@ extendee_meant files reads k e c =
 
     by : (o : Option Reference) → option_and_then (name_meant files reads k) o ≡ Some e.extendee → (u : Used ℕ) × Contains (uses_of reads k) u × (meaning_of files reads k u ≡ Some e.extendee)
     by None h = absurd (none-some e.extendee h)
-    by (Some r) h = found_there (λ (u : Used ℕ). u.first == first_of r.dot r.words) (meaning_of files reads k) (uses_of reads k) e.extendee h
+    by (Some r) h = name_is_used files reads k r e.extendee h
 
 -- ---- where messages leave numbers to extensions
 

@@ -9,9 +9,11 @@ mod DeletedDescriptors
 mod DeletedExtensions
 mod DeletedFlaws
 pub mod DeletedHeads
+pub mod DeletedOptions
 mod DeletedScenes
 pub mod Drops
 mod Enums
+mod Extended
 pub mod ExtensionLists
 mod FieldNamed
 mod FieldNames
@@ -38,6 +40,8 @@ mod OwnTokens
 mod Parts
 mod PathTokens
 mod Places
+mod RightOptions
+pub mod SaidBlocks
 mod SameExtensions
 mod SmallNumbers
 mod Spelled

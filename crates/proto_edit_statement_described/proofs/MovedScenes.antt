@@ -6,6 +6,7 @@ use Rattle.proto_tree.specs.declared.tree.Reference.{Reference}
 use Rattle.proto_tree.specs.declared.tree.Separated.{Separated}
 use Rattle.proto_tree.proofs.Common.{Move, move_option, move_reference, move_separated, first_of}
 use Rattle.proto_ast.specs.Scenes.{MeantOf, Scene, meant_by, string_of}
+use Rattle.proto_desc_checks.proofs.Common.{is_of_options}
 use Rattle.proto_edit_statement_described.specs.Scenes.{HasTokens, ScenesAreMoved, move_meant}
 
 -- ---- tokens
@@ -85,6 +86,7 @@ scenes_are_moved g a b h = record {
     texts = λ t. word_by b.lexemes (g t) ∙ ap text_in (h.stays t) ∙ sym (word_by a.lexemes t);
     strings = λ t. ap string_of (h.stays t);
     enums = λ r. ap (option_and_then (λ (m : MeantOf). m.enum)) (same_meant g a b h r) ∙ same_enum (meant_by a r);
+    options = λ r. ap is_of_options (same_meant g a b h r) ∙ same_options (meant_by a r);
   };
   names = λ r. ap (option_map (λ (m : MeantOf). m.name)) (same_meant g a b h r) ∙ same_name (meant_by a r);
 }
@@ -92,6 +94,10 @@ scenes_are_moved g a b h = record {
     same_enum : (o : Option MeantOf) → option_and_then (λ (m : MeantOf). m.enum) (option_map (move_meant g) o) ≡ option_and_then (λ (m : MeantOf). m.enum) o
     same_enum None = refl
     same_enum (Some m) = refl
+
+    same_options : (o : Option MeantOf) → is_of_options (option_map (move_meant g) o) ≡ is_of_options o
+    same_options None = refl
+    same_options (Some m) = refl
 
     same_name : (o : Option MeantOf) → option_map (λ (m : MeantOf). m.name) (option_map (move_meant g) o) ≡ option_map (λ (m : MeantOf). m.name) o
     same_name None = refl

@@ -30,7 +30,7 @@ module _ (files : List FileOf) (reads : List ReadOf) (after : List FileOf) (seen
   pub old_flaws : HasNoFault (CheckFaults files) → file_flaws (scene_at files reads place) (tree_at reads place) ≡ []
   old_flaws clean = no_flaws (file_flaws (scene_at files reads place) (tree_at reads place)) (λ f h. clean (fault_of_flaw files reads place f) (of_flaw reads place f o.read o.within (Contains-append_left (file_flaws (scene_at files reads place) (tree_at reads place)) _ f h)))
 
-  -- no flaw of the numbers of extensions
+  -- no flaw that the workspace decides
   old_extensions : HasNoFault (CheckFaults files) → (k : ℕ) → k < length files → workspace_flaws None files reads k ≡ []
   old_extensions clean k l =
       let alone : List Flaw = file_flaws (scene_at files reads k) (tree_at reads k) in

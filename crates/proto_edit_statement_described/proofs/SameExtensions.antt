@@ -1,4 +1,4 @@
--- Where the extensions of files stay, no flaw of their numbers comes in.
+-- Where the extensions of files stay, no flaw comes in that the workspace decides.
 use Rattle.std.proofs.Common.{◌≡◌, ℕ, zero, suc, Bool, not, ◌&&◌, List, [], ◌∷◌, ◌++◌, length, map, None, refl, sym, ap, ap₂, ◌∙◌, arith, int_eq, Contains}
 use Rattle.proto_base.proofs.Common.{contains_head, contains_later, length-map, list_any, map-append}
 use Rattle.proto_base.specs.declared.fault.FaultKind.{FaultKind}
@@ -10,13 +10,13 @@ use Rattle.proto_names_rules.specs.Names.{same_name}
 use Rattle.proto_desc_numbers.proofs.Common.{earlier, flaw_if, is_inside, marked}
 use Rattle.proto_desc_checks_laws.proofs.Common.{any_kept}
 use Rattle.proto_desc_checks_laws.proofs.DeletedFlaws.{nil_joined, nil_parts}
-use Rattle.proto_desc_extensions.specs.Extensions.{ExtensionOf, are_same, extensions_before, extensions_in, is_extendable, not_extendable, ranges_named, repeated_extensions, taken_before, workspace_flaws}
+use Rattle.proto_desc_extensions.specs.Extensions.{ExtensionOf, are_same, custom_flaws, extensions_before, extensions_in, is_extendable, not_extendable, number_flaws, ranges_named, repeated_extensions, taken_before, workspace_flaws}
 use Rattle.proto_edit_statement_described.specs.Extensions.{ExtensionsStay, Saying, saying_of}
 use Rattle.proto_edit_statement_described.proofs.DeletedFlaws.{no_flaw}
 
 -- ---- flaws at other tokens
 
-elsewhere : (k : FaultKind) (b c : Bool) (t u : ℕ) → c ≡ b → flaw_if b k t ≡ [] → flaw_if c k u ≡ []
+pub elsewhere : (k : FaultKind) (b c : Bool) (t u : ℕ) → c ≡ b → flaw_if b k t ≡ [] → flaw_if c k u ≡ []
 elsewhere k b c t u e n = ap (λ (z : Bool). flaw_if z k u) (e ∙ no_flaw b k t n)
 
 marked_elsewhere : (k : FaultKind) (ts us : List ℕ) (flags : List Bool) → length us ≡ length ts → marked k ts flags ≡ [] → marked k us flags ≡ []
@@ -75,8 +75,8 @@ module _ (files : List FileOf) (reads : List ReadOf) (after : List FileOf) (seen
       by language.Core = said_before k
       by language.AsWritten = refl
 
-  pub no_flaw_of_extensions : (k : ℕ) → workspace_flaws None files reads k ≡ [] → workspace_flaws None after seen k ≡ []
-  no_flaw_of_extensions k n =
+  no_flaw_of_numbers : (k : ℕ) → number_flaws None files reads k ≡ [] → number_flaws None after seen k ≡ []
+  no_flaw_of_numbers k n =
       let old : List ExtensionOf = extensions_in None files reads k in
       let new : List ExtensionOf = extensions_in None after seen k in
       let was : List ExtensionOf = taken_before (file_at files k).profile (extensions_before None files reads k) in
@@ -90,3 +90,8 @@ module _ (files : List FileOf) (reads : List ReadOf) (after : List FileOf) (seen
       nil_joined (not_extendable None after seen new) (repeated_extensions before new)
       (no_outside old new (stay.said k) (stay.extendable k) p.0)
       (ap (marked kind.DuplicateExtension (tokens new)) flags ∙ marked_elsewhere kind.DuplicateExtension (tokens old) (tokens new) (earlier are_same was old) many p.1)
+
+  pub no_flaw_of_extensions : (k : ℕ) → workspace_flaws None files reads k ≡ [] → workspace_flaws None after seen k ≡ []
+  no_flaw_of_extensions k n =
+      let p = nil_parts (number_flaws None files reads k) (custom_flaws files reads k) n in
+      nil_joined (number_flaws None after seen k) (custom_flaws after seen k) (no_flaw_of_numbers k p.0) (stay.options k p.1)

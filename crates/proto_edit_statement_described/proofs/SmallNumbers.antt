@@ -134,7 +134,7 @@ none_of : (xs : List Flaw) → ((f : Flaw) → Contains xs f → ⊥) → xs ≡
 none_of [] h = refl
 none_of (x ∷ xs) h = absurd (h x (contains_head x xs))
 
-none_at : {A : Type 0} (f : A → List Flaw) (xs : List A) (x : A) → Contains xs x → flat_map f xs ≡ [] → f x ≡ []
+pub none_at : {A : Type 0} (f : A → List Flaw) (xs : List A) (x : A) → Contains xs x → flat_map f xs ≡ [] → f x ≡ []
 none_at f [] x c e = absurd (omega (arith, c.1))
 none_at f (y ∷ xs) x c e =
     let p = nil_parts (f y) (flat_map f xs) e in

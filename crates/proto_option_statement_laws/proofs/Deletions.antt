@@ -12,10 +12,10 @@ use Rattle.proto_edit_rules.specs.OptionViews.{OptionsStay}
 use Rattle.proto_edit_rules.specs.Options.{IsOptionWord}
 use Rattle.proto_edit_rules.specs.Statements.{changed_at, tree_at}
 use Rattle.proto_edit_statement_described.proofs.Common.{deletions_map_descriptors}
+use Rattle.proto_edit_statement_described.proofs.DeletedOptions.{of_tree}
 use Rattle.proto_edit_statement_described.specs.Files.{IsFileDeletion, scene_at}
 use Rattle.proto_edit_statement_described.specs.NamedTrees.{TreesAreNamed}
 use Rattle.proto_edit_statement_laws.specs.Options.{OptionsMoveTokens, move_custom_of}
-use Rattle.proto_option_statement_laws.proofs.DeletedOptions.{of_tree}
 use Rattle.proto_option_statement_laws.proofs.DeletedViews.{sees}
 use Rattle.proto_option_statement_laws.proofs.SameOptions.{IsSameIn, Old, old_by, options_stay, same_back, same_moved, same_then}
 

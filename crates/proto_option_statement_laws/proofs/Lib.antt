@@ -1,5 +1,4 @@
 mod DeletedMessages
-mod DeletedOptions
 mod DeletedTypes
 mod DeletedViews
 mod Deletions

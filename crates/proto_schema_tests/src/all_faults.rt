@@ -134,6 +134,12 @@ const LANGUAGES: &[(&str, &str, &str)] = &[
         "a.proto:114: 8;",
         "a.proto:137: 27;a.proto:169: 27;",
     ),
+    // Those of elements, of blocks in proto3 and of numbers stand in order.
+    (
+        "c.proto import \"d.proto\"; extend google.protobuf.FileOptions { optional int32 y = 1001; optional int32 z = 1000 [(z) = 1]; } message M { option (z) = 1; option (y) = 2; }|b.proto syntax = \"proto3\"; import \"c.proto\"; extend M { int32 w = 1; } service S { rpc R (M) returns (M) { option (w) = 1; option (z) = 2; } } option (y) = 1; option (z) = 2;|d.proto package google.protobuf; message FileOptions { extensions 1000; }",
+        "b.proto:99: 8;c.proto:80: 8;",
+        "b.proto:37: 31;b.proto:58: 36;b.proto:107: 39;b.proto:123: 39;c.proto:74: 36;c.proto:106: 39;c.proto:137: 39;c.proto:153: 39;",
+    ),
 ];
 
 fn expect_as<R: AllocGlobal + Abort>(rt: &R, texts: &str, profile: Profile, wanted: &str) {

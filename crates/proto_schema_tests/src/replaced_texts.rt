@@ -4,7 +4,7 @@ ghost use Rattle.std.specs.Prelude.{◌<◌, length};
 
 use crate::allocations::are_texts;
 use crate::calls::{expect_text, fault_text, given_files};
-use proto_base::{NoMemory, SchemaFault};
+use proto_base::{NoMemory, Profile, SchemaFault};
 use proto_desc::{Schema, to_json};
 use std::alloc::Global;
 use std::process::Abort;
@@ -93,8 +93,12 @@ fn expect_replaced<R: AllocGlobal + Abort>(
 }
 
 // The one owner of a schema.
-fn expect_row<R: AllocGlobal + Abort>(rt: &R, row: Row) -> Result<(), SchemaFault> {
-    let mut schema = Schema::open(rt.alloc(), given_files(rt.alloc(), row.0)?)?;
+fn expect_row<R: AllocGlobal + Abort>(
+    rt: &R,
+    row: Row,
+    profile: Profile,
+) -> Result<(), SchemaFault> {
+    let mut schema = Schema::open_as(rt.alloc(), given_files(rt.alloc(), row.0)?, profile)?;
     let answer = expect_replaced(rt, &mut schema, row);
     schema.release();
     Ok(answer?)
@@ -175,7 +179,7 @@ const TEXTS: &[Row] = &[
 #[test]
 fn have_other_texts(rt: HostRuntime) {
     for row in TEXTS {
-        expect_row(&rt, *row).expect(&rt, "a schema");
+        expect_row(&rt, *row, Profile::Core).expect(&rt, "a schema");
     }
 }
 
@@ -296,6 +300,66 @@ const FAULTS: &[Row] = &[
 #[test]
 fn are_as_they_were_where_a_fault_is_found(rt: HostRuntime) {
     for row in FAULTS {
-        expect_row(&rt, *row).expect(&rt, "a schema");
+        expect_row(&rt, *row, Profile::Core).expect(&rt, "a schema");
+    }
+}
+
+/// Files as written: what elements the options have is asked again where a file is read anew that decides it.
+const OPTIONS: &[Row] = &[
+    // An extension that options of another file name extends another message.
+    (
+        "a.proto import \"b.proto\"; message A { option (p.x) = 1; }|b.proto package p; import \"d.proto\"; extend google.protobuf.MessageOptions { optional int32 x = 1000; }|d.proto package google.protobuf; message MessageOptions { extensions 1000; } message FieldOptions { extensions 1000; }",
+        "a.proto import \"b.proto\"; message A { option (p.x) = 1; }|b.proto package p; import \"d.proto\"; extend google.protobuf.FieldOptions { optional int32 x = 1000; }|d.proto package google.protobuf; message MessageOptions { extensions 1000; } message FieldOptions { extensions 1000; }",
+        &[1],
+        "a.proto:38: 39 NotAnOption",
+    ),
+    // What an extension extends means another message, by a file that is read anew.
+    (
+        "a.proto import \"b.proto\"; message A { option (p.x) = 1; }|b.proto package p; import \"c.proto\"; import \"d.proto\"; extend google.protobuf.MessageOptions { optional int32 x = 1000; }|c.proto package p;|d.proto package google.protobuf; message MessageOptions { extensions 1000; }",
+        "a.proto import \"b.proto\"; message A { option (p.x) = 1; }|b.proto package p; import \"c.proto\"; import \"d.proto\"; extend google.protobuf.MessageOptions { optional int32 x = 1000; }|c.proto package p; message google { message protobuf { message MessageOptions { extensions 1000; } } }|d.proto package google.protobuf; message MessageOptions { extensions 1000; }",
+        &[2],
+        "a.proto:38: 39 NotAnOption",
+    ),
+    // The name of an option means another extension, by a file that is read anew.
+    (
+        "a.proto package p; import \"b.proto\"; import \"c.proto\"; message A { option (x) = 1; }|b.proto import \"d.proto\"; extend google.protobuf.MessageOptions { optional int32 x = 1000; }|c.proto package p; import \"d.proto\";|d.proto package google.protobuf; message MessageOptions { extensions 1000; } message FieldOptions { extensions 1000; }",
+        "a.proto package p; import \"b.proto\"; import \"c.proto\"; message A { option (x) = 1; }|b.proto import \"d.proto\"; extend google.protobuf.MessageOptions { optional int32 x = 1000; }|c.proto package p; import \"d.proto\"; extend google.protobuf.FieldOptions { optional int32 x = 1000; }|d.proto package google.protobuf; message MessageOptions { extensions 1000; } message FieldOptions { extensions 1000; }",
+        &[2],
+        "a.proto:67: 39 NotAnOption",
+    ),
+    // The same by a public import of a file that is read anew.
+    (
+        "a.proto package p; import \"b.proto\"; import \"c.proto\"; message A { option (x) = 1; }|b.proto import \"d.proto\"; extend google.protobuf.MessageOptions { optional int32 x = 1000; }|c.proto package p;|d.proto package google.protobuf; message MessageOptions { extensions 1000; } message FieldOptions { extensions 1000; }|e.proto package p; import \"d.proto\"; extend google.protobuf.FieldOptions { optional int32 x = 1000; }",
+        "a.proto package p; import \"b.proto\"; import \"c.proto\"; message A { option (x) = 1; }|b.proto import \"d.proto\"; extend google.protobuf.MessageOptions { optional int32 x = 1000; }|c.proto package p; import public \"e.proto\";|d.proto package google.protobuf; message MessageOptions { extensions 1000; } message FieldOptions { extensions 1000; }|e.proto package p; import \"d.proto\"; extend google.protobuf.FieldOptions { optional int32 x = 1000; }",
+        &[2],
+        "a.proto:67: 39 NotAnOption",
+    ),
+    // An option of another element.
+    (
+        "a.proto import \"b.proto\"; message A { option (x) = 1; }|b.proto import \"d.proto\"; extend google.protobuf.MessageOptions { optional int32 x = 1000; }|d.proto package google.protobuf; message MessageOptions { extensions 1000; }",
+        "a.proto import \"b.proto\"; message A { optional int32 a = 1 [(x) = 1]; }|b.proto import \"d.proto\"; extend google.protobuf.MessageOptions { optional int32 x = 1000; }|d.proto package google.protobuf; message MessageOptions { extensions 1000; }",
+        &[0],
+        "a.proto:53: 39 NotAnOption",
+    ),
+    // A block of a proto3 file that extends another message.
+    (
+        "a.proto syntax = \"proto3\"; import \"b.proto\"; import \"c.proto\"; package p; extend google.protobuf.MessageOptions { int32 x = 1000; }|b.proto package google.protobuf; message MessageOptions { extensions 1000; }|c.proto package p;",
+        "a.proto syntax = \"proto3\"; import \"b.proto\"; import \"c.proto\"; package p; extend google.protobuf.MessageOptions { int32 x = 1000; }|b.proto package google.protobuf; message MessageOptions { extensions 1000; }|c.proto package p; message google { message protobuf { message MessageOptions { extensions 1000; } } }",
+        &[2],
+        "a.proto:66: 31 NotInProto3",
+    ),
+    // An option of its own element comes.
+    (
+        "a.proto import \"b.proto\"; message A { option (p.x) = 1; }|b.proto package p; import \"d.proto\"; extend google.protobuf.MessageOptions { optional int32 x = 1000; }|d.proto package google.protobuf; message MessageOptions { extensions 1000; } message FieldOptions { extensions 1000; }",
+        "a.proto import \"b.proto\"; message A { option (p.x) = 1; }|b.proto package p; import \"d.proto\"; message M { option (x) = 2; } extend google.protobuf.MessageOptions { optional int32 x = 1000; }|d.proto package google.protobuf; message MessageOptions { extensions 1000; } message FieldOptions { extensions 1000; }",
+        &[1],
+        "{\"file\":[{\"dependency\":[\"b.proto\"],\"messageType\":[{\"name\":\"A\"}],\"name\":\"a.proto\"},{\"dependency\":[\"d.proto\"],\"extension\":[{\"extendee\":\".google.protobuf.MessageOptions\",\"label\":\"LABEL_OPTIONAL\",\"name\":\"x\",\"number\":1000,\"type\":\"TYPE_INT32\"}],\"messageType\":[{\"name\":\"M\"}],\"name\":\"b.proto\",\"package\":\"p\"},{\"messageType\":[{\"extensionRange\":[{\"end\":1001,\"start\":1000}],\"name\":\"MessageOptions\"},{\"extensionRange\":[{\"end\":1001,\"start\":1000}],\"name\":\"FieldOptions\"}],\"name\":\"d.proto\",\"package\":\"google.protobuf\"}]}",
+    ),
+];
+
+#[test]
+fn options_are_asked_again(rt: HostRuntime) {
+    for row in OPTIONS {
+        expect_row(&rt, *row, Profile::AsWritten).expect(&rt, "a schema");
     }
 }

@@ -26,9 +26,11 @@ pub(crate) const A_CUSTOM_OPTION: &str = r#"# a custom option
 < {"error":{"code":-32803,"message":"refused: 19 OptionValue p/v1/a.proto:1:112"},"id":9,"jsonrpc":"2.0"}
 > {"jsonrpc":"2.0","id":10,"method":"textDocument/rename","params":{"textDocument":{"uri":"file:///w/google/protobuf/d.proto"},"position":{"line":0,"character":52},"newName":"F"}}
 < {"error":{"code":-32803,"message":"refused: 20 FixedName"},"id":10,"jsonrpc":"2.0"}
-> {"jsonrpc":"2.0","method":"textDocument/didChange","params":{"textDocument":{"uri":"file:///w/p/v1/a.proto","version":3},"contentChanges":[{"text":"message A { option (x) = 1 }"}]}}
-< {"jsonrpc":"2.0","method":"textDocument/publishDiagnostics","params":{"diagnostics":[{"code":"Syntax","message":"8 Syntax","range":{"end":{"character":18,"line":0},"start":{"character":12,"line":0}},"severity":1,"source":"protoref"}],"uri":"file:///w/p/v1/a.proto","version":3}}
+> {"jsonrpc":"2.0","method":"textDocument/didChange","params":{"textDocument":{"uri":"file:///w/p/v1/a.proto","version":3},"contentChanges":[{"text":"syntax = \"proto3\"; package p.v1; import \"google/protobuf/d.proto\"; message A { option (google.protobuf.y) = { b: 1 }; }"}]}}
+< {"jsonrpc":"2.0","method":"textDocument/publishDiagnostics","params":{"diagnostics":[{"code":"NotAnOption","message":"39 NotAnOption","range":{"end":{"character":93,"line":0},"start":{"character":87,"line":0}},"severity":1,"source":"protoref"}],"uri":"file:///w/p/v1/a.proto","version":3}}
 < {"jsonrpc":"2.0","method":"textDocument/publishDiagnostics","params":{"diagnostics":[],"uri":"file:///w/google/protobuf/d.proto"}}
+> {"jsonrpc":"2.0","method":"textDocument/didChange","params":{"textDocument":{"uri":"file:///w/p/v1/a.proto","version":4},"contentChanges":[{"text":"message A { option (x) = 1 }"}]}}
+< {"jsonrpc":"2.0","method":"textDocument/publishDiagnostics","params":{"diagnostics":[{"code":"Syntax","message":"8 Syntax","range":{"end":{"character":18,"line":0},"start":{"character":12,"line":0}},"severity":1,"source":"protoref"}],"uri":"file:///w/p/v1/a.proto","version":4}}
 = 1"#;
 
 pub(crate) const A_CUSTOM_OPTION_IN_THE_CORE_LANGUAGE: &str =

@@ -55,6 +55,7 @@ Faults:
   36 NotExtendable      an extension's number inside no extension range of what it extends
   37 DuplicateExtension an extension's number that an earlier one of the same message has
   38 RequiredExtension  a required extension
+  39 NotAnOption        a custom option whose extension is one of another element
 
 Example: protoref compile schemas";
 

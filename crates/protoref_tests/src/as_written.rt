@@ -52,6 +52,19 @@ const ROWS: &[Row] = &[
         "a.proto:1:75: 14 Unresolved\n",
         false,
     ),
+    // An option is one of its element, and in proto3 options messages alone are extended.
+    (
+        "a.proto syntax = \"proto3\"; import \"d.proto\"; message M { int32 a = 1 [(google.protobuf.x) = 1]; } | d.proto syntax = \"proto2\"; package google.protobuf; message FileOptions { extensions 1000; } extend FileOptions { optional int32 x = 1000; }",
+        "compile",
+        "a.proto:1:64: 39 NotAnOption\n",
+        false,
+    ),
+    (
+        "a.proto syntax = \"proto3\"; import \"d.proto\"; extend M { int32 y = 1; } | d.proto syntax = \"proto2\"; message M { extensions 1; }",
+        "compile",
+        "a.proto:1:38: 31 NotInProto3\n",
+        false,
+    ),
     // Files with them are edited, and one that the value of an option may see is refused.
     (CUSTOM, "rename p.A B", "changed a.proto\n", true),
     (CUSTOM, "rename p.x z", "changed a.proto\n", true),

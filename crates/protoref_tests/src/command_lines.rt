@@ -344,6 +344,10 @@ const HELPS: &[Row] = &[
         "help|  38 RequiredExtension  a required extension",
     ),
     (
+        "protoref compile -h",
+        "help|  39 NotAnOption        a custom option whose extension is one of another element",
+    ),
+    (
         "protoref lint -h",
         "help|1 with findings, as path:line:column: RULE name",
     ),

@@ -90,7 +90,7 @@ class Fault(NamedTuple):
     number: int
 
 
-def faults(files, as_written=False, is_ahead=False):
+def faults(files, as_written=False):
     """All faults of the first phase that has one, each once and in order. Files are pairs of a path and its bytes read as Latin-1."""
     files = sorted(files)
     found = set(faults_of_paths([path for path, _ in files]))
@@ -100,7 +100,7 @@ def faults(files, as_written=False, is_ahead=False):
     tokens, found = read_each(texts, lambda path: tokens_of(texts[path], as_written))
     if not found:
         trees, found = read_each(texts, lambda path: Reader(tokens[path], as_written).file(path, texts[path]))
-    return found or faults_of(Workspace(texts, as_written, list(trees.values()), is_ahead))
+    return found or faults_of(Workspace(texts, as_written, list(trees.values())))
 
 
 def read_each(paths, read):
@@ -189,8 +189,7 @@ def faults_of_checks(workspace):
         for offset, number in Checks(workspace, file, resolved).file():
             yield Fault(file.path, offset, number)
     yield from faults_of_numbers(workspace, resolved)
-    if workspace.is_ahead:
-        yield from faults_of_elements(workspace)
+    yield from faults_of_elements(workspace)
 
 
 def faults_of_numbers(workspace, resolved):
@@ -272,7 +271,7 @@ class Checks:
             yield from self.options("method", method.options)
 
     def extend(self, extend):
-        is_of_options = self.resolved[id(extend.extendee)].name in OPTIONS_MESSAGES or not self.workspace.is_ahead
+        is_of_options = self.resolved[id(extend.extendee)].name in OPTIONS_MESSAGES
         if self.is_proto3 and not (self.workspace.as_written and is_of_options):
             yield extend.keyword.start, 31
         yield from self.labels(extend.fields)

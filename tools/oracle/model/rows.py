@@ -357,8 +357,7 @@ OF_X = {
 # An extension in the message that has the option.
 INSIDE = P3 + 'package p; import "d.proto"; message A { extend google.protobuf.MessageOptions { int32 x = 1000; } option (%s) = 1; }'
 OF_FIELDS = FIELDS_OF + "message A { %s optional int32 y = 1 [(%s) = true]; }"
-# Files with names of options, and all faults of the first faulty phase, of files that are read as they are written, in a workspace that is
-# ahead. The program has those of 14 Unresolved.
+# Files with names of options, and all faults of the first faulty phase, of files that are read as they are written.
 OPTION_NAMES = [
     (OF_FIELDS % ("", "x"), []),
     (OF_FIELDS % ("", ".google.protobuf.x"), []),

@@ -43,13 +43,10 @@ class Use:
 
 
 class Workspace:
-    """Schemas by their paths, with their names. Texts are bytes read as Latin-1; files are given where they are read already.
+    """Schemas by their paths, with their names. Texts are bytes read as Latin-1; files are given where they are read already."""
 
-    A workspace that is ahead has the rules of custom options that the program does not have yet: 31 NotInProto3 and 39 NotAnOption by
-    what an extension extends."""
-
-    def __init__(self, texts, as_written=False, files=None, is_ahead=False):
-        self.texts, self.as_written, self.is_ahead = dict(texts), as_written, is_ahead
+    def __init__(self, texts, as_written=False, files=None):
+        self.texts, self.as_written = dict(texts), as_written
         self.files = files or [file_of(path, texts[path], as_written) for path in sorted(texts)]
         self.place_of = {file.path: place for place, file in enumerate(self.files)}
         self.symbols = list(self.declared())

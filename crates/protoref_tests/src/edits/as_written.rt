@@ -46,6 +46,11 @@ const ROWS: &[Row] = &[
         "a.proto 35 M N;",
     ],
     [
+        "a.proto syntax = \"proto3\"; import \"b.proto\"; extend google.protobuf.FieldOptions { int32 b_c = 1; int32 d = 2; }|b.proto package google.protobuf; message FieldOptions { extensions 1 to 9; }",
+        "rename d bC",
+        "a.proto 96 d bC;",
+    ],
+    [
         "a.proto syntax = \"proto3\"; message M { int32 b_c = 1; int32 d = 2; }",
         "rename M.d bC",
         "9 JsonClash",

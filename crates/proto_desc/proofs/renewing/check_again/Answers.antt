@@ -20,8 +20,11 @@ returns-clause-made c =
     let flaws = c.in_ok-flaws.flaws.items in
     let none = eqb-true c.in_ok-flaws.flaws.len 0 (sym c.is_empty.ensures ∙ c.if-not-is_empty.false) in
     let count : length flaws ≡ 0 = omega (arith, c.in_ok-flaws.flaws.ok.0, none) in
+    let of_options = c.in_ok-of_options.of_options in
+    let right : length of_options.items ≡ 0 = omega (arith, of_options.ok.0, eqb-true of_options.len 0 (sym c.is_empty-2.ensures ∙ c.if-not-is_empty-2.false)) in
     record {
       flawless = λ reads are. none_of_file files file c.requires.file scene c.in_ok-scene.ensures tree (rw c.files-files.ensures.files at c.tree-tree.ensures) reads are (sym c.in_ok-flaws.ensures ∙ nil_from_length flaws count);
+      options = λ reads are. sym (c.in_ok-of_options.ensures reads are) ∙ nil_from_length of_options.items right;
       described = λ reads are.
           (c.in_ok-descriptor.ensures
           ∙ ap (λ p. file_described scene p tree) (rw c.files-files.ensures.files at c.path.ensures)

@@ -1,4 +1,4 @@
-use Rattle.proto_desc_affected.proofs.Extensions.{unaffected_files_stay_flawless, unaffected_flaws_of_files_stay, unaffected_flaws_stay}
+use Rattle.proto_desc_affected.proofs.Extensions.{unaffected_files_stay_flawless, unaffected_flaws_of_files_stay}
 use Rattle.proto_desc_affected.proofs.Scenes.{unaffected_descriptors_stay, unaffected_scenes_stay}
 use Rattle.proto_desc_affected.proofs.laws.unaffected_files_stay.Goals as goal
 
@@ -10,9 +10,6 @@ returns-clause-descriptors c = unaffected_descriptors_stay
 
 pub returns-clause-own : goal.returns-clause-own
 returns-clause-own c = unaffected_flaws_of_files_stay
-
-pub returns-clause-flaws : goal.returns-clause-flaws
-returns-clause-flaws c = unaffected_flaws_stay
 
 pub returns-clause-flawless : goal.returns-clause-flawless
 returns-clause-flawless c = unaffected_files_stay_flawless

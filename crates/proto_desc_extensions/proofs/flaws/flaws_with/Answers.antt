@@ -1,7 +1,7 @@
 use Rattle.std.proofs.Common.{◌≡◌, suc, ◌+◌, ◌<◌, [], ◌∷◌, length, length-append, map, Some, ap, ◌∙◌, arith}
 use Rattle.proto_files.proofs.Common.{each_pushed}
 use Rattle.proto_ast.proofs.Common.{past}
-use Rattle.proto_desc_extensions.specs.Common.{extensions_before, told, told_by, workspace_flaws}
+use Rattle.proto_desc_extensions.specs.Common.{extensions_before, told, told_by, number_flaws}
 use Rattle.proto_desc_extensions.proofs.WorkspaceNumbers.{flaws_told, seen_more}
 use Rattle.proto_desc_extensions.proofs.flaws.flaws_with.Goals as goal
 
@@ -16,7 +16,7 @@ loop-file-preserved c =
     record {
       len = omega (arith, ap length c.in_ok-push.ensures.items, length-append c.loop-file.found.items (fs ∷ []), c.loop-file.invariant.len);
       each = λ reads are.
-          each_pushed (λ k flaws. flaws.items ≡ workspace_flaws (Some past) files reads k) c.loop-file.found.items c.push.new.self.items fs file c.in_ok-push.ensures.items c.loop-file.invariant.len (c.loop-file.invariant.each reads are)
+          each_pushed (λ k flaws. flaws.items ≡ number_flaws (Some past) files reads k) c.loop-file.found.items c.push.new.self.items fs file c.in_ok-push.ensures.items c.loop-file.invariant.len (c.loop-file.invariant.each reads are)
           (c.in_ok-flaws_in.ensures.flaws (map (told files reads) (extensions_before (Some past) files reads file)) (c.loop-file.invariant.seen reads are)
           ∙ flaws_told files reads c.args.linked.now.link (c.files-files.ensures.linked.link reads are) file c.profile.result (rw c.files-files.ensures.files at c.profile.ensures) es (ap (map told_by) c.deref.ensures.value ∙ c.in_ok-extensions.ensures reads are));
       seen = λ reads are.

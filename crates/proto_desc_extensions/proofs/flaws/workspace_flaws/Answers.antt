@@ -1,11 +1,7 @@
-use Rattle.std.proofs.Common.{◌≡◌, [], map, replicate, sym, ap, ◌∙◌}
-use Rattle.proto_base.proofs.Common.{IfOk-weaker}
-use Rattle.proto_desc_extensions.specs.Common.{AreWorkspaceFlaws}
-use Rattle.proto_desc_extensions.proofs.NoExtensions.{none_wrong}
+use Rattle.std.proofs.Common.{sym, ◌∙◌}
+use Rattle.proto_desc_extensions.proofs.OptionFlaws.{numbers_alone}
 use Rattle.proto_desc_extensions.proofs.flaws.workspace_flaws.Goals as goal
 
-pub returns-then-not-some_has_extend : goal.returns-then-not-some_has_extend
-returns-then-not-some_has_extend c =
-    IfOk-weaker c.no_flaws.result (λ found. map (λ v. v.items) found.items ≡ replicate c.file_count.result []) (λ found. AreWorkspaceFlaws c.args.linked.now.files found.items)
-    (λ found empty. none_wrong c.args.linked.now.files found.items (empty ∙ ap (λ n. replicate n []) c.file_count.ensures.len)
-    (λ reads are. sym c.if-not-some_has_extend.true ∙ (rw c.files-files.ensures.files at c.some_has_extend.ensures) reads are)) c.no_flaws.ensures
+pub returns-else-some_is_written : goal.returns-else-some_is_written
+returns-else-some_is_written c =
+    numbers_alone c.core_trees_have_no_custom.ensures c.args.linked.now.files (sym (rw c.files.ensures.files at c.some_is_written.ensures) ∙ c.if-some_is_written.false) c.in_ok-numbers.numbers.items c.in_ok-numbers.ensures

@@ -1,18 +1,12 @@
-use Rattle.std.proofs.Common.{◌≡◌, ℕ, Option, Some, None, refl, sym, ap, subst, ◌∙◌, unwrap_or}
+use Rattle.std.proofs.Common.{Some, sym, ap, subst, ◌∙◌}
 use Rattle.proto_base.proofs.Common.{none-some, same_Some}
-use Rattle.proto_tree.specs.References.{first_of}
-use Rattle.proto_tree.specs.declared.tree.Separated.{Separated}
 use Rattle.proto_names_rules.specs.Grown.{at}
 use Rattle.proto_names.specs.Common.{meant_at}
 use Rattle.proto_ast.specs.Numbers.{past}
 use Rattle.proto_desc_numbers.specs.RangeIndex.{IsRangeIndexOf}
 use Rattle.proto_desc_extensions.specs.Common.{IsExtendee, extension_ranges_at}
-use Rattle.proto_desc_extensions.proofs.Extendees.{file_there, found_extendee, meant_none, meant_some, text_there, token_there}
+use Rattle.proto_desc_extensions.proofs.Extendees.{file_there, first_is, found_extendee, meant_none, meant_some, text_there, token_there}
 use Rattle.proto_desc_extensions.proofs.listed.extendee_of.Goals as goal
-
-first_is : (dot : Option ℕ) (words : Separated ℕ) → unwrap_or dot words.first ≡ first_of dot words
-first_is None words = refl
-first_is (Some i) words = refl
 
 pub returns-in_err-meant : goal.returns-in_err-meant
 returns-in_err-meant c = λ reads are.
