@@ -2,12 +2,8 @@
 //! files.
 
 use crate::files_at;
+use proto_base::Profile;
 use proto_edit::Workspace;
-use proto_edit_entries::{Change, Refusal};
-use proto_edit_rename::rename;
-use proto_edit_statement_described::laws::numbers_are_read;
-use proto_edit_statements::{add_import, delete_field, drop_import};
-use proto_files::are_read;
 use std::alloc::Global;
 use std::io;
 use std::rt::{Clock, Files};
@@ -20,6 +16,16 @@ pub(crate) enum Edit<'a> {
     DeleteField { name: &'a str },
     AddImport { file: &'a str, path: &'a str },
     DropImport { file: &'a str, path: &'a str },
+}
+
+// The language of the files, and the words behind it.
+fn read_profile(words: &[String]) -> (Profile, &[String]) {
+    if let [first, rest @ ..] = words {
+        if first.as_str() == "--as-written" {
+            return (Profile::AsWritten, rest);
+        }
+    }
+    (Profile::Core, words)
 }
 
 // The edit that words begin with, and the words behind it.
@@ -43,24 +49,6 @@ pub(crate) fn read_edit(words: &[String]) -> Option<(Edit<'_>, &[String])> {
         _ => return None,
     };
     Some((edit, rest))
-}
-
-fn changes_of(alloc: Global, workspace: &Workspace, edit: Edit) -> Result<Vec<Change>, Refusal> {
-    let (files, link) = (workspace.files(), workspace.link());
-    are_read(files);
-    // The numbers of fields that compile are small.
-    numbers_are_read();
-    match edit {
-        Edit::Rename { name, to } => rename(alloc, files, link, name, to),
-        Edit::DeleteField { name } => delete_field(alloc, files, link, name),
-        Edit::AddImport { file, path } => add_import(alloc, files, link, file, path),
-        Edit::DropImport { file, path } => drop_import(alloc, files, link, file, path),
-    }
-}
-
-// How many files the edit changes.
-fn changed_count(alloc: Global, workspace: &Workspace, edit: Edit) -> Result<usize, Refusal> {
-    Ok(changes_of(alloc, workspace, edit)?.len())
 }
 
 // The edit as the workspace takes it.
@@ -113,17 +101,17 @@ fn print_made<R: Print + Clock + AllocGlobal>(
 fn answer<R: Print + Clock + AllocGlobal>(
     rt: &R,
     workspace: &mut Workspace,
-    edit: Edit,
+    edit: proto_edit::Edit,
     begun: Instant,
 ) -> io::Result<()> {
     let asked = Instant::now(rt)?;
-    let answer = changed_count(rt.alloc(), workspace, edit);
+    let answer = workspace.answer(rt.alloc(), &edit);
     let answered = Instant::now(rt)?;
     let (opening, editing) = (micros(begun, asked), micros(asked, answered));
     match answer {
-        Ok(count) => {
+        Ok(entry) => {
+            let count = entry.changes().len();
             print!(rt; "{count} files: opened {opening}, edited {editing}")?;
-            let edit = owned_edit(rt.alloc(), edit)?;
             print_made(rt, workspace, edit)
         }
         Err(refusal) => {
@@ -135,17 +123,19 @@ fn answer<R: Print + Clock + AllocGlobal>(
 
 /// Prints how many files an edit changes, and four times in microseconds: of opening the files, of
 /// the edit's answer, of making it in place, and of taking it back. Of a refused edit why it is,
-/// and the first two times.
+/// and the first two times. Behind `--as-written` the files are of the language as it is written.
 pub(crate) fn time_edit<R: Files + Print + Clock + AllocGlobal>(
     rt: &R,
     words: &[String],
 ) -> io::Result<()> {
+    let (profile, words) = read_profile(words);
     let Some((edit, paths)) = read_edit(words) else {
         return println!(rt; "no edit");
     };
+    let edit = owned_edit(rt.alloc(), edit)?;
     let given = files_at(rt, paths)?;
     let begun = Instant::now(rt)?;
-    match Workspace::open(rt.alloc(), given) {
+    match Workspace::open_as(rt.alloc(), given, profile) {
         Ok(mut workspace) => {
             let printed = answer(rt, &mut workspace, edit, begun);
             workspace.release();

@@ -2,9 +2,9 @@
 //! whole schemas, and timed.
 //!
 //!     bench lex|parse|link|lint|compile FILE..
-//!     bench edit rename NAME TO FILE..
-//!     bench edit delete-field NAME FILE..
-//!     bench edit add-import|drop-import FILE PATH FILE..
+//!     bench edit [--as-written] rename NAME TO FILE..
+//!     bench edit [--as-written] delete-field NAME FILE..
+//!     bench edit [--as-written] add-import|drop-import FILE PATH FILE..
 //!     bench edits EDIT.. FILE..
 #![tactic(auto)]
 

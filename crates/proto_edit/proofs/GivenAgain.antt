@@ -1,5 +1,5 @@
 -- Files that compile are read, and compile when they are given again (for the crates above).
-use Rattle.std.proofs.Common.{◌≡◌, List, [], length, refl, subst, inl, inr, arith}
+use Rattle.std.proofs.Common.{◌≡◌, List, length, refl, subst, inl, inr, arith}
 use Rattle.proto_base.proofs.Common.{IsPermutation-sym, All-permutation, cases_lt, length_permutation, text_limit}
 use Rattle.proto_base.specs.declared.fault.FaultKind.TheVariants.{TooLarge}
 use Rattle.proto_files.proofs.Common.{FaultAt, IsLeastFault, FileOf, AreWorkspaceFiles, IsWorkspacePath, one_order}

@@ -1,5 +1,5 @@
 -- Files that compile have one list of descriptors; an edit changes them in one way, or is refused by one case (for the crates above).
-use Rattle.std.proofs.Common.{◌≡◌, ℕ, ◌<◌, Bool, List, inl, inr, sym, ap, subst, ◌∙◌, arith}
+use Rattle.std.proofs.Common.{◌≡◌, ℕ, Bool, List, inl, inr, sym, ap, subst, ◌∙◌, arith}
 use Rattle.std.proofs.lemmas.Bool.{cases_lt}
 use Rattle.proto_files.proofs.Common.{ReadOf, AreRead, FileOf, file_at, read_at, read_once}
 use Rattle.proto_text.proofs.Common.{offset_at}

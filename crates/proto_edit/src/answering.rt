@@ -14,6 +14,7 @@ use crate::laws::statements_are_known;
 use crate::workspace::Workspace;
 use proto_base::SchemaFault;
 use proto_edit_entries::{Edit, Entry, Refusal};
+use proto_tree::Steps;
 use std::alloc::Global;
 
 impl Workspace {
@@ -51,13 +52,6 @@ impl Workspace {
             (with_texts self.old places.now (map (λ t. t.items) texts.items))) }
         ensures kept { OnErr result (self.new ≡ self.old) }
     {
-        match self.schema.replace(alloc, places, texts) {
-            Ok(()) => {
-                // Its files are those of a workspace.
-                self.schema.files().len();
-                Ok(())
-            }
-            Err(fault) => Err(fault),
-        }
+        self.replace_counted(alloc, places, texts, &mut Steps::new())
     }
 }

@@ -25,7 +25,7 @@ impl Workspace {
             × AreChanges self.now (rename_asked name.now to.now) (map change_of cs.items)) }
         ensures err { IfErr result (IsRefusal self.now (rename_asked name.now to.now)) }
     {
-        rename(alloc, self.files(), self.link(), name, to)
+        rename(alloc, &self.linked(), self.options(), name, to)
     }
 
     // What the deletion of a field changes, or the least case that refuses it. The numbers
@@ -36,7 +36,7 @@ impl Workspace {
         ensures err { IfErr result (IsRefusal self.now (delete_asked name.now)) }
     {
         numbers_are_read();
-        delete_field(alloc, self.files(), self.link(), name)
+        delete_field(alloc, &self.linked(), self.options(), name)
     }
 
     // What an added import changes, or the least case that refuses it.

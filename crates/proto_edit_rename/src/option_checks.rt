@@ -8,6 +8,7 @@ ghost use Rattle.proto_names_rules.specs.Joined.{joined};
 ghost use Rattle.proto_text.specs.Words.{is_run};
 ghost use Rattle.proto_edit_rules.specs.Options.{is_named_in_values};
 ghost use Rattle.proto_edit_rules.specs.Rename.{IsValueWord, NamesOptions, Target, name_map};
+ghost use Rattle.proto_option_files.specs.OptionFiles.{AreOptionFiles};
 ghost use Rattle.proto_option_values.specs.OptionValues.{IsOptionValue};
 ghost use Rattle.proto_edit_captures.specs.FoundTargets.{IsTargetOf, IsFoundTarget};
 ghost use Rattle.proto_edit_rename.specs.Cases.{IsFreeBefore};
@@ -18,6 +19,7 @@ use proto_edit_captures::{RenameTarget, beside, front};
 use proto_edit_entries::Refusal;
 use proto_files::{Files, Words};
 use proto_names_rules::Kind;
+use proto_option_files::OptionFiles;
 use proto_option_values::{OptionWords, has_written, is_fixed, option_value};
 use proto_resolved::CleanLinked;
 use std::alloc::Global;
@@ -45,9 +47,11 @@ fn own_word<'a>(files: &'a Files, target: RenameTarget) -> &'a str
 fn value_refusal<'a>(
     alloc: Global,
     linked: &CleanLinked<'a>,
+    index: &OptionFiles,
     target: RenameTarget<'a>,
     to: &'a str,
 ) -> Result<Option<Refusal>, NoMemory>
+    requires index { AreOptionFiles linked.now.files index.now }
     requires target { IsTargetOf linked.now.files target }
     requires file { target.file < length linked.now.files }
     ensures { IfOk result (λ refusal. (reads : List ReadOf) → AreRead linked.now.files reads
@@ -63,16 +67,18 @@ fn value_refusal<'a>(
         old: own_word(files, target),
         new: Some(to),
     };
-    option_value(alloc, linked, target.file, words)
+    option_value(alloc, linked, index, target.file, words)
 }
 
 /// Case 19: no word of an option may stand for the target.
 pub(crate) fn check_values<'a>(
     alloc: Global,
     linked: &CleanLinked<'a>,
+    index: &OptionFiles,
     target: RenameTarget<'a>,
     to: &'a str,
 ) -> Result<(), Refusal>
+    requires index { AreOptionFiles linked.now.files index.now }
     requires target { IsTargetOf linked.now.files target }
     requires file { target.file < length linked.now.files }
     requires before { IsFreeBefore linked.now.files target.name.now to.now 19 }
@@ -82,7 +88,7 @@ pub(crate) fn check_values<'a>(
         (IsRenameRefusal linked.now.files target.entry.name.now to.entry.now) }
 {
     linked.files();
-    match value_refusal(alloc, linked, target, to)? {
+    match value_refusal(alloc, linked, index, target, to)? {
         None => Ok(()),
         Some(refusal) => Err(refusal),
     }

@@ -2,13 +2,11 @@
 
 ghost use Rattle.std.specs.Prelude.{◌<◌, length, map, IfOk, IfErr};
 ghost use Rattle.proto_edit_entries.specs.Entries.{change_of};
-ghost use Rattle.proto_files.specs.Faults.{HasNoFault};
-ghost use Rattle.proto_names_imports.specs.Links.{LinkFaults};
-ghost use Rattle.proto_names.specs.LinkOfFiles.{IsLinkOf};
 ghost use Rattle.proto_edit_rename.specs.Cases.{IsFreeBefore};
 ghost use Rattle.proto_edit_rename.specs.Changes.{IsChangesFault};
 ghost use Rattle.proto_edit_rename.specs.Renames.{AreChangesOfRename, IsRenamed, IsRenameRefusal};
 ghost use Rattle.proto_edit_captures.specs.FoundTargets.{IsTargetOf};
+ghost use Rattle.proto_option_files.specs.OptionFiles.{AreOptionFiles};
 
 use crate::changes::changes;
 use crate::changing::RewordFault;
@@ -17,8 +15,7 @@ use crate::found_target::target_of_name;
 use crate::option_checks::{check_fixed, check_values};
 use proto_edit_captures::RenameTarget;
 use proto_edit_entries::{Change, Refusal};
-use proto_files::Files;
-use proto_names::Link;
+use proto_option_files::OptionFiles;
 use proto_resolved::CleanLinked;
 use std::alloc::Global;
 
@@ -68,9 +65,11 @@ fn changes_or_refusal(
 fn changes_of_rename<'a>(
     alloc: Global,
     linked: &CleanLinked<'a>,
+    index: &OptionFiles,
     target: RenameTarget<'a>,
     to: &'a str,
 ) -> Result<Vec<Change>, Refusal>
+    requires index { AreOptionFiles linked.now.files index.now }
     requires target { IsTargetOf linked.now.files target }
     requires file { target.file < length linked.now.files }
     requires before { IsFreeBefore linked.now.files target.name.now to.now 3 }
@@ -83,7 +82,7 @@ fn changes_of_rename<'a>(
     check_names(alloc, linked, target, to)?;
     check_members(alloc, linked, target, to)?;
     let changes = changes_or_refusal(alloc, linked, target, to)?;
-    check_values(alloc, linked, target, to)?;
+    check_values(alloc, linked, index, target, to)?;
     check_fixed(alloc, linked, target, to)?;
     Ok(changes)
 }
@@ -92,20 +91,19 @@ fn changes_of_rename<'a>(
 /// file; or the least case that refuses it, by number: UnknownTarget, KindNotAllowed,
 /// NotAnIdentifier, KeywordName, SameName, Collision, Captured (with its place), NameReserved,
 /// JsonClash, TooLarge, OptionValue (with its place), FixedName. `NoMemory` may come in place of any
-/// answer.
+/// answer. The index is asked which files may have an option with the old or the new name.
 pub fn rename(
     alloc: Global,
-    files: &Files,
-    link: &Link,
+    linked: &CleanLinked<'_>,
+    index: &OptionFiles,
     name: &str,
     to: &str,
 ) -> Result<Vec<Change>, Refusal>
-    requires link { IsLinkOf files.now link.now }
-    requires linked { HasNoFault (LinkFaults files.now) }
-    ensures ok { IfOk result (λ cs. IsRenamed files.now name.now to.now (map change_of cs.items)) }
-    ensures err { IfErr result (IsRenameRefusal files.now name.now to.now) }
+    requires index { AreOptionFiles linked.now.files index.now }
+    ensures ok { IfOk result (λ cs.
+        IsRenamed linked.now.files name.now to.now (map change_of cs.items)) }
+    ensures err { IfErr result (IsRenameRefusal linked.now.files name.now to.now) }
 {
-    let linked = CleanLinked::new(files, link);
-    let target = target_of_name(alloc, &linked, name)?;
-    changes_of_rename(alloc, &linked, target, to)
+    let target = target_of_name(alloc, linked, name)?;
+    changes_of_rename(alloc, linked, index, target, to)
 }

@@ -5,7 +5,6 @@ ghost use Rattle.proto_edit_entries.specs.Entries.{change_of};
 ghost use Rattle.proto_files.specs.Faults.{HasNoFault};
 ghost use Rattle.proto_files.specs.FilesRead.{ReadOf, AreRead};
 ghost use Rattle.proto_names_imports.specs.Links.{LinkFaults};
-ghost use Rattle.proto_names.specs.LinkOfFiles.{IsLinkOf};
 ghost use Rattle.proto_edit_statements.specs.Edits.{HaveSmallNumbers, HasDeletionChanges, IsDeletionCase, IsDeletionRefusal};
 ghost use Rattle.proto_files.specs.GivenFiles.{file_at};
 ghost use Rattle.proto_edit_statements.specs.Fields.{IsFieldToken, IsPlaceOfField, StandsInOrder, is_field, last_replaced, text_by};
@@ -15,6 +14,7 @@ ghost use Rattle.proto_text.specs.Tokens.{AreTokens};
 ghost use Rattle.proto_text.specs.declared.lexer.Token.{Token};
 ghost use Rattle.proto_edit_rules.specs.DeleteField.{reservation_text};
 ghost use Rattle.proto_edit_statements.specs.Spliced.{AreChangesOfDeletion, IsChangeOfDeletion};
+ghost use Rattle.proto_option_files.specs.OptionFiles.{AreOptionFiles};
 
 use crate::alone::is_alone;
 use crate::fields::{FieldPlace, field_at};
@@ -26,8 +26,8 @@ use proto_base::NoMemory;
 use proto_edit_entries::{Change, Refusal};
 use proto_edit_statement_laws::laws::statements_are_one;
 use proto_files::{Files, Words, are_read};
-use proto_names::Link;
 use proto_names_rules::Kind;
+use proto_option_files::OptionFiles;
 use proto_resolved::CleanLinked;
 use proto_text::Span;
 use std::alloc::Global;
@@ -190,24 +190,23 @@ fn changes_of_deletion(
 }
 
 /// What the deletion of the field of a full name, without a leading dot, changes; or the least case
-/// that refuses it. Its number and its name are reserved.
+/// that refuses it. Its number and its name are reserved. The index is asked which files may have
+/// an option with the field's name.
 pub fn delete_field(
     alloc: Global,
-    files: &Files,
-    link: &Link,
+    linked: &CleanLinked<'_>,
+    index: &OptionFiles,
     name: &str,
 ) -> Result<Vec<Change>, Refusal>
-    requires link { IsLinkOf files.now link.now }
-    requires linked { HasNoFault (LinkFaults files.now) }
-    requires small { HaveSmallNumbers files.now }
-    ensures ok { IfOk result (λ cs. HasDeletionChanges files.now name.now
+    requires index { AreOptionFiles linked.now.files index.now }
+    requires small { HaveSmallNumbers linked.now.files }
+    ensures ok { IfOk result (λ cs. HasDeletionChanges linked.now.files name.now
         (map change_of cs.items)) }
-    ensures err { IfErr result (IsDeletionRefusal files.now name.now) }
+    ensures err { IfErr result (IsDeletionRefusal linked.now.files name.now) }
 {
-    are_read(files);
+    let files = linked.files();
     statements_are_one();
-    let linked = CleanLinked::new(files, link);
-    let field = field_named(&linked, name)?;
+    let field = field_named(linked, name)?;
     let tree = files.tree(field.file);
     if is_alone(tree, field.token) {
         return Err(Refusal::LastOfOneof);
@@ -217,7 +216,7 @@ pub fn delete_field(
         unreachable!();
     };
     let changes = changes_of_deletion(alloc, files, name, field, place)?;
-    check_values(alloc, &linked, name, field)?;
-    check_fixed(&linked, name)?;
+    check_values(alloc, linked, index, name, field)?;
+    check_fixed(linked, name)?;
     Ok(changes)
 }

@@ -4,10 +4,12 @@ ghost use Rattle.std.specs.Prelude.{◌<◌, ℕ, List, IfOk, IfErr};
 ghost use Rattle.proto_files.specs.FilesRead.{ReadOf, AreRead};
 ghost use Rattle.proto_edit_statements.specs.Edits.{IsDeletionCase, IsDeletionRefusal};
 ghost use Rattle.proto_edit_statements.specs.Fields.{IsFieldToken};
+ghost use Rattle.proto_option_files.specs.OptionFiles.{AreOptionFiles};
 
 use crate::deleting::FieldName;
 use proto_edit_entries::Refusal;
 use proto_files::Words;
+use proto_option_files::OptionFiles;
 use proto_option_values::{OptionWords, has_written, is_fixed, option_value};
 use proto_resolved::CleanLinked;
 use std::alloc::Global;
@@ -16,9 +18,11 @@ use std::alloc::Global;
 pub(crate) fn check_values(
     alloc: Global,
     linked: &CleanLinked<'_>,
+    index: &OptionFiles,
     name: &str,
     field: FieldName,
 ) -> Result<(), Refusal>
+    requires index { AreOptionFiles linked.now.files index.now }
     requires field { (reads : List ReadOf)
         → AreRead linked.now.files reads → IsFieldToken linked.now.files reads name.now field }
     requires before { (n : ℕ) → n < 17 → IsDeletionCase linked.now.files name.now n → ⊥ }
@@ -29,7 +33,8 @@ pub(crate) fn check_values(
     let files = linked.files();
     let words = Words::new(files, field.file);
     let old = words.get(field.token);
-    match option_value(alloc, linked, field.file, OptionWords { old, new: None })? {
+    let asked = OptionWords { old, new: None };
+    match option_value(alloc, linked, index, field.file, asked)? {
         Some(refusal) => Err(refusal),
         None => Ok(()),
     }

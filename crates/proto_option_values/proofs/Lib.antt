@@ -3,6 +3,7 @@ mod FirstWord
 mod FixedNames
 mod ImportsBack
 mod LeastOf
+mod NotedFiles
 mod OptionsRead
 mod Turns
 mod WordsOfFile

@@ -1,10 +1,8 @@
 -- What is found in the options of a file is so in each reading of it.
-use Rattle.std.proofs.Common.{◌≡◌, ℕ, ◌<◌, Bool, true, false, List, [], length, map, Option, Some, None, is_some, refl, sym, ap, subst, ◌∙◌, Contains}
+use Rattle.std.proofs.Common.{◌≡◌, ℕ, Bool, true, false, List, map, Option, Some, None, is_some, refl, sym, ap, subst, ◌∙◌, Contains}
 use Rattle.proto_base.proofs.Common.{any_from, both_ways, list_any}
-use Rattle.proto_base.specs.declared.profile.Profile.{Profile}
-use Rattle.proto_base.specs.declared.profile.Profile.TheVariants as profile
-use Rattle.proto_custom_options.specs.CustomOptions.{CoreTreesHaveNoCustom, CustomOf, custom_words, customs_in}
-use Rattle.proto_files.proofs.Common.{AreRead, FileOf, ReadOf, file_at, read_at}
+use Rattle.proto_custom_options.specs.CustomOptions.{CustomOf, custom_words, customs_in}
+use Rattle.proto_files.proofs.Common.{FileOf, ReadOf, file_at, read_at}
 use Rattle.proto_names_imports.proofs.Common.{text_of}
 use Rattle.proto_names_rules.proofs.Common.{at}
 use Rattle.proto_option_values.proofs.LeastOf.{IsLeast, least_word_is}
@@ -15,13 +13,6 @@ use Rattle.proto_option_values.specs.OptionValues.{words_asked}
 use Rattle.proto_option_values.specs.Words.{asks, least, least_word}
 use Rattle.proto_option_values.specs.declared.asked.OptionWords.{OptionWords}
 use Rattle.proto_text.proofs.Common.{Lexeme, lexeme_at}
-use Rattle.proto_tree.proofs.Common.{ReadsIn}
-
--- a file of the core language has no custom option
-pub core_has_none : CoreTreesHaveNoCustom → (files : List FileOf) (reads : List ReadOf) → AreRead files reads → (file : ℕ) → file < length files → (file_at files file).profile ≡ profile.Core → customs_in (read_at reads file).tree ≡ []
-core_has_none law files reads are file within core =
-    let r = read_at reads file in
-    law (file_at files file).bytes r.tokens r.tree (subst (λ (p : Profile). ReadsIn p (file_at files file).bytes r.tokens r.tree) core (are.trees file within))
 
 -- ---- where no option has a word
 

@@ -2,23 +2,25 @@
 
 ghost use Rattle.std.specs.Prelude.{◌≡◌, ◌<◌, List, length, false, is_some, map, IfOk};
 ghost use Rattle.std.specs.List.{list_any};
-ghost use Rattle.proto_custom_options.specs.CustomOptions.{custom_words, customs_in};
+ghost use Rattle.proto_custom_options.specs.CustomOptions.{custom_words};
 ghost use Rattle.proto_custom_options.specs.Views.{custom_of};
-ghost use Rattle.proto_files.specs.FilesRead.{AreRead, ReadOf, read_at};
+ghost use Rattle.proto_files.specs.FilesRead.{AreRead, ReadOf};
 ghost use Rattle.proto_option_values.specs.Extensions.{is_leading};
 ghost use Rattle.proto_option_values.specs.FileWords.{HasNoWord, file_word, option_word};
+ghost use Rattle.proto_option_values.specs.Noted.{AreNoted, noted_sets};
 ghost use Rattle.proto_option_values.specs.OptionValues.{words_asked};
 ghost use Rattle.proto_option_values.specs.Words.{asks, least, least_word};
 
 use crate::asked::OptionWords;
 use crate::extensions::is_leading;
+use crate::noted::{Noted, may_have};
 use crate::words::{least_word, lesser};
-use proto_base::{NoMemory, Profile};
-use proto_custom_options::laws::core_trees_have_no_custom;
-use proto_custom_options::{CustomAt, customs};
+use proto_base::NoMemory;
+use proto_custom_options::CustomAt;
 use proto_file_sets::FileSet;
 use proto_files::{Files, Words};
 use proto_names::Link;
+use proto_option_files::options_in;
 use proto_tree::Custom;
 use std::alloc::Global;
 
@@ -29,19 +31,8 @@ pub(crate) struct Search<'a> {
     /// The files in which extensions count.
     pub(crate) leading: &'a FileSet,
     pub(crate) asked: &'a OptionWords<'a>,
-}
-
-/// The custom options of a file, in order. A file of the core language has none.
-fn options_in<'a>(alloc: Global, files: &'a Files, file: u32) -> Result<Vec<CustomAt<'a>>, NoMemory>
-    requires { file < length files.now }
-    ensures { IfOk result (λ options. (reads : List ReadOf) → AreRead files.entry.now reads
-        → map custom_of options.items ≡ customs_in (read_at reads file).tree) }
-{
-    core_trees_have_no_custom();
-    match files.profile(file) {
-        Profile::Core => Ok(Vec::new(alloc)),
-        Profile::AsWritten => customs(alloc, files.tree(file)),
-    }
+    /// The files that may have one of the words.
+    pub(crate) noted: &'a Noted<'a>,
 }
 
 /// Whether one of these options has a word that is asked for.
@@ -62,13 +53,18 @@ fn has_word(words: &Words, asked: &OptionWords, options: &[CustomAt]) -> bool
 pub(crate) fn has_word_in(
     alloc: Global,
     files: &Files,
+    noted: &Noted,
     file: u32,
     asked: &OptionWords,
 ) -> Result<bool, NoMemory>
-    requires { file < length files.now }
+    requires noted { AreNoted files.now (words_asked asked.now) (noted_sets noted.now) }
+    requires file { file < length files.now }
     ensures { IfOk result (λ has. (reads : List ReadOf) → AreRead files.now reads
         → has ≡ false → HasNoWord files.now reads (words_asked asked.now) file) }
 {
+    if !may_have(noted, file) {
+        return Ok(false);
+    }
     let words = Words::new(files, file);
     let options = options_in(alloc, files, file)?;
     Ok(has_word(&words, asked, &options))
@@ -107,11 +103,16 @@ pub(crate) fn word_of_file(
     search: &Search,
     file: u32,
 ) -> Result<Option<u32>, NoMemory>
-    requires { file < length files.now }
+    requires noted { AreNoted files.now (words_asked search.now.asked.now)
+        (noted_sets search.now.noted.now) }
+    requires file { file < length files.now }
     ensures { IfOk result (λ found. (reads : List ReadOf) → AreRead files.now reads
         → found ≡ file_word search.now.link.now search.now.leading.now
         (words_asked search.now.asked.now) files.now reads file) }
 {
+    if !may_have(search.noted, file) {
+        return Ok(None);
+    }
     let words = Words::new(files, file);
     let options = options_in(alloc, files, file)?;
     Ok(word_of_options(search, &words, file, &options))

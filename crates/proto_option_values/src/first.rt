@@ -3,15 +3,19 @@
 ghost use Rattle.std.specs.Prelude.{◌≡◌, ℕ, ◌<◌, ◌≤◌, List, length, IfOk, IfSome};
 ghost use Rattle.proto_edit_rules.specs.Options.{IsOptionWord};
 ghost use Rattle.proto_files.specs.FilesRead.{AreRead, ReadOf};
+ghost use Rattle.proto_option_files.specs.OptionFiles.{AreOptionFiles};
 ghost use Rattle.proto_option_values.specs.FileWords.{HasNoWord, IsFirstFrom, file_word};
+ghost use Rattle.proto_option_values.specs.Noted.{AreNoted, noted_sets};
 ghost use Rattle.proto_option_values.specs.OptionValues.{IsFirstOf, IsOptionPlace, IsOptionValue, words_asked};
 
 use crate::asked::OptionWords;
 use crate::file_words::{Search, has_word_in, word_of_file};
 use crate::leading::leading_to;
+use crate::noted::{Noted, noted_by};
 use proto_base::NoMemory;
 use proto_edit_entries::Refusal;
 use proto_files::{Files, offset_of};
+use proto_option_files::OptionFiles;
 use proto_resolved::CleanLinked;
 use std::alloc::Global;
 
@@ -23,14 +27,20 @@ pub struct WordAt {
 }
 
 /// How many files, from the first on, have no word of an option that is asked for.
-fn files_without_word(alloc: Global, files: &Files, asked: &OptionWords) -> Result<u32, NoMemory>
+fn files_without_word(
+    alloc: Global,
+    files: &Files,
+    noted: &Noted,
+    asked: &OptionWords,
+) -> Result<u32, NoMemory>
+    requires { AreNoted files.now (words_asked asked.now) (noted_sets noted.now) }
     ensures within { IfOk result (λ count. count ≤ length files.now) }
     ensures none { IfOk result (λ count. (reads : List ReadOf) → AreRead files.now reads
         → (file : ℕ) → file < count
         → HasNoWord files.now reads (words_asked asked.now) file) }
 {
     for file in 0..files.len() as u32 {
-        if has_word_in(alloc, files, file, asked)? {
+        if has_word_in(alloc, files, noted, file, asked)? {
             return Ok(file);
         }
     }
@@ -44,6 +54,8 @@ fn first_from(
     search: &Search,
     start: u32,
 ) -> Result<Option<WordAt>, NoMemory>
+    requires { AreNoted files.now (words_asked search.now.asked.now)
+        (noted_sets search.now.noted.now) }
     ensures { IfOk result (λ first. (reads : List ReadOf) → AreRead files.now reads
         → IsFirstFrom (file_word search.now.link.now search.now.leading.now
         (words_asked search.now.asked.now) files.now reads) start (length files.now) first) }
@@ -58,20 +70,23 @@ fn first_from(
 
 /// The first word, by file and token, in the path or the value of a custom option that is one of
 /// these, where the option's extension is declared in the file or in one that leads to it by
-/// imports.
+/// imports. Of the files only those are asked that the index has noted for one of the words.
 pub fn first_option_word(
     alloc: Global,
     linked: &CleanLinked<'_>,
+    index: &OptionFiles,
     file: u32,
     words: OptionWords<'_>,
 ) -> Result<Option<WordAt>, NoMemory>
-    requires { file < length linked.now.files }
+    requires index { AreOptionFiles linked.now.files index.now }
+    requires file { file < length linked.now.files }
     ensures first { IfOk result (λ first. (reads : List ReadOf) → AreRead linked.now.files reads
         → IsFirstOf (IsOptionWord linked.now.files reads file (words_asked words.entry)) first) }
     ensures file { IfOk result (λ first. IfSome first (λ w. w.file < length linked.now.files)) }
 {
     let files = linked.files();
-    let start = files_without_word(alloc, files, &words)?;
+    let noted = noted_by(index, &words);
+    let start = files_without_word(alloc, files, &noted, &words)?;
     if start as usize == files.len() {
         return Ok(None);
     }
@@ -81,6 +96,7 @@ pub fn first_option_word(
         link,
         leading: &leading,
         asked: &words,
+        noted: &noted,
     };
     first_from(alloc, files, &search, start)
 }
@@ -101,15 +117,17 @@ fn option_refusal(alloc: Global, files: &Files, word: WordAt) -> Result<Refusal,
 pub fn option_value(
     alloc: Global,
     linked: &CleanLinked<'_>,
+    index: &OptionFiles,
     file: u32,
     words: OptionWords<'_>,
 ) -> Result<Option<Refusal>, NoMemory>
-    requires { file < length linked.now.files }
+    requires index { AreOptionFiles linked.now.files index.now }
+    requires file { file < length linked.now.files }
     ensures { IfOk result (λ refusal. (reads : List ReadOf) → AreRead linked.now.files reads
         → IsOptionValue linked.now.files reads
         (IsOptionWord linked.now.files reads file (words_asked words.entry)) refusal) }
 {
-    match first_option_word(alloc, linked, file, words)? {
+    match first_option_word(alloc, linked, index, file, words)? {
         Some(word) => Ok(Some(option_refusal(alloc, linked.files(), word)?)),
         None => Ok(None),
     }

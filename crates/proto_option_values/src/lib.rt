@@ -7,6 +7,7 @@ mod file_words;
 mod first;
 mod fixed;
 mod leading;
+mod noted;
 mod words;
 
 pub use asked::OptionWords;

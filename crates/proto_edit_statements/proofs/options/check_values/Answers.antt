@@ -14,8 +14,8 @@ new-words-requires c =
     subst (λ (z : List FileOf). c.args.field.file < length z) (sym c.files-files.ensures.files)
     (file_there files clean.reads clean.read c.args.name.now c.args.field (c.requires.field clean.reads clean.read))
 
-pub option_value-requires : goal.option_value-requires
-option_value-requires c =
+pub option_value-requires-clause-file : goal.option_value-requires-clause-file
+option_value-requires-clause-file c =
     let clean = c.files-files.ensures.clean in
     file_there c.args.linked.now.files clean.reads clean.read c.args.name.now c.args.field (c.requires.field clean.reads clean.read)
 

@@ -8,6 +8,9 @@ pub returns : goal.returns
 returns c = λ reads are none.
     let file = c.args.file in
     has_no_word c.args.files.now reads file c.args.asked.now c.new-words.result (map custom_of c.deref.result.now)
-    (c.new-words.ensures.words (read_at reads file).tokens (are.tokens file c.requires))
-    (ap (map custom_of) c.deref.ensures.value ∙ c.in_ok-options.ensures reads are)
+    (c.new-words.ensures.words (read_at reads file).tokens (are.tokens file c.requires.file))
+    (ap (map custom_of) c.deref.ensures.value ∙ c.in_ok-options.ensures (read_at reads file) (are.trees file c.requires.file))
     (sym c.has_word.ensures ∙ none)
+
+pub returns-then-not-may_have : goal.returns-then-not-may_have
+returns-then-not-may_have c = λ reads are none. c.requires.noted c.args.file c.requires.file (sym c.may_have.ensures ∙ c.if-not-may_have.true) reads are

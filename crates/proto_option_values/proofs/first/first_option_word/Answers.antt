@@ -10,7 +10,9 @@ use Rattle.proto_names_rules.specs.Cycles.{Leads}
 use Rattle.proto_names_rules.specs.Names.{Import}
 use Rattle.proto_option_values.proofs.FirstWord.{first_is, none_of_all}
 use Rattle.proto_option_values.proofs.ImportsBack.{link_within}
+use Rattle.proto_option_values.proofs.NotedFiles.{noted_by_index}
 use Rattle.proto_option_values.specs.FileWords.{IsFirstFrom, file_word}
+use Rattle.proto_option_values.specs.Noted.{noted_sets}
 use Rattle.proto_option_values.specs.OptionValues.{IsFirstOf, words_asked}
 use Rattle.proto_option_values.proofs.first.first_option_word.Goals as goal
 
@@ -20,6 +22,12 @@ returns-then-start-len-clause-first c = λ reads are.
     (λ file lt.
     let before : file < c.in_ok-start.start = omega (arith, lt, c.if-start-len.true, c.len.ensures.len, ap length c.files-files.ensures.files) in
     (rw c.files-files.ensures.files at c.in_ok-start.ensures.none) reads are file before)
+
+pub files_without_word-requires : goal.files_without_word-requires
+files_without_word-requires c = noted_by_index c.files-files.result.now c.args.linked.now.files c.args.index.now (noted_sets c.noted_by-noted.result) (words_asked c.args.words) c.files-files.ensures.files c.noted_by-noted.ensures c.requires.index
+
+pub first_from-requires : goal.first_from-requires
+first_from-requires c = noted_by_index c.files-files.result.now c.args.linked.now.files c.args.index.now (noted_sets c.noted_by-noted.result) (words_asked c.args.words) c.files-files.ensures.files c.noted_by-noted.ensures c.requires.index
 
 pub leading_to-requires-clause-within : goal.leading_to-requires-clause-within
 leading_to-requires-clause-within c =
