@@ -18,7 +18,7 @@ use Rattle.proto_names_rules.specs.declared.kind.Kind.TheVariants.{Package}
 use Rattle.proto_option_laws.proofs.Declared.{extensions_are_declared, messages_are_declared}
 use Rattle.proto_option_laws.proofs.Types.{leads_on, linked}
 use Rattle.proto_option_laws.specs.Declared.{HasName, IsDeclaredExtension, IsReached}
-use Rattle.proto_option_laws.specs.Filled.{FilledAreReached, FilledAreSpared}
+use Rattle.proto_option_laws.specs.Filled.{FilledAreReached, FilledAreUnaffected}
 use Rattle.proto_resolved.specs.SceneOf.{name_meant}
 
 module _ (files : List FileOf) (reads : List ReadOf) (r : AreRead files reads) (ok : HasNoFault (LinkFaults files)) where
@@ -47,9 +47,9 @@ module _ (files : List FileOf) (reads : List ReadOf) (r : AreRead files reads) (
 
   module _ (file : ℕ) (c : CustomOf) (within : Contains (customs_in (read_at reads file).tree) c) (extension : Name) (x : FieldDesc) (means : name_meant files reads file c.custom.name ≡ Some extension)
       (is : IsExtensionOf (described files reads) extension x) where
-    spared : (name : Name) → IsFilled (texts_at files reads file (custom_words c.custom)) (described files reads) x name → (d : Declared At) → Contains (link_skeleton files reads).declared d → HasName files reads d name → d.kind ≢ Package
+    unaffected : (name : Name) → IsFilled (texts_at files reads file (custom_words c.custom)) (described files reads) x name → (d : Declared At) → Contains (link_skeleton files reads).declared d → HasName files reads d name → d.kind ≢ Package
         → (words : List Text) → ((a : At) → IsOptionWord files reads d.file words a → ⊥) → (w : Text) → Contains words w → is_one_of (texts_at files reads file (custom_words c.custom)) w ≡ false
-    spared name filled d cd nd other words none w cw =
+    unaffected name filled d cd nd other words none w cw =
         let e = extensions_are_declared files reads r ok extension x is in
         let to = reached (texts_at files reads file (custom_words c.custom)) extension x e name filled in
         let q = one_file name d to.d cd to.within nd to.name_is other in
@@ -71,5 +71,5 @@ module _ (files : List FileOf) (reads : List ReadOf) (r : AreRead files reads) (
 pub filled_are_reached : FilledAreReached
 filled_are_reached files reads r ok these extension x d name f = reached files reads r ok these extension x d name f
 
-pub filled_are_spared : FilledAreSpared
-filled_are_spared files reads r ok file c within extension x means is name f d cd nd other words none w cw = spared files reads r ok file c within extension x means is name f d cd nd other words none w cw
+pub filled_are_unaffected : FilledAreUnaffected
+filled_are_unaffected files reads r ok file c within extension x means is name f d cd nd other words none w cw = unaffected files reads r ok file c within extension x means is name f d cd nd other words none w cw

@@ -25,7 +25,7 @@ use Rattle.proto_names_rules.specs.declared.kind.Kind.{Kind}
 use Rattle.proto_names_rules.specs.declared.kind.Kind.TheVariants.{Package, Entry, Field, EntryField, Value}
 use Rattle.proto_option_laws.proofs.Declared.{described_by, enums_are_declared, extensions_are_declared, messages_are_declared, package_is}
 use Rattle.proto_option_laws.proofs.Filtered.{filtered}
-use Rattle.proto_option_laws.proofs.Filled.{filled_are_spared, one_file, reached}
+use Rattle.proto_option_laws.proofs.Filled.{filled_are_unaffected, one_file, reached}
 use Rattle.proto_option_laws.proofs.Maps.{enum_turned, message_turned, message_was}
 use Rattle.proto_option_laws.proofs.Types.{linked, plain}
 use Rattle.proto_option_laws.specs.Declared.{HasName, IsDeclaredExtension, TypeIsReached}
@@ -37,16 +37,16 @@ no h = cc
 -- ---- words
 
 -- the word stays, or neither it nor what it becomes is one of these
-abbrev IsSpared : List Text → Text → Text → Type 0
-IsSpared these v w = (w ≡ v) ⊎ ((is_one_of these v ≡ false) × (is_one_of these w ≡ false))
+abbrev IsUnaffected : List Text → Text → Text → Type 0
+IsUnaffected these v w = (w ≡ v) ⊎ ((is_one_of these v ≡ false) × (is_one_of these w ≡ false))
 
-spared_tests : (these : List Text) (v w : Text) → IsSpared these v w → is_one_of these w ≡ is_one_of these v
-spared_tests these v w (inl q) = ap (is_one_of these) q
-spared_tests these v w (inr n) = n.1 ∙ sym n.0
+unaffected_tests : (these : List Text) (v w : Text) → IsUnaffected these v w → is_one_of these w ≡ is_one_of these v
+unaffected_tests these v w (inl q) = ap (is_one_of these) q
+unaffected_tests these v w (inr n) = n.1 ∙ sym n.0
 
-spared_same : (these : List Text) (v w : Text) → IsSpared these v w → is_one_of these v ≡ true → w ≡ v
-spared_same these v w (inl q) h = q
-spared_same these v w (inr n) h = absurd (no (sym n.0 ∙ h))
+unaffected_same : (these : List Text) (v w : Text) → IsUnaffected these v w → is_one_of these v ≡ true → w ≡ v
+unaffected_same these v w (inl q) h = q
+unaffected_same these v w (inr n) h = absurd (no (sym n.0 ∙ h))
 
 -- ---- kinds
 
@@ -111,14 +111,14 @@ module _ (files : List FileOf) (reads : List ReadOf) (name to : List ℕ) (t : T
       ap (λ (x : At). x.file) (sym (same_token t.token (at t.aim.file p.1) (snoc_parts t.above p.0 (Token t.token) (Token (at t.aim.file p.1)) (sym al.named.path ∙ p.2)).1))
 
   module _ (these : List Text) (s : Declared At) (cs : Contains (link_skeleton files reads).declared s) (above : Name) (v : Text) (n : HasName files reads s (above ++ v ∷ [])) (k : IsInType s.kind)
-      (spare : ((a : At) → IsOptionWord files reads s.file words a → ⊥) → (u : Text) → Contains words u → is_one_of these u ≡ false) where
-    target_spared : above ≡ e.parent → v ≡ e.old → (u : Text) → Contains words u → is_one_of these u ≡ false
-    target_spared p q =
+      (is_unaffected : ((a : At) → IsOptionWord files reads s.file words a → ⊥) → (u : Text) → Contains words u → is_one_of these u ≡ false) where
+    target_unaffected : above ≡ e.parent → v ≡ e.old → (u : Text) → Contains words u → is_one_of these u ≡ false
+    target_unaffected p q =
         let full : above ++ v ∷ [] ≡ target (name_map files reads t to) = ap₂ (λ (x : Name) (y : Text). x ++ y ∷ []) p q in
         let same : s ≡ t.aim = one_file files reads al.read al.link (target (name_map files reads t to)) s t.aim cs al.named.within (n ∙ full) aim_name (in_no_package s.kind k) in
         let kind : is_named_in_values t.aim.kind ≡ true = named_in t.aim.kind (subst IsInType (ap (λ (d : Declared At). d.kind) same) k) al.named.kind in
         let file : s.file ≡ t.token.file = ap (λ (d : Declared At). d.file) same ∙ token_file kind in
-        spare (λ a h. al.admissible 19 (option_value t a al.named (kind, subst (λ f. IsOptionWord files reads f words a) file h)))
+        is_unaffected (λ a h. al.admissible 19 (option_value t a al.named (kind, subst (λ f. IsOptionWord files reads f words a) file h)))
 
     no_entry_here : (p : List ℕ × List ℕ) → above ≡ e.parent → e.entry ≡ Some p → v ≡ p.0 → ⊥
     no_entry_here p q h m =
@@ -132,7 +132,7 @@ module _ (files : List FileOf) (reads : List ReadOf) (name to : List ℕ) (t : T
           | inr both ↦ in_no_package s.kind k both.0
         ]
 
-    word_turns : IsSpared these v (word_under (name_map files reads t to) above v)
+    word_turns : IsUnaffected these v (word_under (name_map files reads t to) above v)
     word_turns = elim (cases_Bool (same_name above e.parent)) [
       | inr off ↦ inl (cond-false (same_name above e.parent) (turned e v) v off)
       | inl there ↦ (
@@ -142,7 +142,7 @@ module _ (files : List FileOf) (reads : List ReadOf) (name to : List ℕ) (t : T
             | inr stay ↦ inl (turns ∙ stays e v stay)
             | inl move ↦ elim (moves_to e v move) [
               | inl q ↦ (
-                  let none = target_spared p q.0 in
+                  let none = target_unaffected p q.0 in
                   inr (
                     ap (is_one_of these) q.0 ∙ none (text_of files reads t.token) (contains_head (text_of files reads t.token) (to ∷ [])),
                     ap (is_one_of these) (turns ∙ q.1) ∙ none to (contains_later (text_of files reads t.token) to (to ∷ []) (contains_head to [])),
@@ -200,16 +200,16 @@ module _ (files : List FileOf) (reads : List ReadOf) (name to : List ℕ) (t : T
     kept : (f : FileDesc) → Contains ds f → ren e (package_words f) ≡ package_words f
     kept = packages_stay written writes
 
-    spared_in : (next : Name) → Filled next → (d : Declared At) → Contains (link_skeleton files reads).declared d → HasName files reads d next → d.kind ≢ Package → (f : ℕ) → f ≡ d.file
+    unaffected_in : (next : Name) → Filled next → (d : Declared At) → Contains (link_skeleton files reads).declared d → HasName files reads d next → d.kind ≢ Package → (f : ℕ) → f ≡ d.file
         → ((a : At) → IsOptionWord files reads f words a → ⊥) → (u : Text) → Contains words u → is_one_of these u ≡ false
-    spared_in next filled d cd nd other f q none =
-        filled_are_spared files reads al.read al.link file c within extension x means ix next filled d cd nd other words (λ a h. none a (subst (λ n. IsOptionWord files reads n words a) (sym q) h))
+    unaffected_in next filled d cd nd other f q none =
+        filled_are_unaffected files reads al.read al.link file c within extension x means ix next filled d cd nd other words (λ a h. none a (subst (λ n. IsOptionWord files reads n words a) (sym q) h))
 
-    field_spared : (next : Name) (m : MessageDesc) → Filled next → IsMessageOf ds next m → (f : FieldDesc) → Contains m.field f → IsSpared these f.name (word_under e next f.name)
-    field_spared next m filled im f cf =
+    field_unaffected : (next : Name) (m : MessageDesc) → Filled next → IsMessageOf ds next m → (f : FieldDesc) → Contains m.field f → IsUnaffected these f.name (word_under e next f.name)
+    field_unaffected next m filled im f cf =
         let k = messages_are_declared files reads al.read al.link next m im in
         let g = k.fields f cf in
-        word_turns these g.d g.within next f.name g.name_is (in_type g.d.kind g.kind) (spared_in next filled k.d k.within k.name_is k.no_package g.d.file g.file_is)
+        word_turns these g.d g.within next f.name g.name_is (in_type g.d.kind g.kind) (unaffected_in next filled k.d k.within k.name_is k.no_package g.d.file g.file_is)
 
     own : IsDeclaredExtension files reads extension x
     own = extensions_are_declared files reads al.read al.link extension x ix
@@ -232,8 +232,8 @@ module _ (files : List FileOf) (reads : List ReadOf) (name to : List ℕ) (t : T
         let pair : List SeenField → List SeenField × List Text = λ fs. (fs, filter (is_one_of these) m.reserved_name) in
         let k = messages_are_declared files reads al.read al.link next m im in
         ap pair (filtered (λ (f : FieldDesc). is_one_of these f.name) (λ (f : FieldDesc). is_one_of these f.name) (mapped_field e taken next) (seen_field (λ x. x)) (seen_field (ren e)) m.field (λ f cf. (
-          spared_tests these f.name (word_under e next f.name) (field_spared next m filled im f cf),
-          λ h. field_seen next f k.d.file (k.fields f cf).type (spared_same these f.name (word_under e next f.name) (field_spared next m filled im f cf) h),
+          unaffected_tests these f.name (word_under e next f.name) (field_unaffected next m filled im f cf),
+          λ h. field_seen next f k.d.file (k.fields f cf).type (unaffected_same these f.name (word_under e next f.name) (field_unaffected next m filled im f cf) h),
         )))
 
     enum_seen : (next : Name) (d : EnumDesc) → Filled next → IsEnumOf ds next d → (above : Name) → next ≡ above ++ d.name ∷ [] → enum_view these (mapped_enum e above d) ≡ enum_view these d
@@ -241,13 +241,13 @@ module _ (files : List FileOf) (reads : List ReadOf) (name to : List ℕ) (t : T
         let o = enums_are_declared files reads al.read al.link next d ie in
         let k = o.2 in
         let same : o.0 ≡ above = (snoc_parts o.0 above d.name d.name (sym o.1 ∙ under)).0 in
-        let spare : (v : EnumValueDesc) → Contains d.value v → IsSpared these v.name (word_under e above v.name) = λ v cv. (
+        let is_unaffected : (v : EnumValueDesc) → Contains d.value v → IsUnaffected these v.name (word_under e above v.name) = λ v cv. (
         let g = k.values v cv in
-        subst (λ z. IsSpared these v.name (word_under e z v.name)) same
-        (word_turns these g.d g.within o.0 v.name g.name_is (inl (ap is_named_in_values g.kind)) (spared_in next filled k.d k.within (k.name_is ∙ sym o.1) k.no_package g.d.file g.file_is))) in
+        subst (λ z. IsUnaffected these v.name (word_under e z v.name)) same
+        (word_turns these g.d g.within o.0 v.name g.name_is (inl (ap is_named_in_values g.kind)) (unaffected_in next filled k.d k.within (k.name_is ∙ sym o.1) k.no_package g.d.file g.file_is))) in
         filtered (λ (v : EnumValueDesc). is_one_of these v.name) (λ (v : EnumValueDesc). is_one_of these v.name) (mapped_value e above) seen_value seen_value d.value (λ v cv. (
-          spared_tests these v.name (word_under e above v.name) (spare v cv),
-          λ h. (let pair : Text → Text × ℤ = λ z. (z, v.number) in ap pair (spared_same these v.name (word_under e above v.name) (spare v cv) h)),
+          unaffected_tests these v.name (word_under e above v.name) (is_unaffected v cv),
+          λ h. (let pair : Text → Text × ℤ = λ z. (z, v.number) in ap pair (unaffected_same these v.name (word_under e above v.name) (is_unaffected v cv) h)),
         ))
 
     -- ---- no other type is filled
@@ -270,9 +270,9 @@ module _ (files : List FileOf) (reads : List ReadOf) (name to : List ℕ) (t : T
         let q : o.name ≡ p.0 = name_was o.name p.0 is_there.d before_is.d is_there.within before_is.within is_there.name_is before_is.name_is (o.named ∙ sym p.2) in
         let im : IsMessageOf ds p.0 o.m = subst (λ z. IsMessageOf ds z o.m) q o.is in
         let f = from_map (mapped_field e taken o.name) o.m.field g (subst (λ (z : MessageDesc). Contains z.field g) o.turned cg) in
-        let spare = field_spared p.0 o.m p.1 im f.0 f.1 in
+        let is_unaffected = field_unaffected p.0 o.m p.1 im f.0 f.1 in
         let named : word_under e p.0 f.0.name ≡ g.name = ap (λ z. word_under e z f.0.name) (sym q) ∙ ap (λ (z : FieldDesc). z.name) f.2 in
-        let was_one : is_one_of these f.0.name ≡ true = sym (spared_tests these f.0.name (word_under e p.0 f.0.name) spare) ∙ ap (is_one_of these) named ∙ one in
+        let was_one : is_one_of these f.0.name ≡ true = sym (unaffected_tests these f.0.name (word_under e p.0 f.0.name) is_unaffected) ∙ ap (is_one_of these) named ∙ one in
         let k = messages_are_declared files reads al.read al.link p.0 o.m im in
         let b = type_was k.d.file f.0.type_name (k.fields f.0 f.1).type next (ap (λ (z : FieldDesc). option_map words_of z.type_name) f.2 ∙ h) in
         (b.0, of_field p.0 b.0 o.m f.0 p.1 im f.1 was_one b.1, b.2)

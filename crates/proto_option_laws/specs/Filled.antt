@@ -33,8 +33,8 @@ FilledAreReached =
 
 -- So, where no word of an option may be one of these words of what such a file declares, none of
 -- these is one of the option's.
-abbrev pub FilledAreSpared : Type 0
-FilledAreSpared =
+abbrev pub FilledAreUnaffected : Type 0
+FilledAreUnaffected =
     (files : List FileOf) (reads : List ReadOf)
     → AreRead files reads
     → HasNoFault (LinkFaults files)

@@ -26,7 +26,7 @@ use Rattle.proto_edit_statement_described.specs.Files.{IsFileDeletion, scene_at}
 use Rattle.proto_edit_statement_described.specs.NamedTrees.{TreesAreNamed}
 use Rattle.proto_edit_statement_laws.specs.Trees.{placed_in}
 use Rattle.proto_option_laws.proofs.Declared.{extensions_are_declared}
-use Rattle.proto_option_laws.proofs.Filled.{filled_are_reached, filled_are_spared}
+use Rattle.proto_option_laws.proofs.Filled.{filled_are_reached, filled_are_unaffected}
 use Rattle.proto_option_laws.specs.Declared.{IsDeclaredExtension, IsReached}
 use Rattle.proto_option_statement_laws.proofs.DeletedMessages.{Becomes, goes, loses, stays}
 use Rattle.proto_option_statement_laws.proofs.DeletedTypes.{enum_stays, extension_stays, message_of_becomes, message_was_there}
@@ -52,9 +52,9 @@ module _ (named : TreesAreNamed) (files : List FileOf) (reads : List ReadOf) (af
     here = let w = d.others.within in let s = d.others.read.same in omega (arith, w, s)
 
     -- the field's name is none of the words, where its message may be filled
-    spared : (name : Name) → IsFilled these ds x name → (path : List (Source ℕ)) (own : ℕ) → Contains (placed_in (tree_at reads file)) (place path (Token own) MessageKind) → name ≡ name_of its_text entry_name (path ++ Token own ∷ []) → is_one_of these (its_text token) ≡ false
-    spared name filled path own so e =
-        filled_are_spared files reads d.others.read ok k c within extension x means isx name filled (declares file (place path (Token own) MessageKind)) (placed_declared files reads d.others.read file here (place path (Token own) MessageKind) so)
+    unaffected : (name : Name) → IsFilled these ds x name → (path : List (Source ℕ)) (own : ℕ) → Contains (placed_in (tree_at reads file)) (place path (Token own) MessageKind) → name ≡ name_of its_text entry_name (path ++ Token own ∷ []) → is_one_of these (its_text token) ≡ false
+    unaffected name filled path own so e =
+        filled_are_unaffected files reads d.others.read ok k c within extension x means isx name filled (declares file (place path (Token own) MessageKind)) (placed_declared files reads d.others.read file here (place path (Token own) MessageKind) so)
         (name_here files reads file (place path (Token own) MessageKind) ∙ sym e) no_package (text_of files reads (at file token) ∷ []) unseen (text_of files reads (at file token)) (contains_head (text_of files reads (at file token)) [])
       where
         no_package : MessageKind ≢ Package
@@ -78,7 +78,7 @@ module _ (named : TreesAreNamed) (files : List FileOf) (reads : List ReadOf) (af
       where
         by : IsFilled these new x name → Becomes (scene_at files reads file) token (λ p. Contains (placed_in (tree_at reads file)) p) (IsMessageOf new name) name m → IsFilled these new x next
         by now (stays n) = of_field name next m f now n has one type
-        by now (loses full path own inner e named_so so n) = of_field name next (without_field token inner m) f now n (named_stays these (scene_at files reads file) full own token inner m e (spared name filled path own so named_so) f has one) one type
+        by now (loses full path own inner e named_so so n) = of_field name next (without_field token inner m) f now n (named_stays these (scene_at files reads file) full own token inner m e (unaffected name filled path own so named_so) f has one) one type
         by now (goes path mf e named_so so) = absurd (gone name path so named_so now)
 
     -- ---- all that a reader sees
@@ -86,7 +86,7 @@ module _ (named : TreesAreNamed) (files : List FileOf) (reads : List ReadOf) (af
     message_seen : (name : Name) (m : MessageDesc) → IsFilled these ds x name → Becomes (scene_at files reads file) token (λ p. Contains (placed_in (tree_at reads file)) p) (IsMessageOf new name) name m
         → (n : MessageDesc) × IsMessageOf new name n × (message_view (λ t. t) these n ≡ message_view (λ t. t) these m)
     message_seen name m filled (stays n) = (m, n, refl)
-    message_seen name m filled (loses full path own inner e named_so so n) = (without_field token inner m, n, same_view these (scene_at files reads file) full own token inner m e (spared name filled path own so named_so))
+    message_seen name m filled (loses full path own inner e named_so so n) = (without_field token inner m, n, same_view these (scene_at files reads file) full own token inner m e (unaffected name filled path own so named_so))
     message_seen name m filled (goes path f e named_so so) = absurd (gone name path so named_so (filled_now name filled))
 
     pub sees : IsExtensionOf new extension x × SeesTheSame (λ t. t) these ds new x x

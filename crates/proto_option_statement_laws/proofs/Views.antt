@@ -31,7 +31,7 @@ filled_before these ds new x was _ (of_field name next n f d is has one type) =
 
 -- ---- a message that loses a field
 
-module _ (these : List Text) (scene : Scene) (full : Text) (own token : ℕ) (inner : Tree) (m : MessageDesc) (is : m ≡ message_described scene full own inner) (spared : is_one_of these (text scene token) ≡ false) where
+module _ (these : List Text) (scene : Scene) (full : Text) (own token : ℕ) (inner : Tree) (m : MessageDesc) (is : m ≡ message_described scene full own inner) (unaffected : is_one_of these (text scene token) ≡ false) where
   -- the field has the name of the token
   its_name : (f : FieldDesc) → Contains (at_place (field_place token inner) m.field) f → f.name ≡ text scene token
   its_name f c =
@@ -43,12 +43,12 @@ module _ (these : List Text) (scene : Scene) (full : Text) (own token : ℕ) (in
       sym (ap (λ (z : FieldDesc). z.name) g.2) ∙ ap (text scene) (eqb-true g.0.name token at_token)
 
   none_has : filter (λ (f : FieldDesc). is_one_of these f.name) (at_place (field_place token inner) m.field) ≡ []
-  none_has = none_passes (λ (f : FieldDesc). is_one_of these f.name) (at_place (field_place token inner) m.field) (λ f c. ap (is_one_of these) (its_name f c) ∙ spared)
+  none_has = none_passes (λ (f : FieldDesc). is_one_of these f.name) (at_place (field_place token inner) m.field) (λ f c. ap (is_one_of these) (its_name f c) ∙ unaffected)
 
   none_reserved : filter (is_one_of these) (map (λ (f : FieldDesc). f.name) (at_place (field_place token inner) m.field)) ≡ []
   none_reserved = none_passes (is_one_of these) (map (λ (f : FieldDesc). f.name) (at_place (field_place token inner) m.field)) (λ w c.
       let f = from_map (λ (f : FieldDesc). f.name) (at_place (field_place token inner) m.field) w c in
-      ap (is_one_of these) (sym f.2 ∙ its_name f.0 f.1) ∙ spared)
+      ap (is_one_of these) (sym f.2 ∙ its_name f.0 f.1) ∙ unaffected)
 
   -- a field that one of the words names stays
   pub named_stays : (f : FieldDesc) → Contains m.field f → is_one_of these f.name ≡ true → Contains (without_field token inner m).field f
