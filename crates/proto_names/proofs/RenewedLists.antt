@@ -1,19 +1,19 @@
 -- What the references of a file mean, looked up again: its rows and marks among those of all files, and one change more in the lists and in the log.
-use Rattle.std.proofs.Common.{◌≡◌, ◌≢◌, ℕ, ◌<◌, ◌==◌, ◌&&◌, ◌||◌, false, true, Bool, List, [], ◌∷◌, ◌++◌, length, get_or, map, slice_set, refl, sym, ◌∙◌, ap, subst, inl, inr, arith, All}
-use Rattle.std.proofs.lemmas.List.{length-set, get_or-set_same, get_or-set_other, set-get_or, set-set}
+use Rattle.std.proofs.Common.{◌≡◌, ◌≢◌, ℕ, ◌<◌, ◌==◌, ◌&&◌, ◌||◌, false, true, Bool, List, [], length, get_or, map, slice_set, refl, sym, ◌∙◌, ap, subst, inl, inr, arith, All}
+use Rattle.std.proofs.lemmas.List.{length-set, get_or-set_same, get_or-set_other}
 use Rattle.proto_base.proofs.Common.{All-push, All-set, Vec, both_ways, cases_lt, get_or-map, get_or_past, length-map, list_any, map-set}
 use Rattle.std.proofs.lemmas.Bool.{eq-eqb}
 use Rattle.proto_case.specs.Camel.{entry_name}
 use Rattle.proto_names_rules.specs.Names.{reaches, sees}
 use Rattle.proto_files.proofs.Common.{FileOf, ReadOf, read_at}
 use Rattle.proto_names_imports.proofs.Common.{IsListing, names_of_files, text_of}
-use Rattle.proto_base.specs.Undone.{AreWithin, IsNoted, undone}
+use Rattle.proto_base.specs.Undone.{IsNoted}
 use Rattle.proto_base.specs.declared.changes.Change.{Change}
 use Rattle.proto_names_outline.proofs.Common.{items_in, length-read, package_first, whole}
 use Rattle.proto_names_outline.specs.declared.listing.Listing.{Listing}
 use Rattle.proto_names_rules.proofs.Common.{at, name_of}
 use Rattle.proto_names.specs.Common.{IsFileLinked, Meant, declared_names}
-use Rattle.proto_names.specs.Renewal.{AreMeantBelow, AreOfMarked}
+use Rattle.proto_names.specs.Renewal.{AreMeantBelow}
 use Rattle.proto_names_table.specs.declared.table.Table.{Table}
 
 -- ---- rows of one file, and what it sees
@@ -46,27 +46,9 @@ module _ (t : Table) (seen : List (List Bool)) (rows : List (Vec ℕ)) (files : 
 
 -- ---- one change more
 
--- a log with one change more is taken back from there
-undone_more : (log : List (Change (Vec Meant))) (items : List (Vec Meant)) (c : Change (Vec Meant)) → undone (log ++ c ∷ []) items ≡ undone log (slice_set items c.place c.was)
-undone_more [] items c = refl
-undone_more (d ∷ log) items c = ap (λ z. slice_set z d.place d.was) (undone_more log items c)
-
 module _ (old new : List (Change (Vec Meant))) (meant now : List (Vec Meant)) (file : ℕ) (own : Vec Meant) (within : file < length meant) (noted : IsNoted old new meant file) (is : now ≡ slice_set meant file own) where
   abbrev change : Change (Vec Meant)
   change = record { place = file; was = noted.was }
-
-  pub undone_same : undone new now ≡ undone old meant
-  undone_same =
-      ap (λ z. undone z now) noted.behind ∙ ap (undone (old ++ change ∷ [])) is
-      ∙ undone_more old (slice_set meant file own) change
-      ∙ ap (undone old) (set-set meant file own noted.was ∙ ap (slice_set meant file) noted.stood ∙ set-get_or meant file noted.was)
-
-  pub same_length : length now ≡ length meant
-  same_length = ap length is ∙ length-set meant file own
-
-  pub within_more : (count : ℕ) → length meant ≡ count → AreWithin count old → AreWithin count new
-  within_more count n are =
-      subst (AreWithin count) (sym noted.behind) (All-push (λ (c : Change (Vec Meant)). c.place < count) old change are (omega (arith, n, within)))
 
   pub below_more : (count : ℕ) → All (λ m. m.row < count) own.items → AreMeantBelow count old meant → AreMeantBelow count new now
   below_more count fits was = record {
@@ -75,10 +57,6 @@ module _ (old new : List (Change (Vec Meant))) (meant now : List (Vec Meant)) (f
         (All-push (λ (c : Change (Vec Meant)). All (λ m. m.row < count) c.was.items) old change was.before
         (subst (λ (v : Vec Meant). All (λ m. m.row < count) v.items) (sym noted.stood) (was.now file noted.was within)));
   }
-
-  pub marked_more : (marks : List Bool) → get_or marks file false ≡ true → AreOfMarked marks old → AreOfMarked marks new
-  marked_more marks m are =
-      subst (AreOfMarked marks) (sym noted.behind) (All-push (λ (c : Change (Vec Meant)). get_or marks c.place false ≡ true) old change are m)
 
   pub own_there : get_or (map (λ v. v.items) now) file [] ≡ own.items
   own_there =

@@ -1,5 +1,5 @@
 -- A link of its parts, and the parts as they were before the changes of a log.
-use Rattle.std.specs.Prelude.{◌≡◌, ℕ, ◌<◌, ◌≤◌, Bool, true, false, List, get_or, length, map, take}
+use Rattle.std.specs.Prelude.{◌≡◌, ℕ, ◌<◌, ◌≤◌, Bool, List, length, map, take}
 use Rattle.std.specs.Global.{Vec}
 use Rattle.std.specs.List.{All}
 use Rattle.proto_files.specs.FilesRead.{AreRead, ReadOf}
@@ -59,10 +59,6 @@ pub record AreMeantBelow (count : ℕ) (log : List (Change (Vec Meant))) (meant 
     : Type 0 where
   pub now : All (λ v. All (λ m. m.row < count) v.items) meant
   pub before : All (λ c. All (λ m. m.row < count) c.was.items) log
-
--- what was changed is of marked files
-abbrev pub AreOfMarked : List Bool → List (Change (Vec Meant)) → Type 0
-AreOfMarked marks log = All (λ c. get_or marks c.place false ≡ true) log
 
 -- the log is one of these declarations: what it changed is there
 pub record DeclarationsFit (log : DeclarationLog) (d : Declarations) : Type 0 where

@@ -1,6 +1,6 @@
 //! A link that is changed in place to that of its files, once some of them are edited.
 
-ghost use Rattle.std.specs.Prelude.{◌≡◌, ◌≢◌, ◌<◌, ℕ, Bool, List, [], true, false, length, get_or, map, IfOk, OnOk};
+ghost use Rattle.std.specs.Prelude.{◌≡◌, ◌≢◌, ◌<◌, ℕ, Bool, List, [], true, length, get_or, map, IfOk, OnErr, OnOk};
 ghost use Rattle.std.specs.Global.{Vec as VecOf};
 ghost use Rattle.std.specs.List.{All};
 ghost use Rattle.proto_files.specs.Faults.{HasNoFault};
@@ -17,7 +17,7 @@ ghost use Rattle.proto_names.specs.FileReferences.{AreFileMeant, IsFileLinked};
 ghost use Rattle.proto_names.specs.Following.{TellWhatToLook};
 ghost use Rattle.proto_names.specs.LinkOfFiles.{IsLinkOf};
 ghost use Rattle.proto_names.specs.LinkOfParts.{link_of};
-ghost use Rattle.proto_names.specs.Renewal.{AreMeantBelow, AreOfMarked, AreRowsRenewed, DeclarationsFit, IsSightRenewed, ResolutionsFit, link_of_parts, undone_declarations, undone_resolutions};
+ghost use Rattle.proto_names.specs.Renewal.{AreMeantBelow, AreRowsRenewed, DeclarationsFit, IsSightRenewed, ResolutionsFit, link_of_parts, undone_declarations, undone_resolutions};
 ghost use Rattle.proto_names.specs.Renewed.{AreMeantAgain};
 ghost use Rattle.proto_names.specs.Sight.{AreLinkImports};
 ghost use Rattle.proto_names_update.specs.Relinked.{WasLink};
@@ -137,8 +137,6 @@ fn resolve_file(
         log.old.items meant.old.items
         → AreMeantBelow (length resolver.entry.declarations.now.table.rows.items)
         log.new.items meant.new.items }
-    ensures marked { (marks : List Bool) → get_or marks file false ≡ true
-        → AreOfMarked marks log.old.items → AreOfMarked marks log.new.items }
     ensures meant { IfOk result (λ done. done ≡ true → (reads : List ReadOf)
         → AreRead resolver.entry.files.now reads
         → AreFileMeant resolver.entry.declarations.now.table resolver.entry.files.now reads file
@@ -158,12 +156,43 @@ fn resolve_file(
     };
     match file_meanings(alloc, resolver.files, &lookup, &listing) {
         Ok(own) => {
-            change_at(meant, log, place, own)?;
+            put_meanings(meant, log, place, own)?;
             Ok(true)
         }
         Err(ReferenceError::Fault(_bad)) => Ok(false),
         Err(ReferenceError::NoMemory) => Err(NoMemory),
     }
+}
+
+/// Puts what the references of a file mean now in place of what they meant; where it is the same,
+/// nothing is changed. Fails only when out of memory; then nothing is changed either.
+fn put_meanings(
+    meant: &mut Vec<FileMeanings>,
+    log: &mut Vec<Change<FileMeanings>>,
+    place: usize,
+    own: FileMeanings,
+) -> Result<(), NoMemory>
+    requires { place < length meant.old.items }
+    ensures undone { undone log.new.items meant.new.items ≡ undone log.old.items meant.old.items }
+    ensures within { AreWithin (length meant.old.items) log.old.items
+        → AreWithin (length meant.old.items) log.new.items }
+    ensures len { length meant.new.items ≡ length meant.old.items }
+    ensures below { (count : ℕ) → All (λ m. m.row < count) own.items
+        → AreMeantBelow count log.old.items meant.old.items
+        → AreMeantBelow count log.new.items meant.new.items }
+    ensures own { OnOk result
+        (get_or (map (λ v. v.items) meant.new.items) place [] ≡ own.items) }
+    ensures others { (other : ℕ) → other ≢ place
+        → get_or (map (λ v. v.items) meant.new.items) other []
+        ≡ get_or (map (λ v. v.items) meant.old.items) other [] }
+    ensures kept { OnErr result
+        ((meant.new.items ≡ meant.old.items) × (log.new.items ≡ log.old.items)) }
+{
+    if meant[place].is_same(&own) {
+        return Ok(());
+    }
+    change_at(meant, log, place, own)?;
+    Ok(())
 }
 
 /// Resolves the references of the affected files again. Answers false where one is faulty. Fails
@@ -197,8 +226,6 @@ fn resolve_again(
         log.old.items meant.old.items
         → AreMeantBelow (length resolver.entry.declarations.now.table.rows.items)
         log.new.items meant.new.items }
-    ensures marked { AreOfMarked affected.now log.old.items
-        → AreOfMarked affected.now log.new.items }
     ensures meant { IfOk result (λ done. done ≡ true → (reads : List ReadOf)
         → AreRead resolver.entry.files.now reads
         → AreMeantAgain affected.now resolver.entry.declarations.now.table resolver.entry.files.now
@@ -381,7 +408,6 @@ fn update_names(
         alloc,
         &mut resolutions.references,
         &mut log.resolutions.references,
-        &affected,
         &log.resolutions.meant,
         &resolutions.meant,
     )?;

@@ -24,7 +24,7 @@ pub fn renewed(
         ≡ filter (λ r. not (is_of_marked_file marks.now r)) old.now
         → filter (is_of_marked_file marks.now) all ≡ fresh.now → v.items ≡ all) }
 {
-    let mut found = Vec::new(alloc);
+    let mut found = Vec::with_capacity(alloc, old.len().saturating_add(fresh.len()))?;
     let mut rest = fresh;
     for reference in old {
         if !marks.contains(reference.file) {

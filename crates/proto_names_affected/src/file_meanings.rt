@@ -1,6 +1,6 @@
 //! What the references of one file mean, and which words they may begin with.
 
-ghost use Rattle.std.specs.Prelude.{◌≡◌, ◌<◌, ◌==◌, [], ◌∷◌, ◌++◌, length, IfOk, OnOk};
+ghost use Rattle.std.specs.Prelude.{◌≡◌, ◌↔◌, ◌<◌, ◌==◌, true, [], ◌∷◌, ◌++◌, length, IfOk, OnOk};
 ghost use Rattle.std.specs.List.{list_any};
 ghost use Rattle.proto_names_affected.specs.FileMeanings.{is_begun, place_of};
 
@@ -65,6 +65,13 @@ impl FileMeanings {
         ensures { result.now ≡ self.now.items }
     {
         &self.list
+    }
+
+    /// Whether both are the same, one by one.
+    pub fn is_same(&self, other: &FileMeanings) -> bool
+        ensures { (result ≡ true) ↔ (self.now.items ≡ other.now.items) }
+    {
+        self.list.as_slice() == other.list.as_slice()
     }
 
     /// Whether one of the references begins with a word of this key.

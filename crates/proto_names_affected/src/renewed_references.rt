@@ -1,9 +1,10 @@
 //! The lists of references to each name, once those of some files are others.
 
-ghost use Rattle.std.specs.Prelude.{◌≡◌, ℕ, ◌<◌, ◌≤◌, ◌^◌, max, true, false, [], length, get_or, map, take, OnOk};
+ghost use Rattle.std.specs.Prelude.{◌≡◌, ℕ, ◌<◌, ◌≤◌, ◌^◌, max, [], length, get_or, map, take, OnOk};
 ghost use Rattle.std.specs.List.{All};
 ghost use Rattle.proto_base.specs.Undone.{AreWithin, undone};
 ghost use Rattle.proto_names_affected.specs.Gathering.{AreRowsBelow};
+ghost use Rattle.proto_names_affected.specs.Marking.{IsMarked, MarksStay};
 ghost use Rattle.proto_names_affected.specs.Renewed.{AreGrown, AreReferencesOf, AreRenewed};
 
 use crate::backlinks::renewed;
@@ -15,14 +16,14 @@ use proto_file_sets::FileSet;
 use proto_names_table::{Meant, RefId};
 use std::alloc::Global;
 
-/// Renews the lists of references to each name, once those of marked files mean what `meant` says,
-/// which has the references of all files: `old` has what was changed there. Fails only when out
-/// of memory; then some lists may be renewed, and the log tells which.
+/// Renews the lists of references to each name, once those of some files mean what `meant` says,
+/// which has the references of all files: `old` has what was changed there. A name to which no
+/// changed file refers or referred keeps its list. Fails only when out of memory; then some lists
+/// may be renewed, and the log tells which.
 pub fn renew_references(
     alloc: Global,
     references: &mut Vec<Vec<RefId>>,
     log: &mut Vec<Change<Vec<RefId>>>,
-    marks: &FileSet,
     old: &[Change<FileMeanings>],
     meant: &[FileMeanings],
 ) -> Result<(), NoMemory>
@@ -30,7 +31,7 @@ pub fn renew_references(
     requires former { All
         (λ c. AreRowsBelow (length references.old.items) c.was.items) old.now }
     requires rows { All (λ v. AreRowsBelow (length references.old.items) v.items) meant.now }
-    requires marked { All (λ c. get_or marks.now c.place false ≡ true) old.now }
+    requires within { AreWithin (length meant.now) old.now }
     requires before { AreReferencesOf (map (λ v. v.items) references.old.items)
         (map (λ v. v.items) (undone old.now meant.now)) }
     ensures undone { undone log.new.items references.new.items
@@ -42,11 +43,24 @@ pub fn renew_references(
         (map (λ v. v.items) meant.now)) }
 {
     references_are_parted::<Meant>();
+    let mut changed = FileSet::new(alloc, meant.len())?;
+    insert_changed(&mut changed, old);
     let mut gathered = Gathered::new(alloc, references.len());
     gathered.add_former_rows(alloc, old)?;
-    gathered.add_marked(alloc, marks, meant)?;
+    gathered.add_marked(alloc, &changed, meant)?;
     let rows = gathered.rows.as_slice();
-    renew_listed(alloc, references, log, marks, rows, &gathered.lists)
+    renew_listed(alloc, references, log, &changed, rows, &gathered.lists)
+}
+
+/// Puts the files into the set whose meanings were changed.
+fn insert_changed(files: &mut FileSet, old: &[Change<FileMeanings>])
+    requires { AreWithin (length files.old) old.now }
+    ensures stay { MarksStay files.old files.new }
+    ensures changed { All (λ c. IsMarked files.new c.place) old.now }
+{
+    for change in old {
+        files.insert_at(change.place);
+    }
 }
 
 /// Renews the lists of these rows, given for each row the references of marked files that mean it.

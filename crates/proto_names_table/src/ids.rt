@@ -20,7 +20,7 @@ pub struct SymbolId {
 
 /// A reference by its first token (the dot, where it begins with one), the key of its first word
 /// (`word_key`), and the row of the name that it means.
-#[derive(Clone, Copy)]
+#[derive(Clone, Copy, PartialEq, Eq)]
 pub struct Meant {
     /// The index of its first token in its file, from 0.
     pub token: u32,

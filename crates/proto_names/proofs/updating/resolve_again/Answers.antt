@@ -34,16 +34,6 @@ returns-then-not-branch-clause-within c = λ h.
     (subst (λ (n : ℕ). AreWithin n c.resolve_file.new.log.items) c.loop-file.invariant.len
     (c.resolve_file.ensures.within (subst (λ (n : ℕ). AreWithin n c.loop-file.log.items) (sym c.loop-file.invariant.len) (c.loop-file.invariant.within h))))
 
-pub returns-in_err-resolve_file-clause-marked : goal.returns-in_err-resolve_file-clause-marked
-returns-in_err-resolve_file-clause-marked c = λ h.
-    (let on = subst (All (IsIn c.args.affected.now)) (sym (c.deref-file-items.ensures.value ∙ c.in_ok-again.ensures)) (files_are_in c.args.affected.now) c.loop-file.file-index 0 c.loop-file-test.true in
-    c.resolve_file.ensures.marked c.args.affected.now on (c.loop-file.invariant.marked h))
-
-pub returns-then-not-branch-clause-marked : goal.returns-then-not-branch-clause-marked
-returns-then-not-branch-clause-marked c = λ h.
-    (let on = subst (All (IsIn c.args.affected.now)) (sym (c.deref-file-items.ensures.value ∙ c.in_ok-again.ensures)) (files_are_in c.args.affected.now) c.loop-file.file-index 0 c.loop-file-test.true in
-    c.resolve_file.ensures.marked c.args.affected.now on (c.loop-file.invariant.marked h))
-
 pub loop-file-preserved : goal.loop-file-preserved
 loop-file-preserved c =
     let was = c.loop-file.invariant in
@@ -63,7 +53,6 @@ loop-file-preserved c =
           (c.resolve_file.ensures.within (subst (λ (n : ℕ). AreWithin n c.loop-file.log.items) (sym was.len) (was.within h))));
       len = c.resolve_file.ensures.len ∙ was.len;
       below = λ h. c.resolve_file.ensures.below (was.below h);
-      marked = λ h. c.resolve_file.ensures.marked marks on (was.marked h);
       meant = λ reads are.
           (let own : P reads now file = c.in_ok-resolve_file.ensures.meant c.if-not-branch.false reads are in
           All-more (P reads now) items i 0 c.loop-file-test.true

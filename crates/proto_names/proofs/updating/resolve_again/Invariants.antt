@@ -3,7 +3,7 @@ use Rattle.proto_files.specs.FilesRead.{AreRead, ReadOf}
 use Rattle.proto_names_rules.specs.Marked.{IsUnmarked}
 use Rattle.proto_base.specs.Undone.{AreWithin, undone}
 use Rattle.proto_names.specs.FileReferences.{AreFileMeant}
-use Rattle.proto_names.specs.Renewal.{AreMeantBelow, AreOfMarked}
+use Rattle.proto_names.specs.Renewal.{AreMeantBelow}
 use Rattle.proto_names.proofs.updating.resolve_again.Given as goal
 
 abbrev pub invariant-loop-file : goal.invariant-loop-file
@@ -12,7 +12,6 @@ invariant-loop-file l = record {
   within : AreWithin (length l.fn.meant.items) l.fn.log.items → AreWithin (length l.fn.meant.items) l.log.items;
   len : length l.meant.items ≡ length l.fn.meant.items;
   below : AreMeantBelow (length l.resolver.declarations.now.table.rows.items) l.fn.log.items l.fn.meant.items → AreMeantBelow (length l.resolver.declarations.now.table.rows.items) l.log.items l.meant.items;
-  marked : AreOfMarked l.affected l.fn.log.items → AreOfMarked l.affected l.log.items;
   meant : (reads : List ReadOf) → AreRead l.resolver.files.now reads → All (λ k. AreFileMeant l.resolver.declarations.now.table l.resolver.files.now reads k (get_or (map (λ v. v.items) l.meant.items) k [])) (take l.file-index l.file-items);
   others : (k : ℕ) → IsUnmarked l.affected k → get_or (map (λ v. v.items) l.meant.items) k [] ≡ get_or (map (λ v. v.items) l.fn.meant.items) k [];
 }

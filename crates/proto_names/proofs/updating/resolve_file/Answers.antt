@@ -1,10 +1,10 @@
-use Rattle.std.proofs.Common.{List, [], length, get_or, refl, sym, subst, arith}
+use Rattle.std.proofs.Common.{List, [], length, get_or, sym, subst, arith}
 use Rattle.proto_base.proofs.Common.{get_or_default}
 use Rattle.proto_tree.specs.File.{tree_of_file}
 use Rattle.proto_files.specs.FilesRead.{read_at}
 use Rattle.proto_names.specs.Common.{AreFileMeant, Meant}
 use Rattle.proto_names_update.proofs.FileLists.{listing_at}
-use Rattle.proto_names.proofs.RenewedLists.{below_more, linked_by, marked_more, others_there, own_there, rows_at, rows_listed, sees_within, undone_same, within_more}
+use Rattle.proto_names.proofs.RenewedLists.{linked_by, rows_at, rows_listed, sees_within}
 use Rattle.proto_names.proofs.updating.resolve_file.Goals as goal
 
 pub bounds-resolver-place : goal.bounds-resolver-place
@@ -27,28 +27,16 @@ file_meanings-requires-clause-rows c =
     rows_listed c.args.resolver.declarations.now.table c.args.resolver.seen.now c.args.resolver.declarations.now.rows.items c.args.resolver.files.now reads c.args.file (c.requires.linked reads are) c.deref.result.now own c.in_ok-listing.listing
     (listing_at c.args.resolver.files.now reads c.args.file (tree_of_file c.tree.result.now) c.in_ok-listing.listing are c.requires.file c.tree.ensures c.in_ok-listing.ensures.sound c.in_ok-listing.ensures.declared c.in_ok-listing.ensures.used)
 
-pub returns-in-Ok-clause-undone : goal.returns-in-Ok-clause-undone
-returns-in-Ok-clause-undone c = undone_same c.args.log.now.items c.change_at.new.log.items c.args.meant.now.items c.change_at.new.items.items c.args.file c.in-Ok.own (omega (arith, c.requires.file, c.requires.meant)) c.in_ok-change_at-in-Ok.ensures.noted c.in_ok-change_at-in-Ok.ensures.items
-
-pub returns-in-Ok-clause-within : goal.returns-in-Ok-clause-within
-returns-in-Ok-clause-within c = within_more c.args.log.now.items c.change_at.new.log.items c.args.meant.now.items c.change_at.new.items.items c.args.file c.in-Ok.own (omega (arith, c.requires.file, c.requires.meant)) c.in_ok-change_at-in-Ok.ensures.noted c.in_ok-change_at-in-Ok.ensures.items (length c.args.meant.now.items) refl
-
 pub returns-in-Ok-clause-below : goal.returns-in-Ok-clause-below
 returns-in-Ok-clause-below c =
     let reads = c.are_read.ensures.0 in
     let are = c.are_read.ensures.1 in
     let own : AreFileMeant c.args.resolver.declarations.now.table c.args.resolver.files.now reads c.args.file c.in-Ok.own.items = c.in-Ok.ensures.meant reads are (linked_by c.args.resolver.declarations.now.table c.args.resolver.seen.now c.args.resolver.declarations.now.rows.items c.args.resolver.files.now reads c.args.file (c.requires.linked reads are) (get_or c.args.resolver.seen.now c.args.file c.index-resolver-place.result) (get_or_default c.args.resolver.seen.now c.args.file c.index-resolver-place.result [] (sees_within c.args.resolver.declarations.now.table c.args.resolver.seen.now c.args.resolver.declarations.now.rows.items c.args.resolver.files.now reads c.args.file (c.requires.linked reads are))) c.deref.result.now
     (rows_at c.args.resolver.declarations.now.rows.items c.args.file (omega (arith, c.requires.file, c.requires.paired)) c.index.result.now c.index.ensures c.deref.result.now c.deref.ensures.value)) in
-    below_more c.args.log.now.items c.change_at.new.log.items c.args.meant.now.items c.change_at.new.items.items c.args.file c.in-Ok.own (omega (arith, c.requires.file, c.requires.meant)) c.in_ok-change_at-in-Ok.ensures.noted c.in_ok-change_at-in-Ok.ensures.items (length c.args.resolver.declarations.now.table.rows.items) own.within
-
-pub returns-in-Ok-clause-marked : goal.returns-in-Ok-clause-marked
-returns-in-Ok-clause-marked c = marked_more c.args.log.now.items c.change_at.new.log.items c.args.meant.now.items c.change_at.new.items.items c.args.file c.in-Ok.own (omega (arith, c.requires.file, c.requires.meant)) c.in_ok-change_at-in-Ok.ensures.noted c.in_ok-change_at-in-Ok.ensures.items
+    c.put_meanings.ensures.below (length c.args.resolver.declarations.now.table.rows.items) own.within
 
 pub returns-in-Ok-clause-meant : goal.returns-in-Ok-clause-meant
 returns-in-Ok-clause-meant c = λ _ reads are.
-    (subst (λ (ms : List Meant). AreFileMeant c.args.resolver.declarations.now.table c.args.resolver.files.now reads c.args.file ms) (sym (own_there c.args.log.now.items c.change_at.new.log.items c.args.meant.now.items c.change_at.new.items.items c.args.file c.in-Ok.own (omega (arith, c.requires.file, c.requires.meant)) c.in_ok-change_at-in-Ok.ensures.noted c.in_ok-change_at-in-Ok.ensures.items))
+    (subst (λ (ms : List Meant). AreFileMeant c.args.resolver.declarations.now.table c.args.resolver.files.now reads c.args.file ms) (sym c.in_ok-put_meanings-in-Ok.ensures.own)
     (c.in-Ok.ensures.meant reads are (linked_by c.args.resolver.declarations.now.table c.args.resolver.seen.now c.args.resolver.declarations.now.rows.items c.args.resolver.files.now reads c.args.file (c.requires.linked reads are) (get_or c.args.resolver.seen.now c.args.file c.index-resolver-place.result) (get_or_default c.args.resolver.seen.now c.args.file c.index-resolver-place.result [] (sees_within c.args.resolver.declarations.now.table c.args.resolver.seen.now c.args.resolver.declarations.now.rows.items c.args.resolver.files.now reads c.args.file (c.requires.linked reads are))) c.deref.result.now
     (rows_at c.args.resolver.declarations.now.rows.items c.args.file (omega (arith, c.requires.file, c.requires.paired)) c.index.result.now c.index.ensures c.deref.result.now c.deref.ensures.value))))
-
-pub returns-in-Ok-clause-others : goal.returns-in-Ok-clause-others
-returns-in-Ok-clause-others c = others_there c.args.log.now.items c.change_at.new.log.items c.args.meant.now.items c.change_at.new.items.items c.args.file c.in-Ok.own (omega (arith, c.requires.file, c.requires.meant)) c.in_ok-change_at-in-Ok.ensures.noted c.in_ok-change_at-in-Ok.ensures.items

@@ -10,7 +10,7 @@ use Rattle.proto_names.proofs.GrownLists.{cut_grown, not_less, paired_now}
 use Rattle.proto_names.proofs.PartsBefore.{are_references_of, meant_count, references_within, rows_below, rows_count, were_names}
 use Rattle.proto_names.proofs.RenewedParts.{file_is_linked_now, meant_below_now, now_below, now_count, parts_are_clean, parts_are_link, parts_have_to_look}
 use Rattle.proto_names.specs.Common.{Meant}
-use Rattle.proto_names.specs.Renewal.{AreMeantBelow, AreOfMarked}
+use Rattle.proto_names.specs.Renewal.{AreMeantBelow}
 use Rattle.proto_names.proofs.updating.update_names.Goals as goal
 
 pub update-requires-clause-within : goal.update-requires-clause-within
@@ -63,9 +63,10 @@ renew_references-requires-clause-rows c = λ k d l j m lj.
     (let below = (c.resolve_again.ensures.below (subst (λ (log : List (Change (Vec Meant))). AreMeantBelow (length c.update.new.self.table.rows.items) log c.args.resolutions.now.meant.items) (sym c.requires.none) (meant_below_now c.args.edited.files.now c.args.edited.places.now c.args.declarations.now.table c.requires.renewed.imports_before c.args.declarations.now.rows.items (undone c.args.edited.saw.now c.args.edited.seen.now) c.args.resolutions.now.meant.items c.args.resolutions.now.references.items c.requires.table c.requires.renewed.link c.update.new.self.table c.update.new.self.rows.items c.in_ok-before.ensures.renewed))) in
     omega (arith, (subst (All (λ (x : Vec Meant). All (λ m. m.row < length c.update.new.self.table.rows.items) x.items)) (sym c.deref-3.ensures.value) below.now) k d l j m lj, paired_now (c.added_are_cut.ensures) c.args.resolutions.now.references.items c.grow_references.new.references.items c.grow_references.ensures.grown c.len-names.result (length c.update.new.self.table.rows.items) c.len-names.ensures (sym c.update.new.self.table.rows.ok.0) (length c.args.declarations.now.table.rows.items) c.requires.paired c.in_ok-before.ensures.renewed.names.size c.in_ok-grow_references.ensures.len))
 
-pub renew_references-requires-clause-marked : goal.renew_references-requires-clause-marked
-renew_references-requires-clause-marked c =
-    subst (AreOfMarked c.in_ok-affected.affected) (sym c.deref-2.ensures.value) (c.resolve_again.ensures.marked (subst (AreOfMarked c.in_ok-affected.affected) (sym c.requires.none) (λ k d l. absurd (omega (arith, l)))))
+pub renew_references-requires-clause-within : goal.renew_references-requires-clause-within
+renew_references-requires-clause-within c =
+    subst (λ (ls : List (Change (Vec Meant))). All (λ x. x.place < length c.deref-3.result.now) ls) (sym c.deref-2.ensures.value)
+    (λ k d l. omega (arith, c.resolve_again.ensures.within c.requires.resolved.meant k d l, c.resolve_again.ensures.len, ap length c.deref-3.ensures.value))
 
 pub renew_references-requires-clause-before : goal.renew_references-requires-clause-before
 renew_references-requires-clause-before c =

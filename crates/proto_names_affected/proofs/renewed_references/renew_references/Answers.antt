@@ -1,10 +1,10 @@
 use Rattle.std.proofs.Common.{◌≡◌, ℕ, ◌+◌, ◌<◌, true, false, All, List, [], length, get_or, map, sym, ◌∙◌, ap, subst, arith}
 use Rattle.std.specs.Global.{Vec}
 use Rattle.std.specs.List.{Contains}
-use Rattle.std.proofs.lemmas.List.{length-map}
+use Rattle.std.proofs.lemmas.List.{length-map, length-replicate}
 use Rattle.std.proofs.lemmas.List.Elements.{All-weaker}
 use Rattle.std.proofs.lemmas.Result.{on_ok_weaker}
-use Rattle.proto_base.specs.Undone.{undone}
+use Rattle.proto_base.specs.Undone.{AreWithin, undone}
 use Rattle.proto_names_table.specs.declared.ids.Meant.{Meant}
 use Rattle.proto_names_table.specs.declared.ids.RefId.{RefId}
 use Rattle.proto_base.specs.declared.changes.Change.{Change}
@@ -12,6 +12,10 @@ use Rattle.proto_names_affected.specs.Gathering.{AreGathered, AreRowsBelow, AreR
 use Rattle.proto_names_affected.specs.Renewed.{AreRenewed}
 use Rattle.proto_names_affected.proofs.Renewing.{all_renewed, each_named, known_before, length_before, same_before}
 use Rattle.proto_names_affected.proofs.renewed_references.renew_references.Goals as goal
+
+pub insert_changed-requires : goal.insert_changed-requires
+insert_changed-requires c =
+    subst (λ n. AreWithin n c.args.old.now) (sym (ap length c.in_ok-changed.ensures ∙ length-replicate (length c.args.meant.now) false)) c.requires.within
 
 pub add_former_rows-requires-clause-sound : goal.add_former_rows-requires-clause-sound
 add_former_rows-requires-clause-sound c = c.new-gathered.ensures.sound
@@ -41,7 +45,7 @@ renew_listed-requires-clause-paired c = ap length c.deref.ensures.value ∙ c.in
 
 pub returns-clause-references : goal.returns-clause-references
 returns-clause-references c =
-    let marks = c.args.marks.now in
+    let marks = c.insert_changed.new.files in
     let g = c.add_marked.new.self in
     let rows = g.rows.keys in
     let lists : List (List RefId) = map (λ v. v.items) g.lists.items in
@@ -60,7 +64,7 @@ returns-clause-references c =
     let named : (file : ℕ) → get_or marks file false ≡ true → AreRowsNamed rows (get_or before file []) =
     known_before (AreRowsNamed rows) marks c.args.old.now given former (λ k it. each_named marks rows 0 now has.named k (ap (λ i. get_or marks i false) (from_zero k) ∙ it)) in
     on_ok_weaker c.renew_listed.result
-    (λ renewed. all_renewed c.references_are_parted.ensures.rise c.references_are_parted.ensures.stay c.references_are_parted.ensures.gathered marks rows lists before now len (same_before marks c.args.old.now given c.requires.marked) has
+    (λ renewed. all_renewed c.references_are_parted.ensures.rise c.references_are_parted.ensures.stay c.references_are_parted.ensures.gathered marks rows lists before now len (same_before marks c.args.old.now given c.insert_changed.ensures.changed) has
     old new c.requires.before named
     (subst (λ (rs : List ℕ). AreRenewed marks rs lists old new) c.as_slice-rows.ensures.keys (subst (λ (ls : List (Vec RefId)). AreRenewed marks c.as_slice-rows.result.now (map (λ v. v.items) ls) old new) c.deref.ensures.value renewed)))
     c.renew_listed.ensures.renewed
