@@ -67,7 +67,7 @@ impl FileMeanings {
         &self.list
     }
 
-    /// Whether both are the same, one by one.
+    /// Whether the references of both mean the same, in order.
     pub fn is_same(&self, other: &FileMeanings) -> bool
         ensures { (result ≡ true) ↔ (self.now.items ≡ other.now.items) }
     {
